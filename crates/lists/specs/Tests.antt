@@ -1,0 +1,43 @@
+-- A choice by a test, and what `search` needs to go by the tests of a definition.
+use Prim.Native.Nat.{ℕ, _≤_, _<_}
+use mathlib.Core.Path.{_≡_, refl}
+use mathlib.Core.Bool.{Bool, true, false}
+use native.Mathlib.Nat.{lt-of-lt-of-le}
+use native.Mathlib.Omega.{arith}
+use borrow.Author.Needs.{needs}
+use borrow.Author.Tests.{le-leb, lt-leb, le-ltb, lt-ltb, eq-eqb, ne-eqb}
+use lib.Dec.{leb}
+
+-- one of two, by a test
+abbrev pub pick {ℓ} : {A : Type ℓ} → Bool → A → A → A
+pick true a b = a
+pick false a b = b
+
+pub pick-same {ℓ} : {A : Type ℓ} (t : Bool) (a : A) → pick t a a ≡ a
+pick-same true a = refl
+pick-same false a = refl
+
+-- what holds of both holds of the one that is picked
+pub pick-all : {A : Type 0} (P : A → Type 0) (t : Bool) (a b : A) → P a → P b → P (pick t a b)
+pick-all P true a b p q = p
+pick-all P false a b p q = q
+
+-- from ≤ x ≤ to
+abbrev pub within : ℕ → ℕ → ℕ → Bool
+within from to x = pick (leb from x) (leb x to) false
+
+-- no two constructors are equal
+pub false-true {ℓ} : {A : Type ℓ} → false ≡ true → A
+false-true e = let z : _≡_ {A = ℕ} 0 1 = cc in absurd (omega arith)
+
+-- by a flag t that a call gave, and that was tested
+pub pick-true : {A : Type 0} {t : Bool} (u : Bool) (a b r : A) → t ≡ u → t ≡ true → r ≡ a → r ≡ pick u a b
+pick-true {t = t} u a b r e h q = rw (← e, h) q
+
+pub pick-false : {A : Type 0} {t : Bool} (u : Bool) (a b r : A) → t ≡ u → t ≡ false → r ≡ b → r ≡ pick u a b
+pick-false {t = t} u a b r e h q = rw (← e, h) q
+
+-- what `search` needs besides the borrow checker's own set to go by the tests of a definition
+pub ruleset tests = (needs, le-leb, lt-leb, le-ltb, lt-ltb, eq-eqb, ne-eqb, lt-of-lt-of-le)
+
+pub ruleset flags = (tests, pick-true, pick-false)
