@@ -25,3 +25,8 @@ overwrite-more old acc new h =
 pub overwrite-length : (old acc : List ℕ) → length acc ≤ length old → length (overwritten old acc) ≡ length old
 unfolding overwritten
 overwrite-length old acc h = omega (arith, length-append acc (drop (length acc) old), length-drop (length acc) old)
+
+-- the elements of s stand in new from at on, r is the place after them, and all else is as in old
+pub record Stored (old new : List ℕ) (at : ℕ) (s : List ℕ) (r : ℕ) : Type 0 where
+  pub next : r ≡ at + length s
+  pub is : new ≡ sets old at s

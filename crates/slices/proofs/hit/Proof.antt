@@ -1,0 +1,16 @@
+use Rattle.lists.specs.Tests.{tests}
+use Rattle.slices.proofs.hit.Statement.{statement}
+use Rattle.slices.proofs.hit.Tie as tie
+use Rattle.slices.proofs.hit.Reads as reads
+use Rattle.slices.proofs.hit.Lts as lts
+
+-- src/lib.rt:67:1
+returns : tie.Need-returns
+returns c = search tests
+
+-- src/lib.rt:67:1
+returns-2 : tie.Need-returns-2
+returns-2 c = search tests
+
+pub hit-spec : {M : Type 1} → statement M
+hit-spec = tie.close (tie.spec returns returns-2)

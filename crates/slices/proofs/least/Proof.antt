@@ -1,0 +1,16 @@
+use Rattle.lists.specs.Tests.{tests}
+use Rattle.slices.proofs.least.Statement.{statement}
+use Rattle.slices.proofs.least.Tie as tie
+use Rattle.slices.proofs.least.Reads as reads
+use Rattle.slices.proofs.least.Lts as lts
+
+-- src/lib.rt:74:1
+returns : tie.Need-returns
+returns c = search tests
+
+-- src/lib.rt:74:1
+returns-2 : tie.Need-returns-2
+returns-2 c = search tests
+
+pub least-spec : {M : Type 1} → statement M
+least-spec = tie.close (tie.spec returns returns-2)
