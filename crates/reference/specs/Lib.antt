@@ -1,3 +1,5 @@
 pub mod Number
 pub mod Entity
 pub mod Text
+pub mod Taken
+pub mod Walk

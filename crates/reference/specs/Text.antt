@@ -1,5 +1,6 @@
 -- A text with references (01, src/unescape.rs, and "Unescape", "Validate"): is each right, and what the text stands for.
 use Prim.Native.Nat.{ℕ, zero, suc, _+_}
+use mathlib.Core.Path.{_≡_}
 use mathlib.Core.Bool.{Bool, true, false}
 use mathlib.Core.List.{List, [], _∷_, _++_}
 use lib.Dec.{leb, eqb}
@@ -72,3 +73,8 @@ answer (bad at) room = Unescaped.BadReference
 unfoldable pub filled : Out → List ℕ → List ℕ
 filled (bytes l) old = pick (leb (length l) (length old)) (overwritten old l) old
 filled (bad at) old = old
+
+-- the promise of `unescape`: its answer, and every byte of the lent buffer, which held old and now holds new
+pub record Unescape (text old new : List ℕ) (r : Unescaped) : Type 0 where
+  pub number : r ≡ answer (unescaped text) (length old)
+  pub buffer : new ≡ filled (unescaped text) old

@@ -3,8 +3,6 @@ use lib.ListN.{length}
 use Rattle.slices.specs.Scan.{BlockAt, scan-laws}
 use Rattle.slices.proofs.block_has.Statement.{statement}
 use Rattle.slices.proofs.block_has.Tie as tie
-use Rattle.slices.proofs.block_has.Reads as reads
-use Rattle.slices.proofs.block_has.Lts as lts
 
 abbrev Inv-loop : tie.InvT-loop
 Inv-loop s from width x n₀ k₀ n k = BlockAt s x from width n k
@@ -12,51 +10,39 @@ Inv-loop s from width x n₀ k₀ n k = BlockAt s x from width n k
 abbrev μ-loop : tie.MeasureT-loop
 μ-loop s from width x n₀ k₀ n k = width - k
 
--- src/lib.rt:35:5
 loop-holds : tie.Need-loop-holds Inv-loop μ-loop
 loop-holds c = search scan-laws
 
--- src/lib.rt:36:14
 add-if1 : tie.Need-add-if1 Inv-loop μ-loop
 add-if1 c = search scan-laws
 
--- src/lib.rt:36:12
 shared-slice-read-if1 : tie.Need-shared-slice-read-if1 Inv-loop μ-loop
 shared-slice-read-if1 c = search scan-laws
 
--- src/lib.rt:37:13
 add-n : tie.Need-add-n Inv-loop μ-loop
 add-n c = search scan-laws
 
--- src/lib.rt:38:13
 add-k : tie.Need-add-k Inv-loop μ-loop
 add-k c = search scan-laws
 
--- src/lib.rt:35:5
 loop-less : tie.Need-loop-less Inv-loop μ-loop
 loop-less c = search scan-laws
 
--- src/lib.rt:35:5
 loop-again : tie.Need-loop-again Inv-loop μ-loop
 loop-again c = search scan-laws
 
--- src/lib.rt:40:13
 add-k-2 : tie.Need-add-k-2 Inv-loop μ-loop
 add-k-2 c = search scan-laws
 
--- src/lib.rt:35:5
 loop-less-2 : tie.Need-loop-less-2 Inv-loop μ-loop
 loop-less-2 c = search scan-laws
 
--- src/lib.rt:35:5
 loop-again-2 : tie.Need-loop-again-2 Inv-loop μ-loop
 loop-again-2 c = search scan-laws
 
--- src/lib.rt:44:9
 returns : tie.Need-returns Inv-loop μ-loop
 returns c = search scan-laws
 
--- src/lib.rt:29:1
 returns-2 : tie.Need-returns-2 Inv-loop μ-loop
 returns-2 c = search scan-laws
 

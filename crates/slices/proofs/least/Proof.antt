@@ -1,14 +1,10 @@
 use Rattle.lists.specs.Tests.{tests}
 use Rattle.slices.proofs.least.Statement.{statement}
 use Rattle.slices.proofs.least.Tie as tie
-use Rattle.slices.proofs.least.Reads as reads
-use Rattle.slices.proofs.least.Lts as lts
 
--- src/lib.rt:74:1
 returns : tie.Need-returns
 returns c = search tests
 
--- src/lib.rt:74:1
 returns-2 : tie.Need-returns-2
 returns-2 c = search tests
 

@@ -3,8 +3,6 @@ use lib.ListN.{length}
 use Rattle.slices.specs.Copy.{CopyAt, copy-laws}
 use Rattle.slices.proofs.put.Statement.{statement}
 use Rattle.slices.proofs.put.Tie as tie
-use Rattle.slices.proofs.put.Reads as reads
-use Rattle.slices.proofs.put.Lts as lts
 
 abbrev Inv-loop : tie.InvT-loop
 Inv-loop out₀ at s k₀ out k = CopyAt s out₀ out at k
@@ -12,43 +10,33 @@ Inv-loop out₀ at s k₀ out k = CopyAt s out₀ out at k
 abbrev μ-loop : tie.MeasureT-loop
 μ-loop out₀ at s k₀ out k = length s - k
 
--- src/lib.rt:88:5
 loop-holds : tie.Need-loop-holds Inv-loop μ-loop
 loop-holds c = search copy-laws
 
--- src/lib.rt:89:23
 shared-slice-read-out : tie.Need-shared-slice-read-out Inv-loop μ-loop
 shared-slice-read-out c = search copy-laws
 
--- src/lib.rt:89:13
 add-out : tie.Need-add-out Inv-loop μ-loop
 add-out c = search copy-laws
 
--- src/lib.rt:89:9
 slice-write-out : tie.Need-slice-write-out Inv-loop μ-loop
 slice-write-out c = search copy-laws
 
--- src/lib.rt:90:9
 add-k : tie.Need-add-k Inv-loop μ-loop
 add-k c = search copy-laws
 
--- src/lib.rt:88:5
 loop-less : tie.Need-loop-less Inv-loop μ-loop
 loop-less c = search copy-laws
 
--- src/lib.rt:88:5
 loop-again : tie.Need-loop-again Inv-loop μ-loop
 loop-again c = search copy-laws
 
--- src/lib.rt:92:5
 add-result : tie.Need-add-result Inv-loop μ-loop
 add-result c = search copy-laws
 
--- src/lib.rt:83:1
 same-length : tie.Need-same-length Inv-loop μ-loop
 same-length c = search copy-laws
 
--- src/lib.rt:83:1
 returns : tie.Need-returns Inv-loop μ-loop
 returns c = search copy-laws
 

@@ -3,8 +3,6 @@ use lib.ListN.{length}
 use Rattle.slices.specs.Same.{SameAt, same-laws}
 use Rattle.slices.proofs.same.Statement.{statement}
 use Rattle.slices.proofs.same.Tie as tie
-use Rattle.slices.proofs.same.Reads as reads
-use Rattle.slices.proofs.same.Lts as lts
 
 abbrev Inv-loop : tie.InvT-loop
 Inv-loop a b i₀ i = SameAt a b i
@@ -12,39 +10,30 @@ Inv-loop a b i₀ i = SameAt a b i
 abbrev μ-loop : tie.MeasureT-loop
 μ-loop a b i₀ i = length a - i
 
--- src/lib.rt:19:9
 returns : tie.Need-returns Inv-loop μ-loop
 returns c = search same-laws
 
--- src/lib.rt:22:5
 loop-holds : tie.Need-loop-holds Inv-loop μ-loop
 loop-holds c = search same-laws
 
--- src/lib.rt:23:12
 shared-slice-read-if2 : tie.Need-shared-slice-read-if2 Inv-loop μ-loop
 shared-slice-read-if2 c = search same-laws
 
--- src/lib.rt:23:20
 shared-slice-read-if2-2 : tie.Need-shared-slice-read-if2-2 Inv-loop μ-loop
 shared-slice-read-if2-2 c = search same-laws
 
--- src/lib.rt:24:13
 returns-2 : tie.Need-returns-2 Inv-loop μ-loop
 returns-2 c = search same-laws
 
--- src/lib.rt:26:9
 add-i : tie.Need-add-i Inv-loop μ-loop
 add-i c = search same-laws
 
--- src/lib.rt:22:5
 loop-less : tie.Need-loop-less Inv-loop μ-loop
 loop-less c = search same-laws
 
--- src/lib.rt:22:5
 loop-again : tie.Need-loop-again Inv-loop μ-loop
 loop-again c = search same-laws
 
--- src/lib.rt:15:1
 returns-3 : tie.Need-returns-3 Inv-loop μ-loop
 returns-3 c = search same-laws
 

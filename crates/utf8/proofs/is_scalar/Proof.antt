@@ -2,20 +2,15 @@ use Rattle.utf8.specs.Encode.{scalar}
 use Rattle.lists.specs.Tests.{tests}
 use Rattle.utf8.proofs.is_scalar.Statement.{statement}
 use Rattle.utf8.proofs.is_scalar.Tie as tie
-use Rattle.utf8.proofs.is_scalar.Reads as reads
-use Rattle.utf8.proofs.is_scalar.Lts as lts
 
--- src/lib.rt:166:9
 returns : tie.Need-returns
 unfolding scalar
 returns c = search tests
 
--- src/lib.rt:169:9
 returns-2 : tie.Need-returns-2
 unfolding scalar
 returns-2 c = search tests
 
--- src/lib.rt:162:1
 returns-3 : tie.Need-returns-3
 unfolding scalar
 returns-3 c = search tests
