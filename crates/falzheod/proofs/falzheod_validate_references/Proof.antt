@@ -1,0 +1,23 @@
+use Rattle.falzheod.specs.Numbers.{call-laws}
+use borrow.Author.Needs.{needs}
+use Rattle.falzheod.proofs.falzheod_validate_references.Statement.{statement}
+use Rattle.falzheod.proofs.falzheod_validate_references.Tie as tie
+
+validate-references-requires : tie.Need-validate-references-requires
+validate-references-requires c κs = search needs
+
+enum-told : tie.Need-enum-told
+enum-told c = search needs
+
+enum-told-2 : tie.Need-enum-told-2
+enum-told-2 c = search needs
+
+returns : tie.Need-returns
+returns c = search call-laws
+
+returns-2 : tie.Need-returns-2
+returns-2 c = search call-laws
+
+pub falzheod-validate-references-spec : {M : Type 1} → statement M
+falzheod-validate-references-spec =
+    tie.close (tie.spec validate-references-requires enum-told enum-told-2 returns returns-2)

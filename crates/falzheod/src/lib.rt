@@ -1,0 +1,40 @@
+// The open operations as a static library for C and Rust (include/falzheod.h, rust/): each answers 01's number, 0 where it finished.
+// It only turns the answers of the crates below into numbers; specs/ sets out the number and the values of each case.
+ghost use mathlib.Core.Path.{_≡_};
+ghost use Rattle.reference.specs.Text.{validated};
+ghost use Rattle.utf8.specs.Table.{isUtf8};
+ghost use Rattle.falzheod.specs.Numbers.{validatedNumber, UnescapeCall, yesNo};
+use reference::Unescaped;
+use reference::Validated;
+
+// 0 where each reference of the text is right, else 7.
+#[no_mangle]
+pub extern "C" fn falzheod_validate_references(text: &[u8]) -> u32
+    ensures { λ r. ⌜ r ≡ validatedNumber (validated (now (text .entry))) ⌝ }
+{
+    match unescape::validate_references(text) {
+        Validated::Valid => 0,
+        Validated::BadReference => 7,
+    }
+}
+
+// Replaces each reference of the text by its character, into out: 0, 7 or 10. `length` is how many bytes of out were written.
+#[no_mangle]
+pub extern "C" fn falzheod_unescape(text: &[u8], out: &mut [u8], length: &mut usize) -> u32
+    ensures { λ r. ⌜ UnescapeCall (now (text .entry)) (now (out .entry)) (now (out .exit)) (now (length .exit)) r ⌝ }
+{
+    match unescape::unescape(text, out) {
+        Unescaped::Length(n) => {
+            *length = n;
+            0
+        }
+        Unescaped::BadReference => {
+            *length = 0;
+            7
+        }
+        Unescaped::NoRoom => {
+            *length = 0;
+            10
+        }
+    }
+}
