@@ -41,7 +41,7 @@ macro_rules! debug_assert {
 
 mod codec;
 mod decode;
-mod hex;
+pub mod hex;
 mod numbers;
 mod questions;
 mod readings;
