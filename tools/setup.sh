@@ -1,5 +1,5 @@
-# Sourced by ./test and ./run: finds or installs what they need. `root` is the
-# directory of the repository.
+# Sourced by ./test and ./run: finds or installs what they need.
+: "${root:?the directory of the repository, set by the script that sources this}"
 
 setup_fail() {
     echo "setup: $*" >&2

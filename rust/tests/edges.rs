@@ -101,15 +101,15 @@ fn bytes_that_are_not_utf8_are_copied() {
     assert_eq!(unescape_to_vec(text).unwrap(), b"\xFF>\x80\xC3");
 }
 
+/// Every first and second byte, where table 3-7 has all its special cases.
 #[test]
-fn utf8_is_what_std_says_for_two_bytes() {
+fn utf8_is_what_std_says() {
     for pair in 0..=u16::MAX {
-        let text = pair.to_be_bytes();
-        assert_eq!(
-            is_utf8(&text),
-            std::str::from_utf8(&text).is_ok(),
-            "{text:x?}"
-        );
+        for tail in [&b""[..], b"a", b"\x80", b"\xBF\xBF", b"\x80\xC0"] {
+            let text = [&pair.to_be_bytes(), tail].concat();
+            let expected = std::str::from_utf8(&text).is_ok();
+            assert_eq!(is_utf8(&text), expected, "{text:x?}");
+        }
     }
 }
 
