@@ -16,8 +16,8 @@ as_root() {
     fi
 }
 
-# install PACKAGE: from Debian; the lists are fetched once.
-install() {
+# install_package PACKAGE: from Debian; the lists are fetched once.
+install_package() {
     command -v apt-get >/dev/null || setup_fail "$1 is missing, and there is no apt-get" || return 1
     if [ -z "${lists_fetched:-}" ]; then
         as_root apt-get update -qq || return 1
@@ -29,7 +29,7 @@ install() {
 
 # need_program PROGRAM PACKAGE
 need_program() {
-    command -v "$1" >/dev/null || install "$2"
+    command -v "$1" >/dev/null || install_package "$2"
 }
 
 need_rt() {
@@ -48,7 +48,7 @@ find_rust_source() {
 # The source of xmlparser, which decode.rs wants: sets XMLPARSER_SRC.
 find_xmlparser() {
     if [ -z "${XMLPARSER_SRC:-}" ]; then
-        packaged_xmlparser || { install librust-xmlparser-dev && packaged_xmlparser; } ||
+        packaged_xmlparser || { install_package librust-xmlparser-dev && packaged_xmlparser; } ||
             setup_fail "no source of xmlparser; set XMLPARSER_SRC" || return 1
     fi
     export XMLPARSER_SRC
