@@ -1,0 +1,189 @@
+//! Times Falzheod beside the Rust's own functions, in one run, and prints a
+//! Markdown table. Build it with `--profile speed`.
+//!
+//! The two sides take turns; each number is the median of the turns. The Rust's
+//! unescape allocates its result, and borrows the text where it has no `&`; that
+//! is its own cost. Falzheod writes to a buffer that is lent again and again and not
+//! cleared between calls.
+
+use compare::random::Random;
+use compare::texts;
+use std::hint::black_box;
+use std::time::{Duration, Instant};
+
+const SIZE: usize = 64 * 1024;
+const TURNS: usize = 15;
+const TURN: Duration = Duration::from_millis(20);
+
+const NAMES: [&str; 5] = ["&lt;", "&gt;", "&amp;", "&quot;", "&apos;"];
+const LETTERS: [&str; 8] = ["é", "µ", "ß", "€", "木", "輪", "🌲", "🪵"];
+const WORDS: [&str; 6] = ["ring ", "width ", "of ", "the ", "core ", "sapwood "];
+
+/// A text of `SIZE` bytes: parts from `part` as long as they fit, then letters.
+fn text(mut part: impl FnMut(&mut Random) -> String) -> String {
+    let mut random = Random::new(7);
+    let mut text = String::new();
+    loop {
+        let next = part(&mut random);
+        if text.len() + next.len() > SIZE {
+            return text.clone() + &"a".repeat(SIZE - text.len());
+        }
+        text += &next;
+    }
+}
+
+/// Some hundred bytes of `from`, then one reference.
+fn hundred(random: &mut Random, from: &[&str]) -> String {
+    let mut part = String::new();
+    while part.len() < 95 {
+        part += random.pick(from);
+    }
+    part + random.pick(&NAMES)
+}
+
+fn numeric(random: &mut Random) -> String {
+    let highest = [0x7E, 0x7FF, 0xD7FF][random.below(3)];
+    let code = random.between(0x20, highest);
+    texts::coded(code, random.below(3), "")
+}
+
+fn reference_texts() -> [(&'static str, String); 5] {
+    [
+        ("no `&`", text(|random| random.pick(&WORDS).to_string())),
+        (
+            "a reference in a hundred bytes",
+            text(|random| hundred(random, &WORDS)),
+        ),
+        (
+            "all references, named",
+            text(|random| random.pick(&NAMES).to_string()),
+        ),
+        ("all references, numeric", text(numeric)),
+        (
+            "not ASCII, a reference in a hundred bytes",
+            text(|random| hundred(random, &LETTERS)),
+        ),
+    ]
+}
+
+fn utf8_texts() -> [(&'static str, String); 3] {
+    let mixed = |random: &mut Random| {
+        let from: &[&str] = if random.chance(20) { &LETTERS } else { &WORDS };
+        random.pick(from).to_string()
+    };
+    [
+        ("ASCII", text(|random| random.pick(&WORDS).to_string())),
+        ("mixed", text(mixed)),
+        (
+            "not ASCII",
+            text(|random| random.pick(&LETTERS).to_string()),
+        ),
+    ]
+}
+
+/// How many calls take about one turn.
+fn calls(call: &mut dyn FnMut()) -> u32 {
+    let mut calls = 1;
+    loop {
+        let taken = time(call, calls);
+        if taken >= TURN.as_secs_f64() * 1e9 / f64::from(calls) {
+            return calls;
+        }
+        calls *= 2;
+    }
+}
+
+/// Nanoseconds for one call.
+fn time(call: &mut dyn FnMut(), calls: u32) -> f64 {
+    let start = Instant::now();
+    for _ in 0..calls {
+        call();
+    }
+    start.elapsed().as_secs_f64() * 1e9 / f64::from(calls)
+}
+
+fn median(mut times: Vec<f64>) -> f64 {
+    times.sort_by(f64::total_cmp);
+    times[times.len() / 2]
+}
+
+fn row(operation: &str, name: &str, ours: &mut dyn FnMut(), rust: &mut dyn FnMut()) {
+    let (our_calls, rust_calls) = (calls(ours), calls(rust));
+    let (mut our_times, mut rust_times) = (Vec::new(), Vec::new());
+    for _ in 0..TURNS {
+        our_times.push(time(ours, our_calls));
+        rust_times.push(time(rust, rust_calls));
+    }
+    let (our_time, rust_time) = (median(our_times), median(rust_times));
+    let speed = |time: f64| SIZE as f64 / time;
+    println!(
+        "| {operation} | {name} | {our_time:.0} | {:.2} | {rust_time:.0} | {:.2} | {:.2} |",
+        speed(our_time),
+        speed(rust_time),
+        rust_time / our_time
+    );
+}
+
+fn unescape_row(name: &str, text: &str) {
+    let mut out = vec![0; SIZE];
+    let length = falzheod::unescape(text.as_bytes(), &mut out).expect("good references");
+    let expected = oracle::unescape(text).expect("good references");
+    assert_eq!(&out[..length], expected.as_bytes());
+    row(
+        "unescape",
+        name,
+        &mut || {
+            let _ = black_box(falzheod::unescape(black_box(text.as_bytes()), &mut out));
+        },
+        &mut || {
+            let _ = black_box(oracle::unescape(black_box(text)));
+        },
+    );
+}
+
+fn validate_row(name: &str, text: &str) {
+    assert!(falzheod::validate_references(text.as_bytes()).is_ok());
+    assert!(oracle::validate_references(text).is_ok());
+    row(
+        "validate_references",
+        name,
+        &mut || {
+            let _ = black_box(falzheod::validate_references(black_box(text.as_bytes())));
+        },
+        &mut || {
+            let _ = black_box(oracle::validate_references(black_box(text)));
+        },
+    );
+}
+
+fn utf8_row(name: &str, text: &str) {
+    assert!(falzheod::is_utf8(text.as_bytes()));
+    row(
+        "is_utf8",
+        name,
+        &mut || {
+            black_box(falzheod::is_utf8(black_box(text.as_bytes())));
+        },
+        &mut || {
+            let _ = black_box(std::str::from_utf8(black_box(text.as_bytes())));
+        },
+    );
+}
+
+fn main() {
+    println!(
+        "Texts of {SIZE} bytes; the median of {TURNS} turns; the ratio is the Rust's time by ours."
+    );
+    println!("is_utf8 stands beside std::str::from_utf8.\n");
+    println!("| operation | text | Falzheod ns | GB/s | Rust ns | GB/s | ratio |");
+    println!("|---|---|---:|---:|---:|---:|---:|");
+    for (name, text) in reference_texts() {
+        unescape_row(name, &text);
+    }
+    for (name, text) in reference_texts() {
+        validate_row(name, &text);
+    }
+    for (name, text) in utf8_texts() {
+        utf8_row(name, &text);
+    }
+}

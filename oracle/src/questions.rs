@@ -1,0 +1,183 @@
+//! The questions of README.md, one line each, and their answers.
+
+use crate::codec::{find_depth2_element_slice_by, XmlDeserializer};
+use crate::hex::{bytes, hex, utf8};
+use crate::readings::{codec, entry, place, reading};
+use crate::table::{drain, table};
+use crate::{sheet, unescape, validate_references};
+use aws_smithy_schema::serde::{SerdeError, ShapeDeserializer};
+use aws_smithy_schema::Schema;
+
+/// The answer line to one question line; `bad ...` for what is no question.
+pub fn answer(line: &str) -> String {
+    let fields: Vec<&str> = line.split_ascii_whitespace().collect();
+    asked(&fields).unwrap_or_else(|problem| format!("bad {problem}"))
+}
+
+fn asked(fields: &[&str]) -> Result<String, String> {
+    match fields {
+        ["unescape", text] => Ok(match unescape(&utf8(text)?) {
+            Ok(result) => format!("ok {}", hex(result.as_bytes())),
+            Err(error) => format!("refuse {}", error.number()),
+        }),
+        ["validate", text] => Ok(match validate_references(&utf8(text)?) {
+            Ok(()) => "ok".to_string(),
+            Err(error) => format!("refuse {}", error.number()),
+        }),
+        ["table", body] => Ok(table(&bytes(body)?)),
+        ["drain", body] => Ok(drain(&bytes(body)?)),
+        ["find", body, name] => find(&bytes(body)?, &utf8(name)?),
+        [kind @ ("struct" | "list" | "map" | "strings"), body, sheet, flags, depth, maximum] => {
+            let call = Call::new(body, flags, depth, maximum)?;
+            let sheet = bytes(sheet)?;
+            let read = match *kind {
+                "struct" => structure(&call, &sheet)?,
+                "list" => list(&call, &sheet)?,
+                "map" => map(&call, &sheet)?,
+                _ => strings(&call, &sheet)?,
+            };
+            Ok(read.unwrap_or_else(|| "refuse 2".to_string()))
+        }
+        [kind @ ("bool" | "int" | "string" | "double"), body, flags, depth, maximum] => {
+            let call = Call::new(body, flags, depth, maximum)?;
+            call.read(|reader, entries| {
+                entries.push(scalar(kind, reader)?);
+                Ok(())
+            })
+        }
+        [kind @ ("textbool" | "textint" | "textstring" | "textdouble"), text] => {
+            text_scalar(&kind["text".len()..], &utf8(text)?)
+        }
+        _ => Err("question".to_string()),
+    }
+}
+
+fn find(body: &[u8], name: &str) -> Result<String, String> {
+    Ok(
+        match find_depth2_element_slice_by(body, |local| local == name) {
+            Some(part) => {
+                let (start, length) = place(body, part).expect("a part of the body");
+                format!("ok {start} {length}")
+            }
+            None => "refuse 13".to_string(),
+        },
+    )
+}
+
+/// What each reading is given beside its sheet.
+struct Call<'q> {
+    body: Vec<u8>,
+    flags: &'q str,
+    depth: &'q str,
+    maximum: &'q str,
+}
+
+impl<'q> Call<'q> {
+    fn new(body: &str, flags: &'q str, depth: &'q str, maximum: &'q str) -> Result<Self, String> {
+        let body = bytes(body)?;
+        Ok(Call {
+            body,
+            flags,
+            depth,
+            maximum,
+        })
+    }
+
+    fn read<'b>(
+        &'b self,
+        read: impl FnOnce(&mut XmlDeserializer<'b>, &mut Vec<String>) -> Result<(), SerdeError>,
+    ) -> Result<String, String> {
+        reading(
+            &codec(self.flags, self.maximum)?,
+            &self.body,
+            self.depth,
+            read,
+        )
+    }
+
+    fn entry(&self, index: usize, key: &str, handed: &mut dyn ShapeDeserializer) -> String {
+        entry(&self.body, self.depth, index, key, handed)
+    }
+}
+
+/// The four readings with a sheet answer `None` where the sheet is broken.
+fn structure(call: &Call<'_>, sheet: &[u8]) -> Result<Option<String>, String> {
+    let Some(sheet) = sheet::structure(sheet)? else {
+        return Ok(None);
+    };
+    let read = sheet.with_schema(|schema| {
+        call.read(|reader, entries| {
+            reader.read_struct(schema, &mut |member, handed| {
+                let index = member.member_index().expect("an index");
+                entries.push(call.entry(index, "", handed));
+                Ok(())
+            })
+        })
+    });
+    read.map(Some)
+}
+
+fn list(call: &Call<'_>, sheet: &[u8]) -> Result<Option<String>, String> {
+    let Some(sheet) = sheet::list(sheet)? else {
+        return Ok(None);
+    };
+    let read = sheet.with_schema(|schema| {
+        call.read(|reader, entries| {
+            reader.read_list(schema, &mut |handed| {
+                entries.push(call.entry(0, "", handed));
+                Ok(())
+            })
+        })
+    });
+    read.map(Some)
+}
+
+fn map(call: &Call<'_>, sheet: &[u8]) -> Result<Option<String>, String> {
+    let Some(sheet) = sheet::map(sheet)? else {
+        return Ok(None);
+    };
+    let read = sheet.with_schema(|schema| {
+        call.read(|reader, entries| {
+            reader.read_map(schema, &mut |key, handed| {
+                entries.push(call.entry(0, &key, handed));
+                Ok(())
+            })
+        })
+    });
+    read.map(Some)
+}
+
+fn strings(call: &Call<'_>, sheet: &[u8]) -> Result<Option<String>, String> {
+    let Some(sheet) = sheet::list(sheet)? else {
+        return Ok(None);
+    };
+    let read = sheet.with_schema(|schema| {
+        call.read(|reader, entries| {
+            for text in reader.read_string_list(schema)? {
+                entries.push(format!("1,0,-,{}", hex(text.as_bytes())));
+            }
+            Ok(())
+        })
+    });
+    read.map(Some)
+}
+
+/// A text taken from an entry, read as a scalar.
+fn text_scalar(kind: &str, text: &str) -> Result<String, String> {
+    reading(&codec("0", "128")?, b"", "1", |reader, entries| {
+        reader.oracle_set_text(text);
+        entries.push(scalar(kind, reader)?);
+        Ok(())
+    })
+}
+
+fn scalar(kind: &str, reader: &mut XmlDeserializer<'_>) -> Result<String, SerdeError> {
+    let schema = Schema::default();
+    Ok(match kind {
+        "bool" => reader.read_boolean(&schema)?.to_string(),
+        "int" => reader.read_integer(&schema)?.to_string(),
+        "string" => hex(reader.read_string(&schema)?.as_bytes()),
+        "double" => format!("{:016x}", reader.read_double(&schema)?.to_bits()),
+        _ => unreachable!(),
+    })
+}

@@ -1,0 +1,134 @@
+//! Falzheod, an XML decoding core whose every answer is proved, for Rust.
+//!
+//! The functions here lend slices to the static library `libfalzheod.a`. They
+//! take any bytes of any length, allocate nothing unless they say so, and do not
+//! panic.
+//!
+//! ```
+//! let text = b"ring width 3 &lt; 4 &#xB5;m";
+//! assert_eq!(falzheod::validate_references(text), Ok(()));
+//! assert_eq!(falzheod::unescape_to_vec(text).unwrap(), "ring width 3 < 4 µm".as_bytes());
+//! ```
+
+#![warn(missing_docs)]
+
+pub mod sys;
+
+use std::fmt;
+
+/// Why an operation did not finish. Nothing is written where it refuses.
+#[derive(Clone, Copy, Debug, PartialEq, Eq, Hash)]
+#[repr(u32)]
+pub enum Refusal {
+    /// A reference is bad: not ended, of an unknown name, or with a number that
+    /// is not taken.
+    Reference = 7,
+    /// The result is longer than the room lent for it.
+    NoRoom = 10,
+}
+
+impl Refusal {
+    /// The number of this refusal in `include/falzheod.h`.
+    ///
+    /// ```
+    /// assert_eq!(falzheod::Refusal::Reference.number(), 7);
+    /// assert_eq!(falzheod::Refusal::NoRoom.number(), 10);
+    /// ```
+    pub fn number(self) -> u32 {
+        self as u32
+    }
+}
+
+impl fmt::Display for Refusal {
+    fn fmt(&self, f: &mut fmt::Formatter<'_>) -> fmt::Result {
+        f.write_str(match self {
+            Refusal::Reference => "a reference is bad",
+            Refusal::NoRoom => "the result does not fit into the room lent for it",
+        })
+    }
+}
+
+impl std::error::Error for Refusal {}
+
+/// The library's number as a result. Its contracts leave no other number.
+fn finished(number: u32) -> Result<(), Refusal> {
+    match number {
+        0 => Ok(()),
+        7 => Err(Refusal::Reference),
+        10 => Err(Refusal::NoRoom),
+        other => unreachable!("falzheod answered {other}"),
+    }
+}
+
+/// Replaces the references in `text`, writes the result to the front of `out`
+/// and gives its length.
+///
+/// The references are `lt`, `gt`, `amp`, `quot`, `apos`, `#` with decimal and `#x`
+/// with hexadecimal digits, with or without a `+`, for any Unicode scalar value. Other
+/// bytes are copied, UTF-8 or not. Bytes of `out` behind the result are untouched.
+/// A bad reference is tested before room; a refusal writes nothing.
+///
+/// ```
+/// let mut out = *b".....";
+/// assert_eq!(falzheod::unescape(b"&#x41;&lt;", &mut out), Ok(2));
+/// assert_eq!(&out, b"A<...");
+/// assert_eq!(falzheod::unescape(b"a&b", &mut out), Err(falzheod::Refusal::Reference));
+/// assert_eq!(falzheod::unescape(b"sapwood", &mut out), Err(falzheod::Refusal::NoRoom));
+/// assert_eq!(&out, b"A<...");
+/// ```
+pub fn unescape(text: &[u8], out: &mut [u8]) -> Result<usize, Refusal> {
+    let mut length = 0;
+    // SAFETY: the pointers are those of live slices, never null, with their
+    // lengths; `out` and `length` are borrowed mutably, so nothing overlaps them.
+    let number = unsafe {
+        sys::falzheod_unescape(
+            text.as_ptr(),
+            text.len(),
+            out.as_mut_ptr(),
+            out.len(),
+            &mut length,
+        )
+    };
+    finished(number).map(|()| length)
+}
+
+/// Replaces the references in `text` in a new vector.
+///
+/// The result is never longer than `text`, so one buffer of that length is room
+/// enough and [`Refusal::NoRoom`] never comes.
+///
+/// ```
+/// assert_eq!(falzheod::unescape_to_vec(b"bark &amp; pith").unwrap(), b"bark & pith");
+/// assert_eq!(falzheod::unescape_to_vec(b"&zz;"), Err(falzheod::Refusal::Reference));
+/// ```
+pub fn unescape_to_vec(text: &[u8]) -> Result<Vec<u8>, Refusal> {
+    let mut out = vec![0; text.len()];
+    let length = unescape(text, &mut out)?;
+    out.truncate(length);
+    Ok(out)
+}
+
+/// Tests every reference in `text` as XML 1.0 has it: one of the five names, or
+/// digits without a sign whose value is a character of XML 1.0, 2.2.
+///
+/// This is stricter than [`unescape`]: what it takes, `unescape` takes.
+///
+/// ```
+/// assert_eq!(falzheod::validate_references(b"&#65;&quot;"), Ok(()));
+/// assert_eq!(falzheod::validate_references(b"&#+65;"), Err(falzheod::Refusal::Reference));
+/// ```
+pub fn validate_references(text: &[u8]) -> Result<(), Refusal> {
+    // SAFETY: the pointer is that of a live slice, never null, with its length.
+    finished(unsafe { sys::falzheod_validate_references(text.as_ptr(), text.len()) })
+}
+
+/// Tells whether `text` is well-formed UTF-8 (Unicode, table 3-7).
+///
+/// ```
+/// assert!(falzheod::is_utf8("µm".as_bytes()));
+/// assert!(!falzheod::is_utf8(b"\xB5m"));
+/// ```
+pub fn is_utf8(text: &[u8]) -> bool {
+    // SAFETY: as above.
+    unsafe { sys::falzheod_is_utf8(text.as_ptr(), text.len()) == 1 }
+}
