@@ -1,0 +1,78 @@
+// The fields of a line: where one ends, and the bytes that hexadecimal digits spell.
+ghost use Prim.Native.Nat.{_≤_};
+ghost use lib.ListN.{length};
+use check::same;
+
+// How many bytes a field stands for, or that it is not one.
+pub enum Decoded {
+    Length(usize),
+    Malformed,
+}
+
+// The first place from `from` on where `mark` stands, or the end.
+pub fn end(text: &[u8], from: usize, mark: u8) -> usize
+    requires { ⌜ from ≤ length (now text) ⌝ }
+    ensures { λ r. ⌜ (from ≤ r) × (r ≤ length (now (text .entry))) ⌝ }
+{
+    let mut i = from;
+    while i < text.len() {
+        if text[i] == mark {
+            return i;
+        }
+        i += 1;
+    }
+    i
+}
+
+// The value of a hexadecimal digit, or 16.
+fn digit(b: u8) -> u8
+    ensures { λ r. ⌜ r ≤ 16 ⌝ }
+{
+    if b < b'0' {
+        16
+    } else if b <= b'9' {
+        b - b'0'
+    } else if b < b'a' {
+        16
+    } else if b <= b'f' {
+        b - b'a' + 10
+    } else {
+        16
+    }
+}
+
+// Puts the bytes that digits spell, two a byte, at the start of `out`.
+fn spelt(digits: &[u8], out: &mut [u8]) -> Decoded {
+    let n = digits.len() / 2;
+    if n * 2 != digits.len() {
+        return Decoded::Malformed;
+    }
+    if n > out.len() {
+        return Decoded::Malformed;
+    }
+    let mut i = 0;
+    while i < n {
+        let high = digit(digits[i * 2]);
+        let low = digit(digits[i * 2 + 1]);
+        if high == 16 {
+            return Decoded::Malformed;
+        }
+        if low == 16 {
+            return Decoded::Malformed;
+        }
+        out[i] = high * 16 + low;
+        i += 1;
+    }
+    Decoded::Length(n)
+}
+
+// Puts the bytes of a field at the start of `out`: `-` is no bytes, so that no field is empty.
+pub fn bytes(field: &[u8], out: &mut [u8]) -> Decoded {
+    if same(field, b"-") {
+        return Decoded::Length(0);
+    }
+    if field.len() == 0 {
+        return Decoded::Malformed;
+    }
+    spelt(field, out)
+}
