@@ -3,3 +3,9 @@ pub mod Entity
 pub mod Text
 pub mod Taken
 pub mod Walk
+pub mod Lenient
+pub mod Result
+pub mod Xml
+pub mod Grammar
+pub mod All
+pub mod Examples

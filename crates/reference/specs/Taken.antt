@@ -95,7 +95,7 @@ unfolding allowed
 allowed-scalar true n e = xml-scalar n e
 allowed-scalar false n e = e
 
-only-is : (f : ℕ → Bool) (x : Number) {n : ℕ} → only f x ≡ Value n → (x ≡ Value n) × (f n ≡ true)
+pub only-is : (f : ℕ → Bool) (x : Number) {n : ℕ} → only f x ≡ Value n → (x ≡ Value n) × (f n ≡ true)
 unfolding only
 only-is f No e = no-value e
 only-is f (Value m) {n} e = go (f m) refl e

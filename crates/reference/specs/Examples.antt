@@ -1,0 +1,32 @@
+-- 01's bodies at the edges that concern references, marked P: one statement over one list, for both definitions.
+use Prim.Native.String.{String}
+use mathlib.Core.Path.{_≡_, refl}
+use mathlib.Core.List.{List, [], _∷_, map}
+use Rattle.lists.specs.Bytes.{ascii}
+use Rattle.reference.specs.Text.{Out, validated, unescaped}
+use Rattle.reference.specs.Text.Out.{bytes, bad}
+use Rattle.reference.specs.All.{computed}
+use Rattle.reference.specs.declared.Validated.{Validated}
+use Rattle.reference.specs.declared.Validated.the-variants.{Valid, BadReference}
+
+infixl 70 _gives_
+-- what both operations answer
+pub data Answers : Type 0 where
+  _gives_ : Validated → Out → Answers
+
+abbrev both : String → Answers
+both s = validated (ascii s) gives unescaped (ascii s)
+
+pub examples :
+    map both ("&#x41;&lt;" ∷ "&#+65;" ∷ "&#0;" ∷ "&#xD800;" ∷ "&#x110000;" ∷ "&#x10FFFF;" ∷ "&#xFFFE;" ∷ "a&b" ∷ [])
+    ≡ (Valid gives bytes (ascii "A<"))
+    ∷ (BadReference gives bytes (ascii "A"))
+    ∷ (BadReference gives bytes (0 ∷ []))
+    ∷ (BadReference gives bad 0)
+    ∷ (BadReference gives bad 0)
+    ∷ (Valid gives bytes (0xF4 ∷ 0x8F ∷ 0xBF ∷ 0xBF ∷ []))
+    ∷ (BadReference gives bytes (0xEF ∷ 0xBF ∷ 0xBE ∷ []))
+    ∷ (BadReference gives bad 1)
+    ∷ []
+unfolding computed
+examples = refl
