@@ -254,14 +254,14 @@ pub fn validate_references(text: &[u8]) -> Validated
 fn measure(text: &[u8]) -> Unescaped
     ensures { λ r. ⌜ r ≡ sizeOf (unescaped (now (text .entry))) ⌝ }
 {
-    let mut n = 0;
+    let mut size = 0;
     let mut i = 0;
     while i < text.len() {
         if text[i] == b'&' {
             let from = i + 1;
             match reference_from(false, text, from) {
                 Reference::Char { code, len } => {
-                    n += utf8::encoded_len(code);
+                    size += utf8::encoded_len(code);
                     i = from + len;
                 }
                 Reference::Bad => {
@@ -270,11 +270,11 @@ fn measure(text: &[u8]) -> Unescaped
             }
         } else {
             let next = slices::find(text, i, b'&');
-            n += next - i;
+            size += next - i;
             i = next;
         }
     }
-    Unescaped::Length(n)
+    Unescaped::Length(size)
 }
 
 // Writes what a text comes to, for which there is room.

@@ -5,10 +5,10 @@ use Rattle.unescape.proofs.measure.Statement.{statement}
 use Rattle.unescape.proofs.measure.Tie as tie
 
 abbrev Inv-loop : tie.InvT-loop
-Inv-loop text n₀ i₀ n i = MeasureAt text n i
+Inv-loop text size₀ i₀ size i = MeasureAt text size i
 
 abbrev μ-loop : tie.MeasureT-loop
-μ-loop text n₀ i₀ n i = length text - i
+μ-loop text size₀ i₀ size i = length text - i
 
 loop-holds : tie.Need-loop-holds Inv-loop μ-loop
 loop-holds c = search measure-laws
@@ -28,8 +28,8 @@ enum-known-code c = search measure-laws
 encoded-len-requires : tie.Need-encoded-len-requires Inv-loop μ-loop
 encoded-len-requires c κs = search measure-laws
 
-add-n : tie.Need-add-n Inv-loop μ-loop
-add-n c = search measure-laws
+add-size : tie.Need-add-size Inv-loop μ-loop
+add-size c = search measure-laws
 
 add-i : tie.Need-add-i Inv-loop μ-loop
 add-i c = search measure-laws
@@ -49,11 +49,11 @@ returns c = search measure-laws
 find-requires : tie.Need-find-requires Inv-loop μ-loop
 find-requires c κs = search measure-laws
 
-sub-n : tie.Need-sub-n Inv-loop μ-loop
-sub-n c = search measure-laws
+sub-size : tie.Need-sub-size Inv-loop μ-loop
+sub-size c = search measure-laws
 
-add-n-2 : tie.Need-add-n-2 Inv-loop μ-loop
-add-n-2 c = search measure-laws
+add-size-2 : tie.Need-add-size-2 Inv-loop μ-loop
+add-size-2 c = search measure-laws
 
 loop-less-2 : tie.Need-loop-less-2 Inv-loop μ-loop
 loop-less-2 c = search measure-laws
@@ -76,15 +76,15 @@ measure-spec =
     reference-from-requires
     enum-known-code
     encoded-len-requires
-    add-n
+    add-size
     add-i
     loop-less
     loop-again
     enum-told
     returns
     find-requires
-    sub-n
-    add-n-2
+    sub-size
+    add-size-2
     loop-less-2
     loop-again-2
     returns-2)
