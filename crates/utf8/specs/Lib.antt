@@ -1,3 +1,4 @@
 pub mod Table
 pub mod Encode
 pub mod Store
+pub mod Agree
