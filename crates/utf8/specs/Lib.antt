@@ -2,3 +2,4 @@ pub mod Table
 pub mod Encode
 pub mod Store
 pub mod Agree
+pub mod Cut
