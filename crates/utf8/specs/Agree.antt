@@ -89,7 +89,8 @@ pub record Begun (rs : List Range) (s : List ℕ) : Type 0 where
   pub fit : fits rs front ≡ true
   pub rest : WellFormed back
 
-fits-more : (r : Range) (rs : List Range) (b : ℕ) (s : List ℕ) → inRange r b ≡ true → fits rs s ≡ true → fits (r ∷ rs) (b ∷ s) ≡ true
+-- one more byte, in one more range
+pub fits-more : (r : Range) (rs : List Range) (b : ℕ) (s : List ℕ) → inRange r b ≡ true → fits rs s ≡ true → fits (r ∷ rs) (b ∷ s) ≡ true
 unfolding fits
 fits-more r rs b s h e = rw h e
 

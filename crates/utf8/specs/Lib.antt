@@ -3,3 +3,4 @@ pub mod Encode
 pub mod Store
 pub mod Agree
 pub mod Cut
+pub mod Chars
