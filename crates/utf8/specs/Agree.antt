@@ -4,11 +4,20 @@ use mathlib.Core.Path.{_≡_, refl, sym, ap}
 use mathlib.Core.Bool.{Bool, true, false}
 use mathlib.Core.List.{List, [], _∷_, _++_, List·Memᴰ, List·Memᴰ·not-nil, List·Memᴰ·cases-cons, List·Memᴰ·head, List·Memᴰ·tail}
 use native.Mathlib.Omega.{arith}
-use borrow.Author.Tests.{leb-true, lt-leb}
+use borrow.Author.Tests.{ltb-true, ltb-false, leb-true, le-leb, lt-leb}
 use mathlib.Core.Logic.{_⊎_, inl, inr}
-use lib.Dec.{leb}
+use lib.Dec.{ltb, leb}
+use lib.ListN.{length, getD}
 use Rattle.lists.specs.Tests.{pick, pick-same, within, false-true}
 use Rattle.utf8.specs.Table.{Range, _to_, table, inRange, fits, OneChar, WellFormed, none, next, After, due, never, after, walk, isUtf8}
+
+-- by whether a number is below another
+pub below : {P : Type 0} (c k : ℕ) → (c < k → P) → (k ≤ c → P) → P
+below {P} c k f g = go (ltb c k) refl
+  where
+    go : (t : Bool) → ltb c k ≡ t → P
+    go true e = f (ltb-true c k e)
+    go false e = g (ltb-false c k e)
 
 -- both tests of a conjunction hold
 pub both : (t u : Bool) → pick t u false ≡ true → (t ≡ true) × (u ≡ true)
@@ -21,6 +30,17 @@ unfolding inRange
 in-range from last b e =
     let p = both (leb from b) (leb b last) e in
     (leb-true from b (p .0), leb-true b last (p .1))
+
+-- and what stands between them is in the range
+pub range-in : (from last b : ℕ) → from ≤ b → b ≤ last → inRange (from to last) b ≡ true
+unfolding inRange
+range-in from last b g h = rw (le-leb from b g, le-leb b last h)
+
+-- a row by its number
+pub nth : (rows : List (List Range)) (k : ℕ) → k < length rows → List·Memᴰ (getD rows k []) rows
+nth [] k h = absurd (omega arith)
+nth (r ∷ rows) zero h = List·Memᴰ·head refl
+nth (r ∷ rows) (suc k) h = List·Memᴰ·tail (nth rows k (omega arith))
 
 -- ---- each first byte is in one row only
 

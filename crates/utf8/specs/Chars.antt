@@ -12,7 +12,7 @@ use Rattle.lists.specs.Tests.{pick, within, false-true}
 use Rattle.utf8.specs.Table.{Range, _to_, table, inRange, fits, OneChar, walk, isUtf8}
 use Rattle.utf8.specs.Encode.{scalar, encode}
 use Rattle.utf8.specs.Store.{encode-1, encode-2, encode-3, encode-4}
-use Rattle.utf8.specs.Agree.{both, in-range, fits-more, walk-char}
+use Rattle.utf8.specs.Agree.{below, both, in-range, range-in, nth, walk-char}
 
 -- ---- only one: a left inverse of `encode`
 unfoldable pub decoded : List ℕ → ℕ
@@ -22,14 +22,6 @@ decoded (x ∷ y ∷ []) = (x - 0xC0) * 64 + (y - 0x80)
 decoded (x ∷ y ∷ z ∷ []) = (x - 0xE0) * 4096 + (y - 0x80) * 64 + (z - 0x80)
 decoded (x ∷ y ∷ z ∷ w ∷ []) = (x - 0xF0) * 262144 + (y - 0x80) * 4096 + (z - 0x80) * 64 + (w - 0x80)
 decoded (x ∷ y ∷ z ∷ w ∷ v ∷ s) = 0
-
--- by whether a number is below another
-below : {P : Type 0} (c k : ℕ) → (c < k → P) → (k ≤ c → P) → P
-below {P} c k f g = go (ltb c k) refl
-  where
-    go : (t : Bool) → ltb c k ≡ t → P
-    go true e = f (ltb-true c k e)
-    go false e = g (ltb-false c k e)
 
 pub decoded-encode : (c : ℕ) → decoded (encode c) ≡ c
 unfolding decoded
@@ -45,10 +37,6 @@ pub encode-one : (c d : ℕ) → encode c ≡ encode d → c ≡ d
 encode-one c d e = sym (decoded-encode c) ∙ ap decoded e ∙ decoded-encode d
 
 -- ---- the bytes of a scalar value are a character
-
-pub range-in : (from last b : ℕ) → from ≤ b → b ≤ last → inRange (from to last) b ≡ true
-unfolding inRange
-range-in from last b g h = rw (le-leb from b g, le-leb b last h)
 
 -- a scalar value above the surrogates, or not above D7FF
 pub scalar-high : (c : ℕ) → scalar c ≡ true → 0xD800 ≤ c → (0xE000 ≤ c) × (c ≤ 0x10FFFF)
@@ -75,12 +63,6 @@ module _ (c f l : ℕ) where
   four : (f₁ l₁ : ℕ) → 0x10000 ≤ c → f ≤ 0xF0 + c / 262144 → 0xF0 + c / 262144 ≤ l → f₁ ≤ 0x80 + c / 4096 % 64 → 0x80 + c / 4096 % 64 ≤ l₁ → fits (f to l ∷ f₁ to l₁ ∷ 0x80 to 0xBF ∷ 0x80 to 0xBF ∷ []) (encode c) ≡ true
   unfolding fits
   four f₁ l₁ g p q r s = rw (encode-4 c g, range-in f l (0xF0 + c / 262144) p q, range-in f₁ l₁ (0x80 + c / 4096 % 64) r s, cont-in (c / 64), cont-in c)
-
--- a row by its number
-nth : (rows : List (List Range)) (k : ℕ) → k < length rows → List·Memᴰ (getD rows k []) rows
-nth [] k h = absurd (omega arith)
-nth (r ∷ rows) zero h = List·Memᴰ·head refl
-nth (r ∷ rows) (suc k) h = List·Memᴰ·tail (nth rows k (omega arith))
 
 module _ (c : ℕ) where
   row : (k : ℕ) → k < length table → fits (getD table k []) (encode c) ≡ true → OneChar (encode c)

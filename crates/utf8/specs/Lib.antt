@@ -4,3 +4,4 @@ pub mod Store
 pub mod Agree
 pub mod Cut
 pub mod Chars
+pub mod Scan
