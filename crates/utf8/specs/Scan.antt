@@ -31,11 +31,11 @@ pub block-start : (s : List ℕ) (from : ℕ) → BlockAt s from true 0
 block-start s from = record { within = omega arith; all = λ e j h. absurd (omega arith) }
 
 module _ {s : List ℕ} {from : ℕ} {ok : Bool} {k : ℕ} (at : BlockAt s from ok k) where
-  pub block-high : k < 64 → BlockAt s from false (k + 1)
-  block-high h = record { within = omega arith; all = λ e j g. false-true e }
+  pub block-high : {t : Bool} → k < 64 → t ≡ false → BlockAt s from t (k + 1)
+  block-high h q = record { within = omega arith; all = λ e j g. false-true (rw q at e) }
 
-  pub block-low : k < 64 → getD s (from + k) 0 < 0x80 → BlockAt s from ok (k + 1)
-  block-low h b = record { within = omega arith; all = λ e. below-more _ k (at .all e) b }
+  pub block-low : {t : Bool} → k < 64 → getD s (from + k) 0 < 0x80 → t ≡ ok → BlockAt s from t (k + 1)
+  block-low h b q = record { within = omega arith; all = λ e. below-more _ k (at .all (rw q at e)) b }
 
   pub block-end : 64 ≤ k → AsciiBlock s from ok
   block-end h = record { all = λ e j g. at .all e j (omega arith) }
