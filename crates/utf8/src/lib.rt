@@ -6,7 +6,8 @@ ghost use lib.ListN.{length, getD};
 ghost use mathlib.Core.List.{[], _∷_};
 ghost use Rattle.utf8.specs.Encode.{scalar, encode, Put, EncodedLen};
 ghost use Rattle.utf8.specs.Table.{_to_, isUtf8};
-ghost use Rattle.utf8.specs.Scan.{AsciiBlock, Run, Past, secondLow, secondHigh};
+ghost use Rattle.utf8.specs.Scan.{AsciiBlock, Run, ByteIn, Follow, CharLen};
+ghost use Rattle.lists.specs.Tests.{pick};
 
 // Whether a number is a Unicode scalar value.
 pub fn is_scalar(n: u32) -> bool
@@ -64,20 +65,20 @@ pub fn put_char(out: &mut [u8], at: usize, c: u32) -> usize
     at + 4
 }
 
-// Whether 64 bytes are ASCII. The loop leaves off nowhere, so that the compiler makes four vector loads of it.
+// Whether 32 bytes are ASCII. The loop leaves off nowhere and its flag is a number, so that the compiler makes two vector loads and one test of it.
 fn ascii_block(s: &[u8], from: usize) -> bool
-    requires { ⌜ from + 64 ≤ length (now s) ⌝ }
+    requires { ⌜ from + 32 ≤ length (now s) ⌝ }
     ensures { λ r. ⌜ AsciiBlock (now (s .entry)) from r ⌝ }
 {
-    let mut ok = true;
+    let mut high: u8 = 0;
     let mut k = 0;
-    while k < 64 {
+    while k < 32 {
         if s[from + k] >= 0x80 {
-            ok = false;
+            high = 1;
         }
         k += 1;
     }
-    ok
+    high == 0
 }
 
 // Past the whole blocks of ASCII bytes.
@@ -86,9 +87,9 @@ fn past_blocks(s: &[u8], from: usize) -> usize
     ensures { λ r. ⌜ Run (now (s .entry)) from r ⌝ }
 {
     let mut i = from;
-    while s.len() - i >= 64 {
+    while s.len() - i >= 32 {
         if ascii_block(s, i) {
-            i += 64;
+            i += 32;
         } else {
             return i;
         }
@@ -125,101 +126,84 @@ fn past_run(s: &[u8], from: usize) -> usize
     past_ascii(s, from)
 }
 
-// Past the last byte of a character, which is in a range: the place after it, or 0 if it is not there.
-fn past_one(s: &[u8], at: usize, low: u8, high: u8) -> usize
-    ensures { λ r. ⌜ Past (low to high ∷ []) (now (s .entry)) at r ⌝ }
+// Whether a byte is there, and in a range.
+fn in_range(s: &[u8], at: usize, low: u8, high: u8) -> bool
+    ensures { λ r. ⌜ ByteIn low high (now (s .entry)) at r ⌝ }
 {
     if at >= s.len() {
-        return 0;
+        return false;
     }
     if s[at] < low {
-        return 0;
+        return false;
     }
     if s[at] > high {
-        return 0;
+        return false;
     }
-    at + 1
+    true
 }
 
-// Past the last two.
-fn past_two(s: &[u8], at: usize, low: u8, high: u8) -> usize
-    ensures { λ r. ⌜ Past (low to high ∷ 0x80 to 0xBF ∷ []) (now (s .entry)) at r ⌝ }
+// Whether the last two bytes of a character are there, the first of them in a range.
+fn two_in_range(s: &[u8], at: usize, low: u8, high: u8) -> bool
+    ensures { λ r. ⌜ Follow (low to high ∷ 0x80 to 0xBF ∷ []) (now (s .entry)) at r ⌝ }
 {
-    if at >= s.len() {
-        return 0;
+    if in_range(s, at, low, high) {
+        return in_range(s, at + 1, 0x80, 0xbf);
     }
-    if s[at] < low {
-        return 0;
-    }
-    if s[at] > high {
-        return 0;
-    }
-    past_one(s, at + 1, 0x80, 0xbf)
+    false
 }
 
-// Past the last three.
-fn past_three(s: &[u8], at: usize, low: u8, high: u8) -> usize
-    ensures { λ r. ⌜ Past (low to high ∷ 0x80 to 0xBF ∷ 0x80 to 0xBF ∷ []) (now (s .entry)) at r ⌝ }
+// Whether the last three are.
+fn three_in_range(s: &[u8], at: usize, low: u8, high: u8) -> bool
+    ensures { λ r. ⌜ Follow (low to high ∷ 0x80 to 0xBF ∷ 0x80 to 0xBF ∷ []) (now (s .entry)) at r ⌝ }
 {
-    if at >= s.len() {
-        return 0;
+    if in_range(s, at, low, high) {
+        return two_in_range(s, at + 1, 0x80, 0xbf);
     }
-    if s[at] < low {
-        return 0;
-    }
-    if s[at] > high {
-        return 0;
-    }
-    past_two(s, at + 1, 0x80, 0xbf)
+    false
 }
 
-// The lowest second byte of a character of three or four bytes.
-fn second_low(b: u8) -> u8
-    ensures { λ r. ⌜ r ≡ secondLow b ⌝ }
+// A length, or 0.
+fn len_if(t: bool, n: usize) -> usize
+    ensures { λ r. ⌜ r ≡ pick t n 0 ⌝ }
 {
-    if b == 0xe0 {
-        return 0xa0;
+    if t {
+        return n;
     }
-    if b == 0xf0 {
-        return 0x90;
-    }
-    0x80
+    0
 }
 
-// The highest.
-fn second_high(b: u8) -> u8
-    ensures { λ r. ⌜ r ≡ secondHigh b ⌝ }
-{
-    if b == 0xed {
-        return 0x9f;
-    }
-    if b == 0xf4 {
-        return 0x8f;
-    }
-    0xbf
-}
-
-// Past a character that is not ASCII: the place after it, or 0 if there is none.
-fn past_char(s: &[u8], at: usize) -> usize
+// The length of a character that is not ASCII, or 0 if there is none: row by row of the table. It is a number that is known on each path and no
+// place, so that the next character waits for the branch and not for the bytes.
+fn char_len(s: &[u8], at: usize) -> usize
     requires { ⌜ (at < length (now s)) × (0x80 ≤ getD (now s) at 0) ⌝ }
-    ensures { λ r. ⌜ Past [] (now (s .entry)) at r ⌝ }
+    ensures { λ r. ⌜ CharLen (now (s .entry)) at r ⌝ }
 {
     let b = s[at];
     if b < 0xc2 {
         return 0;
     }
     if b < 0xe0 {
-        return past_one(s, at + 1, 0x80, 0xbf);
+        return len_if(in_range(s, at + 1, 0x80, 0xbf), 2);
     }
-    if b > 0xf4 {
-        return 0;
+    if b == 0xe0 {
+        return len_if(two_in_range(s, at + 1, 0xa0, 0xbf), 3);
     }
-    let low = second_low(b);
-    let high = second_high(b);
+    if b == 0xed {
+        return len_if(two_in_range(s, at + 1, 0x80, 0x9f), 3);
+    }
     if b < 0xf0 {
-        return past_two(s, at + 1, low, high);
+        return len_if(two_in_range(s, at + 1, 0x80, 0xbf), 3);
     }
-    past_three(s, at + 1, low, high)
+    if b == 0xf0 {
+        return len_if(three_in_range(s, at + 1, 0x90, 0xbf), 4);
+    }
+    if b < 0xf4 {
+        return len_if(three_in_range(s, at + 1, 0x80, 0xbf), 4);
+    }
+    if b == 0xf4 {
+        return len_if(three_in_range(s, at + 1, 0x80, 0x8f), 4);
+    }
+    0
 }
 
 // Whether a slice is well-formed UTF-8.
@@ -231,10 +215,11 @@ pub fn is_utf8(s: &[u8]) -> bool
         if s[i] < 0x80 {
             i = past_run(s, i + 1);
         } else {
-            i = past_char(s, i);
-            if i == 0 {
+            let n = char_len(s, i);
+            if n == 0 {
                 return false;
             }
+            i += n;
         }
     }
     true
