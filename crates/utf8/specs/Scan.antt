@@ -5,10 +5,10 @@ use mathlib.Core.Bool.{Bool, true, false}
 use mathlib.Core.List.{List, [], _∷_, List·Memᴰ}
 use native.Mathlib.Numerals.{add-one}
 use native.Mathlib.Omega.{arith}
-use borrow.Author.Tests.{eqb-true, le-leb, lt-leb}
+use borrow.Author.Tests.{ltb-true, le-leb, lt-leb}
 use borrow.Author.Count.{below-more}
 use borrow.Author.Needs.{needs}
-use lib.Dec.{eqb, lit<}
+use lib.Dec.{ltb, lit<}
 use lib.ListN.{length, getD, drop, drop-of-length-le}
 use lib.Seq.{drop-cons}
 use mir.Val.{Fits}
@@ -24,25 +24,28 @@ use Rattle.utf8.specs.Cut.{walk-ascii}
 pub record AsciiBlock (s : List ℕ) (from : ℕ) (r : Bool) : Type 0 where
   pub all : r ≡ true → (k : ℕ) → k < 32 → getD s (from + k) 0 < 0x80
 
--- of the first k all are, or high is not 0
-pub record BlockAt (s : List ℕ) (from high k : ℕ) : Type 0 where
+-- of the first k none is above most
+pub record BlockAt (s : List ℕ) (from most k : ℕ) : Type 0 where
   pub within : k ≤ 32
-  pub all : high ≡ 0 → (j : ℕ) → j < k → getD s (from + j) 0 < 0x80
+  pub all : (j : ℕ) → j < k → getD s (from + j) 0 ≤ most
 
 pub block-start : (s : List ℕ) (from : ℕ) → BlockAt s from 0 0
-block-start s from = record { within = omega arith; all = λ e j h. absurd (omega arith) }
+block-start s from = record { within = omega arith; all = λ j h. absurd (omega arith) }
 
-module _ {s : List ℕ} {from high k : ℕ} (at : BlockAt s from high k) where
-  pub block-high : {t : ℕ} → k < 32 → t ≡ 1 → BlockAt s from t (k + 1)
-  block-high h q = record { within = omega arith; all = λ e j g. absurd (omega arith) }
+module _ {s : List ℕ} {from most k : ℕ} (at : BlockAt s from most k) where
+  block-next : {t : ℕ} → k < 32 → getD s (from + k) 0 ≤ t → most ≤ t → BlockAt s from t (k + 1)
+  block-next {t} h b q = record { within = omega arith; all = below-more (λ j. getD s (from + j) 0 ≤ t) k (λ j g. omega (arith, at .all j g)) b }
 
-  pub block-low : {t : ℕ} → k < 32 → getD s (from + k) 0 < 0x80 → t ≡ high → BlockAt s from t (k + 1)
-  block-low h b q = record { within = omega arith; all = λ e. below-more _ k (at .all (omega arith)) b }
+  pub block-more : {t : ℕ} → k < 32 → most < getD s (from + k) 0 → t ≡ getD s (from + k) 0 → BlockAt s from t (k + 1)
+  block-more h b q = block-next h (omega arith) (omega arith)
 
-  pub block-end : 32 ≤ k → AsciiBlock s from (eqb high 0)
-  block-end h = record { all = λ e j g. at .all (eqb-true high 0 e) j (omega arith) }
+  pub block-same : {t : ℕ} → k < 32 → getD s (from + k) 0 ≤ most → t ≡ most → BlockAt s from t (k + 1)
+  block-same h b q = block-next h (omega arith) (omega arith)
 
-pub ruleset block-laws = (needs, block-start, block-high, block-low, block-end)
+  pub block-end : 32 ≤ k → AsciiBlock s from (ltb most 0x80)
+  block-end h = record { all = λ e j g. omega (arith, at .all j (omega arith), ltb-true most 0x80 e) }
+
+pub ruleset block-laws = (needs, block-start, block-more, block-same, block-end)
 
 -- ---- a run of ASCII bytes
 

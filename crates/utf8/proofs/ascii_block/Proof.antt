@@ -7,24 +7,24 @@ use Rattle.utf8.proofs.ascii_block.Reads as reads
 use Rattle.utf8.proofs.ascii_block.Lts as lts
 
 abbrev Inv-loop : tie.InvT-loop
-Inv-loop s from high₀ k₀ high k = BlockAt s from high k
+Inv-loop s from most₀ k₀ most k = BlockAt s from most k
 
 abbrev μ-loop : tie.MeasureT-loop
-μ-loop s from high₀ k₀ high k = 32 - k
+μ-loop s from most₀ k₀ most k = 32 - k
 
 -- src/lib.rt:75:5
 loop-holds : tie.Need-loop-holds Inv-loop μ-loop
 loop-holds c = search block-laws
 
--- src/lib.rt:76:14
-add-if1 : tie.Need-add-if1 Inv-loop μ-loop
-add-if1 c = search block-laws
+-- src/lib.rt:76:19
+add-b : tie.Need-add-b Inv-loop μ-loop
+add-b c = search block-laws
 
--- src/lib.rt:76:12
-shared-slice-read-if1 : tie.Need-shared-slice-read-if1 Inv-loop μ-loop
-shared-slice-read-if1 c = search block-laws
+-- src/lib.rt:76:17
+shared-slice-read-b : tie.Need-shared-slice-read-b Inv-loop μ-loop
+shared-slice-read-b c = search block-laws
 
--- src/lib.rt:79:9
+-- src/lib.rt:80:9
 add-k : tie.Need-add-k Inv-loop μ-loop
 add-k c = search block-laws
 
@@ -47,8 +47,8 @@ ascii-block-spec =
     Inv-loop
     μ-loop
     loop-holds
-    add-if1
-    shared-slice-read-if1
+    add-b
+    shared-slice-read-b
     add-k
     loop-less
     loop-again
