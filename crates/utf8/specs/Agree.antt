@@ -1,6 +1,6 @@
 -- The test is the definition: `isUtf8` is true of the well-formed sequences, and of no other.
 use Prim.Native.Nat.{ℕ, zero, suc, _≤_, _<_}
-use mathlib.Core.Path.{_≡_, refl, sym, ap}
+use mathlib.Core.Path.{_≡_, refl, ap}
 use mathlib.Core.Bool.{Bool, true, false}
 use mathlib.Core.List.{List, [], _∷_, _++_, List·Memᴰ, List·Memᴰ·not-nil, List·Memᴰ·cases-cons, List·Memᴰ·head, List·Memᴰ·tail}
 use native.Mathlib.Omega.{arith}
@@ -87,6 +87,7 @@ pub record Row (rows : List (List Range)) (b : ℕ) (rs : List Range) : Type 0 w
   pub listed : List·Memᴰ (first ∷ rs) rows
   pub holds : inRange first b ≡ true
 
+-- the row of what `after` finds
 pub after-row : (rows : List (List Range)) (b : ℕ) (rs : List Range) → after rows b ≡ due rs → Row rows b rs
 unfolding after
 after-row [] b rs e = let z : _≡_ {A = ℕ} 0 1 = cc in absurd (omega arith)
@@ -114,6 +115,7 @@ pub fits-more : (r : Range) (rs : List Range) (b : ℕ) (s : List ℕ) → inRan
 unfolding fits
 fits-more r rs b s h e = rw h e
 
+-- what the walk admits begins with the bytes asked for, and the rest is well-formed
 pub begun : (s : List ℕ) (rs : List Range) → walk rs s ≡ true → Begun rs s
 unfolding walk fits
 begun [] [] e = record { front = []; back = []; joined = refl; fit = refl; rest = none }

@@ -1,15 +1,15 @@
 -- Encoding and the table agree: the characters of the table are the bytes of the scalar values, each of one.
-use Prim.Native.Nat.{ℕ, zero, suc, _+_, _*_, _-_, _/_, _%_, _≤_, _<_}
-use mathlib.Core.Path.{_≡_, refl, sym, ap, _∙_}
-use mathlib.Core.Bool.{Bool, true, false}
-use mathlib.Core.List.{List, [], _∷_, _++_, List·Memᴰ, List·Memᴰ·head, List·Memᴰ·tail, List·Memᴰ·cases-cons, List·Memᴰ·not-nil}
+use Prim.Native.Nat.{ℕ, _+_, _*_, _-_, _/_, _%_, _≤_, _<_}
+use mathlib.Core.Path.{_≡_, sym, ap, _∙_}
+use mathlib.Core.Bool.{true}
+use mathlib.Core.List.{List, [], _∷_, _++_, List·Memᴰ, List·Memᴰ·cases-cons, List·Memᴰ·not-nil}
 use mathlib.Core.Logic.{_⊎_, inl, inr}
 use native.Mathlib.Omega.{arith}
-use borrow.Author.Tests.{ltb-true, ltb-false, leb-true, le-leb, lt-leb}
-use lib.Dec.{ltb, leb, lit<}
+use borrow.Author.Tests.{le-leb, lt-leb}
+use lib.Dec.{lit<}
 use lib.ListN.{length, getD}
-use Rattle.lists.specs.Tests.{pick, within, false-true}
-use Rattle.utf8.specs.Table.{Range, _to_, table, inRange, fits, OneChar, walk, isUtf8}
+use Rattle.lists.specs.Tests.{within, false-true}
+use Rattle.utf8.specs.Table.{Range, _to_, table, inRange, fits, OneChar, isUtf8}
 use Rattle.utf8.specs.Encode.{scalar, encode}
 use Rattle.utf8.specs.Store.{encode-1, encode-2, encode-3, encode-4}
 use Rattle.utf8.specs.Agree.{below, both, in-range, range-in, nth, walk-char}
@@ -23,6 +23,7 @@ decoded (x ∷ y ∷ z ∷ []) = (x - 0xE0) * 4096 + (y - 0x80) * 64 + (z - 0x80
 decoded (x ∷ y ∷ z ∷ w ∷ []) = (x - 0xF0) * 262144 + (y - 0x80) * 4096 + (z - 0x80) * 64 + (w - 0x80)
 decoded (x ∷ y ∷ z ∷ w ∷ v ∷ s) = 0
 
+-- the bytes of a number give it back
 pub decoded-encode : (c : ℕ) → decoded (encode c) ≡ c
 unfolding decoded
 decoded-encode c = below c 0x80 (λ h. rw (encode-1 c h)) λ g.

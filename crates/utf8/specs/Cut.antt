@@ -1,6 +1,6 @@
 -- Well-formed sequences joined, and cut at an ASCII byte.
-use Prim.Native.Nat.{ℕ, zero, suc, _+_, _-_, _≤_, _<_}
-use mathlib.Core.Path.{_≡_, refl, sym, ap, _∙_}
+use Prim.Native.Nat.{ℕ, suc, _+_, _-_, _≤_, _<_}
+use mathlib.Core.Path.{_≡_, refl}
 use mathlib.Core.Bool.{Bool, true, false}
 use mathlib.Core.List.{List, [], _∷_, _++_, append-assoc}
 use native.Mathlib.Numerals.{add-one}
@@ -8,9 +8,9 @@ use native.Mathlib.Omega.{arith}
 use borrow.Author.Tests.{leb-true, le-leb}
 use lib.Dec.{leb}
 use lib.ListN.{length, getD, drop, take, length-drop}
-use lib.Seq.{split-at, drop-cons, drop-drop, take-suc, append-snoc, getD-drop, getD-take}
+use lib.Seq.{split-at, drop-cons, take-suc, getD-drop}
 use Rattle.lists.specs.Tests.{pick, false-true}
-use Rattle.utf8.specs.Table.{Range, _to_, table, inRange, OneChar, WellFormed, none, next, After, due, never, after, walk, isUtf8}
+use Rattle.utf8.specs.Table.{Range, _to_, table, inRange, WellFormed, none, next, After, due, never, after, walk, isUtf8}
 use Rattle.utf8.specs.Agree.{both, in-range, test-sound, test-complete}
 
 -- ---- joined
@@ -85,6 +85,7 @@ pub ascii-after : (b : ℕ) → b < 0x80 → after table b ≡ due []
 unfolding after table inRange
 ascii-after b h = rw (le-leb 0 b (omega arith), le-leb b 0x7F (omega arith))
 
+-- and the walk goes past it
 pub walk-ascii : (b : ℕ) (s : List ℕ) → b < 0x80 → walk [] (b ∷ s) ≡ walk [] s
 unfolding walk
 walk-ascii b s h = rw (ascii-after b h, walk)
@@ -95,6 +96,7 @@ pub record Cut (rs : List Range) (a c : List ℕ) : Type 0 where
   pub front : walk rs a ≡ true
   pub back : walk [] c ≡ true
 
+-- a sequence that the walk admits, cut before an ASCII byte: no character is pending there
 pub cut-before : (a : List ℕ) (rs : List Range) (b : ℕ) (c : List ℕ) → walk rs (a ++ (b ∷ c)) ≡ true → high rs ≡ true → b < 0x80 → Cut rs a (b ∷ c)
 unfolding walk high
 cut-before [] rs b c e g h =
@@ -138,15 +140,19 @@ module _ (a : List ℕ) (b : ℕ) (c : List ℕ) (e : isUtf8 (a ++ (b ∷ c)) �
 
 -- the same of well-formed sequences
 module _ (a : List ℕ) (b : ℕ) (c : List ℕ) (w : WellFormed (a ++ (b ∷ c))) (h : b < 0x80) where
+  -- what stands before the byte
   pub well-before : WellFormed a
   well-before = test-sound a (utf8-before a b c (test-complete w) h)
 
+  -- the byte, and what follows
   pub well-from : WellFormed (b ∷ c)
   well-from = test-sound (b ∷ c) (utf8-from a b c (test-complete w) h)
 
+  -- what follows it
   pub well-past : WellFormed c
   well-past = test-sound c (utf8-past a b c (test-complete w) h)
 
+  -- what stands before it, with it
   pub well-upto : WellFormed (a ++ (b ∷ []))
   well-upto = test-sound (a ++ (b ∷ [])) (utf8-upto a b c (test-complete w) h)
 
@@ -155,15 +161,19 @@ module _ (s : List ℕ) (i : ℕ) (at : i < length s) (h : getD s i 0 < 0x80) (e
   whole : isUtf8 (take i s ++ (getD s i 0 ∷ drop (suc i) s)) ≡ true
   whole = rw (split-at s i 0 at) at e
 
+  -- the first i bytes
   pub utf8-take : isUtf8 (take i s) ≡ true
   utf8-take = utf8-before (take i s) (getD s i 0) (drop (suc i) s) whole h
 
+  -- the bytes from i on
   pub utf8-drop : isUtf8 (drop i s) ≡ true
   utf8-drop = rw (drop-cons s i 0 at) (utf8-from (take i s) (getD s i 0) (drop (suc i) s) whole h)
 
+  -- the first i + 1 bytes
   pub utf8-take-past : isUtf8 (take (i + 1) s) ≡ true
   utf8-take-past = rw (add-one i, take-suc s i 0 at) (utf8-upto (take i s) (getD s i 0) (drop (suc i) s) whole h)
 
+  -- the bytes after i
   pub utf8-drop-past : isUtf8 (drop (i + 1) s) ≡ true
   utf8-drop-past = rw (add-one i) (utf8-past (take i s) (getD s i 0) (drop (suc i) s) whole h)
 

@@ -1,5 +1,4 @@
 use Rattle.utf8.specs.Scan.{char-laws}
-use borrow.Author.Needs.{needs}
 use Rattle.utf8.proofs.char_len.Statement.{statement}
 use Rattle.utf8.proofs.char_len.Tie as tie
 use Rattle.utf8.proofs.char_len.Reads as reads

@@ -1,5 +1,4 @@
 use Rattle.utf8.specs.Scan.{byte-laws}
-use borrow.Author.Needs.{needs}
 use Rattle.utf8.proofs.two_in_range.Statement.{statement}
 use Rattle.utf8.proofs.two_in_range.Tie as tie
 use Rattle.utf8.proofs.two_in_range.Reads as reads
