@@ -1,3 +1,7 @@
 pub mod Table
 pub mod Encode
 pub mod Store
+pub mod Agree
+pub mod Cut
+pub mod Chars
+pub mod Scan

@@ -1,7 +1,6 @@
 -- Laws of `encode`: its bytes at each length, the stores that write them, and the room that these need.
 use Prim.Native.Nat.{ℕ, _+_, _/_, _%_, _≤_, _<_}
-use mathlib.Core.Path.{_≡_, refl, ap}
-use mathlib.Core.Bool.{Bool}
+use mathlib.Core.Path.{_≡_, ap}
 use mathlib.Core.List.{List, [], _∷_}
 use native.Mathlib.Numerals.{add-one, add-two, add-three}
 use native.Mathlib.Omega.{arith}
@@ -9,8 +8,8 @@ use borrow.Author.Tests.{le-ltb, lt-ltb}
 use borrow.Author.Needs.{needs}
 use lib.Dec.{ltb, lit<}
 use lib.ListN.{length, set}
-use Rattle.lists.specs.Tests.{pick-all, tests}
-use Rattle.utf8.specs.Encode.{encode, Put, EncodedLen}
+use Rattle.lists.specs.Tests.{pick-all}
+use Rattle.utf8.specs.Encode.{encode, Put}
 
 module _ (c : ℕ) where
   pub encode-1 : c < 0x80 → encode c ≡ c ∷ []
