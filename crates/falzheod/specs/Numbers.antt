@@ -65,4 +65,11 @@ module _ {text old new : List ℕ} {x : Unescaped} (u : Unescape text old new x)
   pub call-none : x ≡ Unescaped.NoRoom → UnescapeCall text old new 0 noRoom
   call-none e = record { number = rw (← u .number, e); written = rw (← u .number, e); buffer = u .buffer }
 
-pub ruleset call-laws = (needs, call-valid, call-invalid, call-length, call-bad, call-none)
+module _ {x : Bool} (y : Bool) (q : x ≡ y) where
+  pub call-yes : x ≡ true → 1 ≡ yesNo y
+  call-yes e = rw (← q, e)
+
+  pub call-no : x ≡ false → 0 ≡ yesNo y
+  call-no e = rw (← q, e)
+
+pub ruleset call-laws = (needs, call-valid, call-invalid, call-length, call-bad, call-none, call-yes, call-no)

@@ -38,3 +38,11 @@ pub extern "C" fn falzheod_unescape(text: &[u8], out: &mut [u8], length: &mut us
         }
     }
 }
+
+// 1 where the text is well-formed UTF-8, else 0.
+#[no_mangle]
+pub extern "C" fn falzheod_is_utf8(text: &[u8]) -> u32
+    ensures { λ r. ⌜ r ≡ yesNo (isUtf8 (now (text .entry))) ⌝ }
+{
+    if utf8::is_utf8(text) { 1 } else { 0 }
+}

@@ -14,7 +14,7 @@ use Rattle.lists.specs.Tests.{pick}
 use Rattle.lists.specs.Parts.{part}
 use Rattle.lists.specs.Find.{Clear, NextAt}
 use Rattle.lists.specs.Overwrite.{overwritten, overwrite-none, overwrite-more, Stored}
-use Rattle.utf8.specs.Encode.{scalar, encode, Put}
+use Rattle.utf8.specs.Encode.{scalar, encode}
 use Rattle.reference.specs.Text.{reference, Out, before, decode, answer, filled, unescaped, Unescape}
 use Rattle.reference.specs.Text.Out.{bytes, bad}
 use Rattle.reference.specs.Taken.{Taken, taken}
@@ -95,7 +95,7 @@ module _ {t old out : List ℕ} {n i : ℕ} (f : FillAt t old out n i) (room : R
     unfolding unescaped Room
     fill-bad e = absurd (rw (decode-bad (f .at) h amp q e) at room)
 
-    pub fill-ref : {c k d : ℕ} {out′ : List ℕ} → r ≡ Reference.Char c k → Put out out′ n c d → FillAt t old out′ d (i + 1 + k)
+    pub fill-ref : {c k d : ℕ} {out′ : List ℕ} → r ≡ Reference.Char c k → Stored out out′ n (encode c) d → FillAt t old out′ d (i + 1 + k)
     fill-ref {c} e p = rw (p .next, p .is) (more (encode c) (decode-ref (f .at) h amp q e))
 
     pub fill-room : {c k : ℕ} → r ≡ Reference.Char c k → n + length (encode c) ≤ length out

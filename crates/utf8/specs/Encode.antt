@@ -5,7 +5,6 @@ use mathlib.Core.Bool.{Bool, true}
 use mathlib.Core.List.{List, [], _∷_}
 use lib.Dec.{ltb, leb}
 use lib.ListN.{length}
-use lib.Seq.{sets}
 use Rattle.lists.specs.Tests.{pick, within}
 
 -- D76: 0 to D7FF and E000 to 10FFFF
@@ -25,8 +24,3 @@ pub record EncodedLen (c r : ℕ) : Type 0 where
   pub is : r ≡ length (encode c)
   pub low : 1 ≤ r
   pub high : r ≤ 4
-
--- the bytes of c stand in new from at on, r is the place after them, and the rest is as in old
-pub record Put (old new : List ℕ) (at c r : ℕ) : Type 0 where
-  pub next : r ≡ at + length (encode c)
-  pub is : new ≡ sets old at (encode c)

@@ -9,7 +9,8 @@ use borrow.Author.Needs.{needs}
 use lib.Dec.{ltb, lit<}
 use lib.ListN.{length, set}
 use Rattle.lists.specs.Tests.{pick-all}
-use Rattle.utf8.specs.Encode.{encode, Put}
+use Rattle.lists.specs.Overwrite.{Stored}
+use Rattle.utf8.specs.Encode.{encode}
 
 module _ (c : ℕ) where
   pub encode-1 : c < 0x80 → encode c ≡ c ∷ []
@@ -30,16 +31,16 @@ module _ (c : ℕ) where
 
 -- the stores of each length, and the place after them
 module _ (l : List ℕ) (at c : ℕ) where
-  pub put-1 : c < 0x80 → Put l (set l at c) at c (at + 1)
+  pub put-1 : c < 0x80 → Stored l (set l at c) at (encode c) (at + 1)
   put-1 h = record { next = rw (encode-1 c h); is = rw (encode-1 c h) }
 
-  pub put-2 : 0x80 ≤ c → c < 0x800 → Put l (set (set l at (0xC0 + c / 64)) (at + 1) (0x80 + c % 64)) at c (at + 2)
+  pub put-2 : 0x80 ≤ c → c < 0x800 → Stored l (set (set l at (0xC0 + c / 64)) (at + 1) (0x80 + c % 64)) at (encode c) (at + 2)
   put-2 g h = record { next = rw (encode-2 c g h); is = rw (encode-2 c g h, add-one at) }
 
-  pub put-3 : 0x800 ≤ c → c < 0x10000 → Put l (set (set (set l at (0xE0 + c / 4096)) (at + 1) (0x80 + c / 64 % 64)) (at + 2) (0x80 + c % 64)) at c (at + 3)
+  pub put-3 : 0x800 ≤ c → c < 0x10000 → Stored l (set (set (set l at (0xE0 + c / 4096)) (at + 1) (0x80 + c / 64 % 64)) (at + 2) (0x80 + c % 64)) at (encode c) (at + 3)
   put-3 g h = record { next = rw (encode-3 c g h); is = rw (encode-3 c g h, add-one at, add-two at) }
 
-  pub put-4 : 0x10000 ≤ c → Put l (set (set (set (set l at (0xF0 + c / 262144)) (at + 1) (0x80 + c / 4096 % 64)) (at + 2) (0x80 + c / 64 % 64)) (at + 3) (0x80 + c % 64)) at c (at + 4)
+  pub put-4 : 0x10000 ≤ c → Stored l (set (set (set (set l at (0xF0 + c / 262144)) (at + 1) (0x80 + c / 4096 % 64)) (at + 2) (0x80 + c / 64 % 64)) (at + 3) (0x80 + c % 64)) at (encode c) (at + 4)
   put-4 g = record { next = rw (encode-4 c g); is = rw (encode-4 c g, add-one at, add-two at, add-three at) }
 
 -- the room that they need

@@ -4,7 +4,8 @@ ghost use mathlib.Core.Path.{_≡_};
 ghost use Prim.Native.Nat.{_+_, _≤_, _<_};
 ghost use lib.ListN.{length, getD};
 ghost use mathlib.Core.List.{[], _∷_};
-ghost use Rattle.utf8.specs.Encode.{scalar, encode, Put, EncodedLen};
+ghost use Rattle.utf8.specs.Encode.{scalar, encode, EncodedLen};
+ghost use Rattle.lists.specs.Overwrite.{Stored};
 ghost use Rattle.utf8.specs.Table.{_to_, isUtf8};
 ghost use Rattle.utf8.specs.Scan.{AsciiBlock, Run, ByteIn, Follow, CharLen};
 ghost use Rattle.lists.specs.Tests.{pick};
@@ -41,7 +42,7 @@ pub fn encoded_len(c: u32) -> usize
 // Writes the bytes of a scalar value at a place, and answers the place after them.
 pub fn put_char(out: &mut [u8], at: usize, c: u32) -> usize
     requires { ⌜ (at + length (encode c) ≤ length (now out)) × (c < 0x110000) ⌝ }
-    ensures { λ r. ⌜ Put (now (out .entry)) (now (out .exit)) at c r ⌝ }
+    ensures { λ r. ⌜ Stored (now (out .entry)) (now (out .exit)) at (encode c) r ⌝ }
 {
     if c < 0x80 {
         out[at] = c as u8;

@@ -3,8 +3,6 @@ use mathlib.Core.Logic.{⊎-elim}
 use Rattle.utf8.specs.Scan.{BlockAt, block-laws}
 use Rattle.utf8.proofs.ascii_block.Statement.{statement}
 use Rattle.utf8.proofs.ascii_block.Tie as tie
-use Rattle.utf8.proofs.ascii_block.Reads as reads
-use Rattle.utf8.proofs.ascii_block.Lts as lts
 
 abbrev Inv-loop : tie.InvT-loop
 Inv-loop s from most₀ k₀ most k = BlockAt s from most k
@@ -12,31 +10,24 @@ Inv-loop s from most₀ k₀ most k = BlockAt s from most k
 abbrev μ-loop : tie.MeasureT-loop
 μ-loop s from most₀ k₀ most k = 32 - k
 
--- src/lib.rt:75:5
 loop-holds : tie.Need-loop-holds Inv-loop μ-loop
 loop-holds c = search block-laws
 
--- src/lib.rt:76:19
 add-b : tie.Need-add-b Inv-loop μ-loop
 add-b c = search block-laws
 
--- src/lib.rt:76:17
 shared-slice-read-b : tie.Need-shared-slice-read-b Inv-loop μ-loop
 shared-slice-read-b c = search block-laws
 
--- src/lib.rt:80:9
 add-k : tie.Need-add-k Inv-loop μ-loop
 add-k c = search block-laws
 
--- src/lib.rt:75:5
 loop-less : tie.Need-loop-less Inv-loop μ-loop
 loop-less c = search block-laws
 
--- src/lib.rt:75:5
 loop-again : tie.Need-loop-again Inv-loop μ-loop
 loop-again c = ⊎-elim (λ w. search block-laws) (λ w. search block-laws) (c .if1 .came)
 
--- src/lib.rt:69:1
 returns : tie.Need-returns Inv-loop μ-loop
 returns c = search block-laws
 

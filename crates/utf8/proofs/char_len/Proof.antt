@@ -1,134 +1,97 @@
 use Rattle.utf8.specs.Scan.{char-laws}
 use Rattle.utf8.proofs.char_len.Statement.{statement}
 use Rattle.utf8.proofs.char_len.Tie as tie
-use Rattle.utf8.proofs.char_len.Reads as reads
-use Rattle.utf8.proofs.char_len.Lts as lts
-use Rattle.utf8.proofs.in_range.Reads as in-range-reads
-use Rattle.utf8.proofs.len_if.Reads as len-if-reads
-use Rattle.utf8.proofs.three_in_range.Reads as three-in-range-reads
-use Rattle.utf8.proofs.two_in_range.Reads as two-in-range-reads
 
--- src/lib.rt:181:13
 shared-slice-read-b : tie.Need-shared-slice-read-b
 shared-slice-read-b c = search char-laws
 
--- src/lib.rt:183:9
 returns : tie.Need-returns
 returns c = search char-laws
 
--- src/lib.rt:186:35
 add-in-range : tie.Need-add-in-range
 add-in-range c = search char-laws
 
--- src/lib.rt:186:23
 in-range-requires : tie.Need-in-range-requires
 in-range-requires c κs = search char-laws
 
--- src/lib.rt:186:9
 len-if-requires : tie.Need-len-if-requires
 len-if-requires c κs = search char-laws
 
--- src/lib.rt:186:9
 returns-2 : tie.Need-returns-2
 returns-2 c = search char-laws
 
--- src/lib.rt:189:39
 add-two-in-range : tie.Need-add-two-in-range
 add-two-in-range c = search char-laws
 
--- src/lib.rt:189:23
 two-in-range-requires : tie.Need-two-in-range-requires
 two-in-range-requires c κs = search char-laws
 
--- src/lib.rt:189:9
 len-if-requires-2 : tie.Need-len-if-requires-2
 len-if-requires-2 c κs = search char-laws
 
--- src/lib.rt:189:9
 returns-3 : tie.Need-returns-3
 returns-3 c = search char-laws
 
--- src/lib.rt:192:39
 add-two-in-range-2 : tie.Need-add-two-in-range-2
 add-two-in-range-2 c = search char-laws
 
--- src/lib.rt:192:23
 two-in-range-requires-2 : tie.Need-two-in-range-requires-2
 two-in-range-requires-2 c κs = search char-laws
 
--- src/lib.rt:192:9
 len-if-requires-3 : tie.Need-len-if-requires-3
 len-if-requires-3 c κs = search char-laws
 
--- src/lib.rt:192:9
 returns-4 : tie.Need-returns-4
 returns-4 c = search char-laws
 
--- src/lib.rt:195:39
 add-two-in-range-3 : tie.Need-add-two-in-range-3
 add-two-in-range-3 c = search char-laws
 
--- src/lib.rt:195:23
 two-in-range-requires-3 : tie.Need-two-in-range-requires-3
 two-in-range-requires-3 c κs = search char-laws
 
--- src/lib.rt:195:9
 len-if-requires-4 : tie.Need-len-if-requires-4
 len-if-requires-4 c κs = search char-laws
 
--- src/lib.rt:195:9
 returns-5 : tie.Need-returns-5
 returns-5 c = search char-laws
 
--- src/lib.rt:198:41
 add-three-in-range : tie.Need-add-three-in-range
 add-three-in-range c = search char-laws
 
--- src/lib.rt:198:23
 three-in-range-requires : tie.Need-three-in-range-requires
 three-in-range-requires c κs = search char-laws
 
--- src/lib.rt:198:9
 len-if-requires-5 : tie.Need-len-if-requires-5
 len-if-requires-5 c κs = search char-laws
 
--- src/lib.rt:198:9
 returns-6 : tie.Need-returns-6
 returns-6 c = search char-laws
 
--- src/lib.rt:201:41
 add-three-in-range-2 : tie.Need-add-three-in-range-2
 add-three-in-range-2 c = search char-laws
 
--- src/lib.rt:201:23
 three-in-range-requires-2 : tie.Need-three-in-range-requires-2
 three-in-range-requires-2 c κs = search char-laws
 
--- src/lib.rt:201:9
 len-if-requires-6 : tie.Need-len-if-requires-6
 len-if-requires-6 c κs = search char-laws
 
--- src/lib.rt:201:9
 returns-7 : tie.Need-returns-7
 returns-7 c = search char-laws
 
--- src/lib.rt:204:41
 add-three-in-range-3 : tie.Need-add-three-in-range-3
 add-three-in-range-3 c = search char-laws
 
--- src/lib.rt:204:23
 three-in-range-requires-3 : tie.Need-three-in-range-requires-3
 three-in-range-requires-3 c κs = search char-laws
 
--- src/lib.rt:204:9
 len-if-requires-7 : tie.Need-len-if-requires-7
 len-if-requires-7 c κs = search char-laws
 
--- src/lib.rt:204:9
 returns-8 : tie.Need-returns-8
 returns-8 c = search char-laws
 
--- src/lib.rt:177:1
 returns-9 : tie.Need-returns-9
 returns-9 c = search char-laws
 

@@ -1,30 +1,22 @@
 use Rattle.utf8.specs.Scan.{byte-laws}
 use Rattle.utf8.proofs.in_range.Statement.{statement}
 use Rattle.utf8.proofs.in_range.Tie as tie
-use Rattle.utf8.proofs.in_range.Reads as reads
-use Rattle.utf8.proofs.in_range.Lts as lts
 
--- src/lib.rt:134:9
 returns : tie.Need-returns
 returns c = search byte-laws
 
--- src/lib.rt:136:8
 shared-slice-read-if2 : tie.Need-shared-slice-read-if2
 shared-slice-read-if2 c = search byte-laws
 
--- src/lib.rt:137:9
 returns-2 : tie.Need-returns-2
 returns-2 c = search byte-laws
 
--- src/lib.rt:139:8
 shared-slice-read-if3 : tie.Need-shared-slice-read-if3
 shared-slice-read-if3 c = search byte-laws
 
--- src/lib.rt:140:9
 returns-3 : tie.Need-returns-3
 returns-3 c = search byte-laws
 
--- src/lib.rt:130:1
 returns-4 : tie.Need-returns-4
 returns-4 c = search byte-laws
 

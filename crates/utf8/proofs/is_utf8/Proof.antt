@@ -3,10 +3,6 @@ use lib.ListN.{length}
 use Rattle.utf8.specs.Scan.{TextAt, text-laws}
 use Rattle.utf8.proofs.is_utf8.Statement.{statement}
 use Rattle.utf8.proofs.is_utf8.Tie as tie
-use Rattle.utf8.proofs.is_utf8.Reads as reads
-use Rattle.utf8.proofs.is_utf8.Lts as lts
-use Rattle.utf8.proofs.char_len.Reads as char-len-reads
-use Rattle.utf8.proofs.past_run.Reads as past-run-reads
 
 abbrev Inv-loop : tie.InvT-loop
 Inv-loop s i₀ i = TextAt s i
@@ -14,51 +10,39 @@ Inv-loop s i₀ i = TextAt s i
 abbrev μ-loop : tie.MeasureT-loop
 μ-loop s i₀ i = length s - i
 
--- src/lib.rt:214:5
 loop-holds : tie.Need-loop-holds Inv-loop μ-loop
 loop-holds c = search text-laws
 
--- src/lib.rt:215:12
 shared-slice-read-if1 : tie.Need-shared-slice-read-if1 Inv-loop μ-loop
 shared-slice-read-if1 c = search text-laws
 
--- src/lib.rt:216:29
 add-past-run : tie.Need-add-past-run Inv-loop μ-loop
 add-past-run c = search text-laws
 
--- src/lib.rt:216:13
 past-run-requires : tie.Need-past-run-requires Inv-loop μ-loop
 past-run-requires c κs = search text-laws
 
--- src/lib.rt:214:5
 loop-less : tie.Need-loop-less Inv-loop μ-loop
 loop-less c = search text-laws
 
--- src/lib.rt:214:5
 loop-again : tie.Need-loop-again Inv-loop μ-loop
 loop-again c = search text-laws
 
--- src/lib.rt:218:17
 char-len-requires : tie.Need-char-len-requires Inv-loop μ-loop
 char-len-requires c κs = search text-laws
 
--- src/lib.rt:220:17
 returns : tie.Need-returns Inv-loop μ-loop
 returns c = search text-laws
 
--- src/lib.rt:222:13
 add-i : tie.Need-add-i Inv-loop μ-loop
 add-i c = search text-laws
 
--- src/lib.rt:214:5
 loop-less-2 : tie.Need-loop-less-2 Inv-loop μ-loop
 loop-less-2 c = search text-laws
 
--- src/lib.rt:214:5
 loop-again-2 : tie.Need-loop-again-2 Inv-loop μ-loop
 loop-again-2 c = search text-laws
 
--- src/lib.rt:210:1
 returns-2 : tie.Need-returns-2 Inv-loop μ-loop
 returns-2 c = search text-laws
 

@@ -3,9 +3,6 @@ use lib.ListN.{length}
 use Rattle.utf8.specs.Scan.{Run, run-laws}
 use Rattle.utf8.proofs.past_blocks.Statement.{statement}
 use Rattle.utf8.proofs.past_blocks.Tie as tie
-use Rattle.utf8.proofs.past_blocks.Reads as reads
-use Rattle.utf8.proofs.past_blocks.Lts as lts
-use Rattle.utf8.proofs.ascii_block.Reads as ascii-block-reads
 
 abbrev Inv-loop : tie.InvT-loop
 Inv-loop s from i₀ i = Run s from i
@@ -13,35 +10,27 @@ Inv-loop s from i₀ i = Run s from i
 abbrev μ-loop : tie.MeasureT-loop
 μ-loop s from i₀ i = length s - i
 
--- src/lib.rt:89:5
 loop-holds : tie.Need-loop-holds Inv-loop μ-loop
 loop-holds c = search run-laws
 
--- src/lib.rt:89:11
 sub-loop : tie.Need-sub-loop Inv-loop μ-loop
 sub-loop c = search run-laws
 
--- src/lib.rt:90:12
 ascii-block-requires : tie.Need-ascii-block-requires Inv-loop μ-loop
 ascii-block-requires c κs = search run-laws
 
--- src/lib.rt:91:13
 add-i : tie.Need-add-i Inv-loop μ-loop
 add-i c = search run-laws
 
--- src/lib.rt:89:5
 loop-less : tie.Need-loop-less Inv-loop μ-loop
 loop-less c = search run-laws
 
--- src/lib.rt:89:5
 loop-again : tie.Need-loop-again Inv-loop μ-loop
 loop-again c = search run-laws
 
--- src/lib.rt:93:13
 returns : tie.Need-returns Inv-loop μ-loop
 returns c = search run-laws
 
--- src/lib.rt:84:1
 returns-2 : tie.Need-returns-2 Inv-loop μ-loop
 returns-2 c = search run-laws
 

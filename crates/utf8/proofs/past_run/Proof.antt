@@ -1,27 +1,19 @@
 use Rattle.utf8.specs.Scan.{run-laws}
 use Rattle.utf8.proofs.past_run.Statement.{statement}
 use Rattle.utf8.proofs.past_run.Tie as tie
-use Rattle.utf8.proofs.past_run.Reads as reads
-use Rattle.utf8.proofs.past_run.Lts as lts
-use Rattle.utf8.proofs.past_ascii.Reads as past-ascii-reads
 
--- src/lib.rt:120:9
 returns : tie.Need-returns
 returns c = search run-laws
 
--- src/lib.rt:122:8
 shared-slice-read-if2 : tie.Need-shared-slice-read-if2
 shared-slice-read-if2 c = search run-laws
 
--- src/lib.rt:123:9
 returns-2 : tie.Need-returns-2
 returns-2 c = search run-laws
 
--- src/lib.rt:125:5
 past-ascii-requires : tie.Need-past-ascii-requires
 past-ascii-requires c κs = search run-laws
 
--- src/lib.rt:115:1
 returns-3 : tie.Need-returns-3
 returns-3 c = search run-laws
 

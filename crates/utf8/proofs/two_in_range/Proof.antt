@@ -1,27 +1,19 @@
 use Rattle.utf8.specs.Scan.{byte-laws}
 use Rattle.utf8.proofs.two_in_range.Statement.{statement}
 use Rattle.utf8.proofs.two_in_range.Tie as tie
-use Rattle.utf8.proofs.two_in_range.Reads as reads
-use Rattle.utf8.proofs.two_in_range.Lts as lts
-use Rattle.utf8.proofs.in_range.Reads as in-range-reads
 
--- src/lib.rt:149:8
 in-range-requires : tie.Need-in-range-requires
 in-range-requires c κs = search byte-laws
 
--- src/lib.rt:150:28
 add-in-range : tie.Need-add-in-range
 add-in-range c = search byte-laws
 
--- src/lib.rt:150:9
 in-range-requires-2 : tie.Need-in-range-requires-2
 in-range-requires-2 c κs = search byte-laws
 
--- src/lib.rt:150:9
 returns : tie.Need-returns
 returns c = search byte-laws
 
--- src/lib.rt:146:1
 returns-2 : tie.Need-returns-2
 returns-2 c = search byte-laws
 
