@@ -1,0 +1,72 @@
+-- The strict drain (01, "Drain"): the rules, and then a walk over the tokens that keeps the names of the open elements and the attribute
+-- names of the last start tag.
+use Prim.Native.Nat.{ℕ, zero, suc}
+use mathlib.Core.Bool.{Bool, true, false}
+use mathlib.Core.List.{List, [], _∷_}
+use lib.ListN.{length}
+use Rattle.lists.specs.Tests.{pick}
+use Rattle.lists.specs.Bytes.{sameb}
+use Rattle.reference.specs.Text.{validated}
+use Rattle.reference.specs.declared.Validated.{Validated}
+use Rattle.table.specs.Row.{Name, Tok, start, attr, gt, close, slash, text, misc, bad}
+use Rattle.xml.specs.declared.Cause.{Cause}
+use Rattle.xml.specs.declared.Drained.{Drained}
+
+-- alike in prefix and local name
+unfoldable pub sameName : Name → Name → Bool
+sameName m n = pick (sameb (m .prefix) (n .prefix)) (sameb (m .local) (n .local)) false
+
+-- a name is among those seen
+unfoldable pub seen : Name → List Name → Bool
+seen m [] = false
+seen m (n ∷ l) = pick (sameName m n) true (seen m l)
+
+-- the names of the open elements, innermost first, with the attribute names of the last start tag; or the row that failed, and why
+pub data State : Type 0 where
+  going : List Name → List Name → State
+  failed : ℕ → Cause → State
+
+-- an attribute's or a text's value, in row k
+abbrev pub withValue : Validated → ℕ → State → State
+withValue Validated.Valid k st = st
+withValue Validated.BadReference k st = failed k Cause.BadReference
+
+-- "repeated attribute, reference (tested after repetition)"
+abbrev pub withAttribute : Bool → ℕ → State → State
+withAttribute true k st = failed k Cause.RepeatedAttribute
+withAttribute false k st = st
+
+-- "each close tag has the innermost open element's prefix and local name"
+abbrev pub closed : Name → List Name → List Name → ℕ → State
+closed m [] a k = failed k Cause.MismatchedEnd
+closed m (n ∷ s) a k = pick (sameName m n) (going s a) (failed k Cause.MismatchedEnd)
+
+abbrev pub popped : List Name → List Name
+popped [] = []
+popped (n ∷ s) = s
+
+-- what the token of row k does
+abbrev pub step : ℕ → List Name → List Name → Tok → State
+step k s a (start n) = going (n ∷ s) []
+step k s a (attr m v) = withAttribute (seen m a) k (withValue (validated v) k (going s (m ∷ a)))
+step k s a gt = going s a
+step k s a (close m) = closed m s a k
+step k s a slash = going (popped s) a
+step k s a (text v) = withValue (validated v) k (going s a)
+step k s a misc = going s a
+step k s a bad = failed k Cause.TokenError
+
+unfoldable pub walk : ℕ → State → List Tok → State
+walk k st [] = st
+walk k (going s a) (t ∷ l) = walk (suc k) (step k s a t) l
+walk k (failed j c) (t ∷ l) = failed j c
+
+-- "unclosed element (row = row count)"
+abbrev pub verdict : ℕ → State → Drained
+verdict n (going [] a) = Drained.Passes
+verdict n (going (x ∷ s) a) = Drained.IllFormed n Cause.UnclosedElement
+verdict n (failed k c) = Drained.IllFormed k c
+
+-- of the tokens of a table that obeys the rules
+unfoldable pub walked : List Tok → Drained
+walked l = verdict (length l) (walk zero (going [] []) l)

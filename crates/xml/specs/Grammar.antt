@@ -1,0 +1,36 @@
+-- Documents by W3C XML 1.0 (fifth edition) and by nothing else: productions 1, 22, 27 and 39 to 44 over the tokens of a table.
+-- Each type relates a list and what is left of it: `Element l r` says that l begins with an element, and r is what follows it.
+-- What stands between the tokens, and characters written literally, are the tokenizer's.
+use Prim.Native.Nat.{ℕ}
+use mathlib.Core.List.{List, [], _∷_, List·Memᴰ}
+use Rattle.reference.specs.Xml.{EachReference}
+use Rattle.table.specs.Row.{Name, Tok, start, attr, gt, close, slash, text, misc, bad}
+
+-- (S Attribute)* of [40] and [44], with [41] Attribute ::= Name Eq AttValue: seen are the names before, and none comes twice (WFC: Unique
+-- Att Spec); each `&` of the value begins a Reference ([10] AttValue)
+pub data Attributes : List Name → List Tok → List Tok → Type 0 where
+  no-attribute : {seen : List Name} {r : List Tok} → Attributes seen r r
+  attribute : {seen : List Name} {m : Name} {v : List ℕ} {l r : List Tok} → (List·Memᴰ m seen → ⊥) → EachReference v → Attributes (m ∷ seen) l r
+      → Attributes seen (attr m v ∷ l) r
+
+mutual
+  -- [39] element ::= EmptyElemTag | STag content ETag; the end tag has the start tag's name (WFC: Element Type Match)
+  pub data Element : List Tok → List Tok → Type 0 where
+    empty-element : (n : Name) {l r : List Tok} → Attributes [] l (slash ∷ r) → Element (start n ∷ l) r
+    full-element : (n : Name) {l m r : List Tok} → Attributes [] l (gt ∷ m) → Content m (close n ∷ r) → Element (start n ∷ l) r
+
+  -- [43] content ::= CharData? ((element | Reference | CDSect | PI | Comment) CharData?)*; text is CharData and Reference together
+  pub data Content : List Tok → List Tok → Type 0 where
+    no-content : {r : List Tok} → Content r r
+    chars : {v : List ℕ} {l r : List Tok} → EachReference v → Content l r → Content (text v ∷ l) r
+    other : {l r : List Tok} → Content l r → Content (misc ∷ l) r
+    child : {l m r : List Tok} → Element l m → Content m r → Content l r
+
+-- [27] Misc*, and in the prolog [22] the declarations too: kind 7 rows
+pub data Miscs : List Tok → List Tok → Type 0 where
+  no-misc : {r : List Tok} → Miscs r r
+  one-misc : {l r : List Tok} → Miscs l r → Miscs (misc ∷ l) r
+
+-- [1] document ::= prolog element Misc*
+pub data Document : List Tok → Type 0 where
+  document : {l m k : List Tok} → Miscs l m → Element m k → Miscs k [] → Document l
