@@ -2,12 +2,14 @@
  *
  * Link libfalzheod.a, which `rt staticlib falzheod` writes to target/staticlib.
  *
- * What holds of every function here:
- * - Any content and any length is taken; nothing about the bytes is assumed.
- * - A pointer is never null, not even where its length is 0.
- * - `text`, `out` and `length` do not overlap.
- * - Nothing is kept after the call, nothing is allocated, and only the memory
- *   that a function is said to write is written.
+ * What the library promises: any content of `text` and of `out` is taken, and
+ * any length up to the size of an object; nothing about the bytes is assumed, so
+ * `out` need not be initialised. Nothing is kept after the call, nothing is
+ * allocated, and only the memory that a function is said to write is written.
+ *
+ * What the caller sees to, or the behaviour is undefined: each pointer is valid
+ * for its length and not null, not even where the length is 0; `text`, `out` and
+ * `length` do not overlap.
  */
 #ifndef FALZHEOD_H
 #define FALZHEOD_H
@@ -33,10 +35,12 @@ extern "C" {
 #define FALZHEOD_NO_ROOM UINT32_C(10)
 
 /* Replaces the references in `text` and writes the result to the front of
- * `out`: lt, gt, amp, quot, apos, `#` with decimal and `#x` with hexadecimal
- * digits. A number may begin with `+`, fits in 32 bits and is any Unicode scalar
- * value, 0 included. All other bytes are copied, UTF-8 or not. The result is
- * never longer than `text`, so `out_len == text_len` is always room enough.
+ * `out`: lt, gt, amp, quot, apos, `#` with decimal and `#x` (small x) with
+ * hexadecimal digits of either case. There is at least one digit, one `+` may
+ * stand right before the first, leading zeros are passed over; the value fits in
+ * 32 bits and is a Unicode scalar value, 0 included. All other bytes are copied,
+ * UTF-8 or not, and the result is UTF-8 where `text` is. It is never longer than
+ * `text`, so `out_len == text_len` is always room enough.
  *
  * Answers FALZHEOD_FINISHED, FALZHEOD_REFERENCE or FALZHEOD_NO_ROOM, tested in
  * this order: a bad reference, then room.

@@ -1,8 +1,8 @@
-//! Falzheod, an XML decoding core whose every answer is proved, for Rust.
+//! Falzheod, an XML decoding core, for Rust.
 //!
-//! The functions here lend slices to the static library `libfalzheod.a`. They
-//! take any bytes of any length, allocate nothing unless they say so, and do not
-//! panic.
+//! The functions here lend slices to the static library `libfalzheod.a`, whose
+//! every answer is proved; this crate is the thin part that is not. They take any
+//! bytes of any length, allocate nothing unless they say so, and do not panic.
 //!
 //! ```
 //! let text = b"ring width 3 &lt; 4 &#xB5;m";
@@ -17,8 +17,11 @@ pub mod sys;
 use std::fmt;
 
 /// Why an operation did not finish. Nothing is written where it refuses.
+///
+/// More numbers come with the readings, so a `match` needs a last arm.
 #[derive(Clone, Copy, Debug, PartialEq, Eq, Hash)]
 #[repr(u32)]
+#[non_exhaustive]
 pub enum Refusal {
     /// A reference is bad: not ended, of an unknown name, or with a number that
     /// is not taken.
@@ -64,8 +67,8 @@ fn finished(number: u32) -> Result<(), Refusal> {
 /// and gives its length.
 ///
 /// The references are `lt`, `gt`, `amp`, `quot`, `apos`, `#` with decimal and `#x`
-/// with hexadecimal digits, with or without a `+`, for any Unicode scalar value. Other
-/// bytes are copied, UTF-8 or not. Bytes of `out` behind the result are untouched.
+/// with hexadecimal digits, with or without one `+` right before the first digit, for
+/// any Unicode scalar value. Other bytes are copied, UTF-8 or not. Bytes of `out` behind the result are untouched.
 /// A bad reference is tested before room; a refusal writes nothing.
 ///
 /// ```
@@ -111,7 +114,8 @@ pub fn unescape_to_vec(text: &[u8]) -> Result<Vec<u8>, Refusal> {
 /// Tests every reference in `text` as XML 1.0 has it: one of the five names, or
 /// digits without a sign whose value is a character of XML 1.0, 2.2.
 ///
-/// This is stricter than [`unescape`]: what it takes, `unescape` takes.
+/// This is stricter than [`unescape`]: what it takes, `unescape` takes. Its only
+/// refusal is [`Refusal::Reference`].
 ///
 /// ```
 /// assert_eq!(falzheod::validate_references(b"&#65;&quot;"), Ok(()));

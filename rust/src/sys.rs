@@ -1,5 +1,10 @@
 //! The functions of the static library, as include/falzheod.h declares and
 //! describes them. The functions of the crate are the safe way to call them.
+//!
+//! # Safety
+//!
+//! Each pointer is valid for its length and not null, not even where the length
+//! is 0; `text`, `out` and `length` do not overlap.
 
 extern "C" {
     /// Replaces references. Answers 0, 7 or 10 and sets `length`.

@@ -15,6 +15,9 @@ abbrev pub ascii : String → List ℕ
 ascii text.[] = []
 ascii (text._∷_ c s) = code c ∷ ascii s
 
+pub ascii-example : ascii "&#x;lt" ≡ 38 ∷ 35 ∷ 120 ∷ 59 ∷ 108 ∷ 116 ∷ []
+ascii-example = refl
+
 -- two lists are the same
 unfoldable pub sameb : List ℕ → List ℕ → Bool
 sameb [] [] = true

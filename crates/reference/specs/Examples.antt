@@ -30,3 +30,21 @@ pub examples :
     ∷ []
 unfolding computed
 examples = refl
+
+-- where unescaping takes more than validation, and where it does not: the sign, in each base, once and first; no minus; small x alone
+pub lenient-examples :
+    map both ("&#x+41;" ∷ "&#++65;" ∷ "&#+;" ∷ "&#-0;" ∷ "&#+x41;" ∷ "&#X41;" ∷ "&#;" ∷ "&#x;" ∷ "&#0000000000065;" ∷ "&#4294967296;" ∷ "x&lt;&lt" ∷ [])
+    ≡ (BadReference gives bytes (ascii "A"))
+    ∷ (BadReference gives bad 0)
+    ∷ (BadReference gives bad 0)
+    ∷ (BadReference gives bad 0)
+    ∷ (BadReference gives bad 0)
+    ∷ (BadReference gives bad 0)
+    ∷ (BadReference gives bad 0)
+    ∷ (BadReference gives bad 0)
+    ∷ (Valid gives bytes (ascii "A"))
+    ∷ (BadReference gives bad 0)
+    ∷ (BadReference gives bad 5)
+    ∷ []
+unfolding computed
+lenient-examples = refl

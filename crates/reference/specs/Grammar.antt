@@ -442,7 +442,7 @@ each-complete at zero (x ∷ s) h = go (eqb x 38) refl (λ k. each-complete (suc
         rw (reference-complete (w .is) s (w .rest) (w .cut)) (front (encode (w .char)) (length (w .front) - 1) ih)
     go false q ih = front (x ∷ []) zero ih
 
--- ---- law 1: `validate` takes a text exactly when each `&` of it begins a Reference
+-- ---- `validate` takes a text exactly when each `&` of it begins a Reference
 pub validate-sound : (t : List ℕ) → validated t ≡ Validated.Valid → EachReference t
 unfolding validated references verdict NoAmp
 validate-sound t e = go (decode true 0 0 t) refl e

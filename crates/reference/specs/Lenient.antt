@@ -1,4 +1,4 @@
--- What `validate` takes, `unescape` takes, and the bytes are those that validation passed over.
+-- What `validate` takes, `unescape` takes, and it replaces each reference by the character that the strict reading of it names.
 use Prim.Native.Nat.{ℕ, zero, suc, _+_, _≤_}
 use mathlib.Core.Path.{_≡_, refl, sym, _∙_, ap}
 use mathlib.Core.Bool.{Bool, true, false}
@@ -97,11 +97,16 @@ strict-decode at zero (b ∷ s) l e = go (eqb b 38) (reference true s) (referenc
     go true Reference.Bad q h ih e = let z : _≡_ {A = ℕ} 0 1 = cc in absurd (omega arith)
     go false r q h ih e = rest (b ∷ []) zero ih e
 
--- law 2: what `validate` takes, `unescape` takes
+-- the strict reading and unescaping come to the same bytes
+pub valid-same : (t l : List ℕ) → references t ≡ bytes l → unescaped t ≡ bytes l
+unfolding references unescaped
+valid-same t l e = strict-decode 0 0 t l e
+
+-- what `validate` takes, `unescape` takes
 pub valid-unescapes : (t : List ℕ) → validated t ≡ Validated.Valid → (l : List ℕ) × (unescaped t ≡ bytes l)
-unfolding validated unescaped references verdict
-valid-unescapes t e = go (decode true 0 0 t) refl e
+unfolding validated verdict
+valid-unescapes t e = go (references t) refl e
   where
-    go : (o : Out) → decode true 0 0 t ≡ o → verdict o ≡ Validated.Valid → (l : List ℕ) × (decode false 0 0 t ≡ bytes l)
-    go (bytes l) q e = (l, strict-decode 0 0 t l q)
+    go : (o : Out) → references t ≡ o → verdict o ≡ Validated.Valid → (l : List ℕ) × (unescaped t ≡ bytes l)
+    go (bytes l) q e = (l, valid-same t l q)
     go (bad at) q e = let z : _≡_ {A = ℕ} 0 1 = cc in absurd (omega arith)

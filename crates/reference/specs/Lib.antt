@@ -5,6 +5,7 @@ pub mod Taken
 pub mod Walk
 pub mod Lenient
 pub mod Result
+pub mod Answer
 pub mod Xml
 pub mod Grammar
 pub mod All

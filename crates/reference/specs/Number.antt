@@ -11,7 +11,7 @@ use Rattle.reference.specs.declared.Number.the-variants.{Value, No}
 unfoldable pub digit : ℕ → ℕ
 digit x = pick (within 48 57 x) (x - 48) (pick (within 65 70 x) (x - 55) (pick (within 97 102 x) (x - 87) 16))
 
--- the number that acc, then the digits of the list spell in the base; none where a byte is no digit of the base
+-- the number that acc, then the digits of the list spell in a base of at most 16; none where a byte is no digit of the base
 unfoldable pub number : ℕ → ℕ → List ℕ → Number
 number base acc [] = Value acc
 number base acc (b ∷ s) = pick (ltb (digit b) base) (number base (acc * base + digit b) s) No

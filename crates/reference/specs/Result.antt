@@ -18,7 +18,7 @@ use Rattle.reference.specs.Taken.{Taken, taken}
 use Rattle.reference.specs.Lenient.{before-is}
 use Rattle.reference.specs.declared.Reference.{Reference}
 
--- ---- law 4: a text without `&` is unescaped to itself
+-- ---- a text without `&` is unescaped to itself
 unescaped-plain : (strict : Bool) (at : ℕ) (s : List ℕ) → ((k : ℕ) → getD s k 0 ≡ 38 → ⊥) → decode strict at 0 s ≡ bytes s
 unfolding decode before
 unescaped-plain strict at [] p = refl
@@ -28,7 +28,7 @@ pub plain-unescapes : (t : List ℕ) → ((k : ℕ) → getD t k 0 ≡ 38 → �
 unfolding unescaped
 plain-unescapes t p = unescaped-plain false 0 t p
 
--- ---- law 3: the result is never longer than the text
+-- ---- the result is never longer than the text
 AtMost : ℕ → List ℕ → Type 0
 AtMost n l = length l ≤ n
 
@@ -57,12 +57,12 @@ shorter strict at zero (b ∷ s) l h e = go (eqb b 38) (reference strict s) refl
     go true Reference.Bad q e ih = let z : _≡_ {A = ℕ} 0 1 = cc in absurd (omega arith)
     go false r q e ih = rest (b ∷ []) zero (omega arith) (omega arith) e ih
 
--- law 3: never longer than its input
+-- never longer than its input
 pub unescaped-shorter : (t l : List ℕ) → unescaped t ≡ bytes l → length l ≤ length t
 unfolding unescaped
 unescaped-shorter t l e = omega (arith, shorter false 0 0 t l (omega arith) e)
 
--- ---- law 3: the result is UTF-8 when the text is
+-- ---- the result is UTF-8 when the text is
 -- what is decoded while the ranges rs are due
 Fits : List Range → Out → Type 0
 Fits rs (bytes l) = walk rs l ≡ true
@@ -123,7 +123,7 @@ utf8-decode strict at (b ∷ s) zero rs h w = go (eqb b 38) (reference strict s)
     go true Reference.Bad e q ih = tt
     go false r e q ih = utf8-copy b s rs (decode strict (suc at) zero s) h w (λ next g v. ih zero next g v)
 
--- law 3: UTF-8 when its input is
+-- UTF-8 when its input is
 pub unescaped-utf8 : (t l : List ℕ) → isUtf8 t ≡ true → unescaped t ≡ bytes l → isUtf8 l ≡ true
 unfolding unescaped isUtf8 Fits high
 unescaped-utf8 t l u e = rw e at (utf8-decode false 0 t 0 [] refl u)

@@ -1,4 +1,4 @@
--- Scalar values and their bytes: the Unicode Standard, 3.9, D76 and Table 3-6, "UTF-8 Bit Distribution".
+-- Scalar values and their bytes: the Unicode Standard (version 15.0), 3.9, D76 and Table 3-6, "UTF-8 Bit Distribution".
 use Prim.Native.Nat.{ℕ, _+_, _/_, _%_, _≤_}
 use mathlib.Core.Path.{_≡_}
 use mathlib.Core.Bool.{Bool, true}
@@ -11,7 +11,7 @@ use Rattle.lists.specs.Tests.{pick, within}
 unfoldable pub scalar : ℕ → Bool
 scalar n = pick (leb n 0xD7FF) true (within 0xE000 0x10FFFF n)
 
--- Table 3-6
+-- Table 3-6, by its rows; of a number that is no scalar value the rows say nothing, and this follows their pattern
 unfoldable pub encode : ℕ → List ℕ
 encode c =
     pick (ltb c 0x80) (c ∷ [])

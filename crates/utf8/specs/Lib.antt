@@ -5,3 +5,4 @@ pub mod Agree
 pub mod Cut
 pub mod Chars
 pub mod Scan
+pub mod Examples

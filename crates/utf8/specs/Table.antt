@@ -1,4 +1,4 @@
--- Well-formed UTF-8: the Unicode Standard, 3.9, Table 3-7, "Well-Formed UTF-8 Byte Sequences".
+-- Well-formed UTF-8: the Unicode Standard (version 15.0), 3.9, Table 3-7, "Well-Formed UTF-8 Byte Sequences".
 use Prim.Native.Nat.{ℕ}
 use mathlib.Core.Path.{_≡_}
 use mathlib.Core.Bool.{Bool, true, false}

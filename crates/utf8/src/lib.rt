@@ -23,7 +23,7 @@ pub fn is_scalar(n: u32) -> bool
     n <= 0x10ffff
 }
 
-// How many bytes a scalar value takes.
+// How many bytes `encode` gives.
 pub fn encoded_len(c: u32) -> usize
     ensures { λ r. ⌜ EncodedLen c r ⌝ }
 {
@@ -39,7 +39,7 @@ pub fn encoded_len(c: u32) -> usize
     4
 }
 
-// Writes the bytes of a scalar value at a place, and answers the place after them.
+// Writes the bytes of a scalar value (or of any number below 0x110000) at a place, and answers the place after them.
 pub fn put_char(out: &mut [u8], at: usize, c: u32) -> usize
     requires { ⌜ (at + length (encode c) ≤ length (now out)) × (c < 0x110000) ⌝ }
     ensures { λ r. ⌜ Stored (now (out .entry)) (now (out .exit)) at (encode c) r ⌝ }
