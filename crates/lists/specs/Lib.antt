@@ -3,3 +3,4 @@ pub mod Bytes
 pub mod Parts
 pub mod Overwrite
 pub mod Find
+pub mod Decide

@@ -1,3 +1,5 @@
 pub mod Row
 pub mod Rules
 pub mod Piece
+pub mod Test
+pub mod Examples
