@@ -5,3 +5,6 @@ pub mod Tests
 pub mod Fault
 pub mod First
 pub mod Means
+pub mod Order
+pub mod Pass
+pub mod Examples

@@ -57,6 +57,13 @@ member-seen {m} (List·Memᴰ·tail {x = n} i) = go (sameName m n) (member-seen 
 pub not-member : (m : Name) (l : List Name) → seen m l ≡ false → List·Memᴰ m l → ⊥
 not-member m l e i = false-true (sym e ∙ member-seen i)
 
+pub not-seen : (m : Name) (l : List Name) → (List·Memᴰ m l → ⊥) → seen m l ≡ false
+not-seen m l f = go (seen m l) refl
+  where
+    go : (t : Bool) → seen m l ≡ t → t ≡ false
+    go true e = absurd (f (seen-member m l e))
+    go false e = refl
+
 pub not-named : (m n : Name) → sameName m n ≡ false → m ≡ n → ⊥
 not-named m n e q = false-true (sym e ∙ (rw q (name-same n)))
 
