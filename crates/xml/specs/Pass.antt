@@ -225,7 +225,55 @@ pub ruled-document : (toks : List Tok) → ruled before toks ≡ true → walked
 unfolding walked
 ruled-document toks h e = to-grammar zero toks prolog [] h (passes-ends (length toks) (walk zero (going [] []) toks) e)
 
--- ---- THEOREM 1, of a table that obeys the rules: the walk passes exactly the documents, and the lists with no element
+-- ---- documents are in order
+ruled-attributes : {a : List Name} {l r : List Tok} → Attributes a l r → (d : ℕ) → ruled (inTag d) r ≡ true → ruled (inTag d) l ≡ true
+unfolding ruled
+ruled-attributes no-attribute d h = h
+ruled-attributes (attribute f e x) d h = ruled-attributes x d h
+
+-- where an element may begin that has d open around it
+abbrev begins : ℕ → Phase
+begins zero = before
+begins (suc d) = within d
+
+ruled-start : (d : ℕ) (n : Name) (l : List Tok) → ruled (inTag d) l ≡ true → ruled (begins d) (start n ∷ l) ≡ true
+unfolding ruled
+ruled-start zero n l h = h
+ruled-start (suc d) n l h = h
+
+mutual
+  unfolding ruled
+
+  ruled-element : {l r : List Tok} → Element l r → (d : ℕ) → ruled (back d) r ≡ true → ruled (begins d) l ≡ true
+  ruled-element (empty-element n {l = l} x) d h = ruled-start d n l (ruled-attributes x d h)
+  ruled-element (full-element n {l = l} x c) d h = ruled-start d n l (ruled-attributes x d (ruled-content c d h))
+
+  ruled-content : {l r : List Tok} → Content l r → (d : ℕ) → ruled (within d) r ≡ true → ruled (within d) l ≡ true
+  ruled-content no-content d h = h
+  ruled-content (chars e c) d h = ruled-content c d h
+  ruled-content (other c) d h = ruled-content c d h
+  ruled-content (child e c) d h = ruled-element e (suc d) (ruled-content c d h)
+
+ruled-before : {l r : List Tok} → Miscs l r → ruled before r ≡ true → ruled before l ≡ true
+unfolding ruled
+ruled-before no-misc h = h
+ruled-before (one-misc m) h = ruled-before m h
+
+ruled-behind : {l : List Tok} → Miscs l [] → ruled behind l ≡ true
+unfolding ruled
+ruled-behind no-misc = refl
+ruled-behind (one-misc m) = ruled-behind m
+
+pub document-ruled : {toks : List Tok} → Document toks ⊎ Miscs toks [] → ruled before toks ≡ true
+unfolding ruled
+document-ruled (inl (document m e q)) = ruled-before m (ruled-element e zero (ruled-behind q))
+document-ruled (inr m) = ruled-before m refl
+
+-- ---- THEOREM 1, of the tokens alone: those that are in order and pass the walk are the documents, and the lists with no element
+pub ruled-document-is : (toks : List Tok) → ((ruled before toks ≡ true) × (walked toks ≡ Drained.Passes)) ↔ (Document toks ⊎ Miscs toks [])
+ruled-document-is toks = (λ h. ruled-document toks (h .0) (h .1), λ d. (document-ruled d, document-passes d))
+
+-- THEOREM 1, of a table that obeys the rules: the walk passes exactly the documents, and the lists with no element
 pub walk-document-is : {body table : List ℕ} {final : ℕ} → TableRules body table final
     → walked (toksOf body (rowsOf table)) ≡ Drained.Passes ↔ (Document (toksOf body (rowsOf table)) ⊎ Miscs (toksOf body (rowsOf table)) [])
 walk-document-is r = (ruled-document _ (table-ruled r), document-passes)
