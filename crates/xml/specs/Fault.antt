@@ -1,8 +1,8 @@
 -- What is wrong with a token, and where tokens are cut: laws of `Fault` and `Faultless`, for the theorems on the walk.
-use Prim.Native.Nat.{ℕ, zero, suc}
+use Prim.Native.Nat.{ℕ}
 use mathlib.Core.Path.{_≡_, refl, sym, ap, _∙_}
 use mathlib.Core.Bool.{Bool, true, false}
-use mathlib.Core.List.{List, [], _∷_, _++_, List·Memᴰ, append-nil, append-assoc, cons≢nil, head-eq-of-cons-eq, tail-eq-of-cons-eq}
+use mathlib.Core.List.{List, [], _∷_, _++_, cons≢nil, head-eq-of-cons-eq, tail-eq-of-cons-eq}
 use native.Mathlib.Omega.{arith}
 use lib.ListN.{length, length-append}
 use Rattle.lists.specs.Tests.{pick}
@@ -10,9 +10,9 @@ use Rattle.reference.specs.Text.{validated}
 use Rattle.reference.specs.declared.Validated.{Validated}
 use Rattle.table.specs.Row.{Name, Tok, start, attr, gt, close, slash, text, misc, bad}
 use Rattle.xml.specs.declared.Cause.{Cause}
-use Rattle.xml.specs.Passed.{opens, openAfter, attributes, namesAfter, Fault, token-error, mismatched-end, repeated-attribute, bad-attribute, bad-text, Faultless, WellFormed}
-use Rattle.xml.specs.Drain.{State, going, failed, sameName, seen, step, closed, popped, withAttribute, withValue, walk}
-use Rattle.xml.specs.Tests.{same-name, name-same, seen-member, not-member, not-named, not-both}
+use Rattle.xml.specs.Passed.{opens, openAfter, attributes, namesAfter, Fault, token-error, mismatched-end, repeated-attribute, bad-attribute, bad-text, Faultless}
+use Rattle.xml.specs.Drain.{State, going, failed, sameName, seen, step, closed, popped, withAttribute, withValue}
+use Rattle.xml.specs.Tests.{same-name, seen-member, not-member, not-named, not-both}
 
 -- ---- two cuts of one list are the same cut, or one lies before the other
 pub data Cuts (a : List Tok) (t : Tok) (b : List Tok) (s : Tok) : Type 0 where

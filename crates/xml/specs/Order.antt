@@ -7,8 +7,8 @@ use native.Mathlib.Omega.{arith}
 use lib.Dec.{eqb}
 use lib.ListN.{length}
 use Rattle.lists.specs.Tests.{pick, false-true}
-use Rattle.table.specs.Row.{Row, rowsOf, Name, Tok, start, attr, gt, close, slash, text, misc, bad, tokAs, tokOf, toksOf}
-use Rattle.table.specs.Rules.{among, Place, atFirst, after, RowRules, EachRow, none, row, TableRules}
+use Rattle.table.specs.Row.{Row, rowsOf, Name, Tok, start, attr, gt, close, slash, text, misc, bad, tokAs, toksOf}
+use Rattle.table.specs.Rules.{among, Place, RowRules, EachRow, none, row, TableRules}
 
 -- where a token stands: before the root; in a start tag, or in content, with d elements open around the innermost; after the root;
 -- after a token error; or out of order
