@@ -70,3 +70,8 @@ verdict n (failed k c) = Drained.IllFormed k c
 -- of the tokens of a table that obeys the rules
 unfoldable pub walked : List Tok → Drained
 walked l = verdict (length l) (walk zero (going [] []) l)
+
+-- "1; then 9 ..", by a decision of the rules
+abbrev pub drainedBy : {P : Type 0} → Dec P → List Tok → Drained
+drainedBy (yes rules) l = walked l
+drainedBy (no broken) l = Drained.Table

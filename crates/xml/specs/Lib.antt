@@ -1,3 +1,10 @@
 pub mod Grammar
 pub mod Drain
 pub mod Passed
+pub mod Tests
+pub mod Fault
+pub mod First
+pub mod Means
+pub mod Order
+pub mod Pass
+pub mod Examples
