@@ -14,8 +14,7 @@ use Rattle.lists.specs.Bytes.{sameb}
 use Rattle.reference.specs.Text.{validated}
 use Rattle.reference.specs.declared.Validated.{Validated}
 use Rattle.table.specs.Row.{Row, Name, cut, nameOf, valueOf}
-use Rattle.table.specs.Flat.{rowAt}
-use Rattle.table.specs.Spans.{SpansIn}
+use Rattle.table.specs.Flat.{rowAt, SpansIn}
 use Rattle.xml.specs.Drain.{sameName, seen}
 use Rattle.xml.specs.declared.Cause.{Cause}
 use Rattle.decode.specs.declared.Fault.{Fault}
@@ -26,7 +25,7 @@ pub record InTable (t : List ℕ) (k : ℕ) : Type 0 where
 
 -- the spans of each row lie in the body
 pub record Readable (body t : List ℕ) : Type 0 where
-  pub each : (k : ℕ) → k * 8 + 8 ≤ length t → SpansIn body (rowAt t k)
+  pub each : (k : ℕ) → k * 8 + 8 ≤ length t → SpansIn body t k
 
 abbrev pub nameAt : List ℕ → List ℕ → ℕ → Name
 nameAt body t k = nameOf body (rowAt t k)

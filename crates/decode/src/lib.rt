@@ -3,12 +3,13 @@
 ghost use mathlib.Core.Path.{_≡_};
 ghost use Prim.Native.Nat.{_+_, _*_, _≤_, _<_};
 ghost use lib.ListN.{length, getD};
-ghost use Rattle.table.specs.Row.{cut};
-ghost use Rattle.xml.specs.Drain.{sameName, seen};
+ghost use Rattle.table.specs.Row.{cut, rowsOf, toksOf};
+ghost use Rattle.xml.specs.Drain.{sameName, seen, walked};
+ghost use Rattle.decode.specs.Walk.{Placed, faultOf, tokAt, topOf, Walkable};
 ghost use Rattle.decode.specs.Names.{nameMatches, named};
 ghost use Rattle.decode.specs.Rows.{Readable, InTable, SpanAt, nameAt, namesBack, valueFault, valueAt};
-use table::field;
 use reference::Validated;
+use table::field;
 use xml::Cause;
 use xml::Drained;
 
@@ -83,5 +84,89 @@ fn value_fault(body: &[u8], rows: &[u32], k: usize) -> Fault
     match unescape::validate_references(span(body, rows, k, 5)) {
         Validated::Valid => Fault::Nothing,
         Validated::BadReference => Fault::Is(Cause::BadReference),
+    }
+}
+
+// What is wrong with row k, of this kind, in or after the start tag of row `tag`, where the innermost open element starts in row `top`.
+fn row_fault(body: &[u8], rows: &[u32], k: usize, tag: usize, top: usize) -> Fault
+    requires { ⌜ Readable (now body) (now rows) ⌝ }
+    requires { ⌜ InTable (now rows) k × InTable (now rows) top ⌝ }
+    requires { ⌜ Placed (now rows) tag k ⌝ }
+    ensures { λ r. ⌜ r ≡ faultOf (nameAt (now (body .entry)) (now (rows .entry)) top) (namesBack (now (body .entry)) (now (rows .entry)) tag k) (tokAt (now (body .entry)) (now (rows .entry)) k) ⌝ }
+{
+    let kind = field(rows, k, 0);
+    if kind == 2 {
+        if is_repeated(body, rows, tag, k) {
+            return Fault::Is(Cause::RepeatedAttribute);
+        }
+        return value_fault(body, rows, k);
+    }
+    if kind == 4 {
+        if same_name(body, rows, k, top) {
+            return Fault::Nothing;
+        }
+        return Fault::Is(Cause::MismatchedEnd);
+    }
+    if kind == 6 {
+        return value_fault(body, rows, k);
+    }
+    if kind == 8 {
+        return Fault::Is(Cause::TokenError);
+    }
+    Fault::Nothing
+}
+
+// The start row of the innermost open element, or row 0.
+fn top_of(opened: &[usize; 256], depth: usize) -> usize
+    requires { ⌜ depth ≤ 256 ⌝ }
+    ensures { λ r. ⌜ r ≡ topOf (now (opened .entry)) depth ⌝ }
+{
+    if depth == 0 {
+        return 0;
+    }
+    opened[depth - 1]
+}
+
+// The walk of the drain, over the rows of a table that obeys the rules.
+fn walk(body: &[u8], rows: &[u32]) -> Drained
+    requires { ⌜ Walkable (now body) (now rows) ⌝ }
+    ensures { λ r. ⌜ r ≡ walked (toksOf (now (body .entry)) (rowsOf (now (rows .entry)))) ⌝ }
+{
+    let n = rows.len() / 8;
+    let mut opened = [0usize; 256];
+    let mut depth = 0;
+    let mut tag = 0;
+    let mut k = 0;
+    while k < n {
+        let top = top_of(&opened, depth);
+        match row_fault(body, rows, k, tag, top) {
+            Fault::Is(cause) => {
+                return Drained::IllFormed { row: k, cause };
+            }
+            Fault::Nothing => {
+                let kind = field(rows, k, 0);
+                if kind == 1 {
+                    opened[depth] = k;
+                    depth += 1;
+                    tag = k;
+                    k += 1;
+                } else if kind == 4 {
+                    depth -= 1;
+                    k += 1;
+                } else if kind == 5 {
+                    depth -= 1;
+                    k += 1;
+                } else {
+                    k += 1;
+                }
+            }
+        }
+    }
+    if depth == 0 {
+        return Drained::Passes;
+    }
+    Drained::IllFormed {
+        row: n,
+        cause: Cause::UnclosedElement,
     }
 }

@@ -2,9 +2,6 @@ use Prim.Native.Nat.{_-_}
 use Rattle.decode.specs.Rows.{RepeatAt, name-laws}
 use Rattle.decode.proofs.is_repeated.Statement.{statement}
 use Rattle.decode.proofs.is_repeated.Tie as tie
-use Rattle.decode.proofs.is_repeated.Reads as reads
-use Rattle.decode.proofs.is_repeated.Lts as lts
-use Rattle.decode.proofs.same_name.Reads as same-name-reads
 
 abbrev Inv-loop : tie.InvT-loop
 Inv-loop body rows tag k j₀ j = RepeatAt body rows tag k j
@@ -12,35 +9,27 @@ Inv-loop body rows tag k j₀ j = RepeatAt body rows tag k j
 abbrev μ-loop : tie.MeasureT-loop
 μ-loop body rows tag k j₀ j = j
 
--- src/lib.rt:68:5
 loop-holds : tie.Need-loop-holds Inv-loop μ-loop
 loop-holds c = search name-laws
 
--- src/lib.rt:68:11
 add-loop : tie.Need-add-loop Inv-loop μ-loop
 add-loop c = search name-laws
 
--- src/lib.rt:69:9
 sub-j : tie.Need-sub-j Inv-loop μ-loop
 sub-j c = search name-laws
 
--- src/lib.rt:70:12
 same-name-requires : tie.Need-same-name-requires Inv-loop μ-loop
 same-name-requires c κs = search name-laws
 
--- src/lib.rt:71:13
 returns : tie.Need-returns Inv-loop μ-loop
 returns c = search name-laws
 
--- src/lib.rt:68:5
 loop-less : tie.Need-loop-less Inv-loop μ-loop
 loop-less c = search name-laws
 
--- src/lib.rt:68:5
 loop-again : tie.Need-loop-again Inv-loop μ-loop
 loop-again c = search name-laws
 
--- src/lib.rt:62:1
 returns-2 : tie.Need-returns-2 Inv-loop μ-loop
 returns-2 c = search name-laws
 

@@ -2,64 +2,46 @@ use Rattle.decode.specs.Names.{match-laws}
 use borrow.Author.Needs.{needs}
 use Rattle.decode.proofs.matches.Statement.{statement}
 use Rattle.decode.proofs.matches.Tie as tie
-use Rattle.decode.proofs.matches.Reads as reads
-use Rattle.decode.proofs.matches.Lts as lts
-use Rattle.slices.proofs.find.Reads as find-reads
-use Rattle.slices.proofs.same.Reads as same-reads
 
--- src/lib.rt:13:9
 find-requires : tie.Need-find-requires
 find-requires c κs = search needs
 
--- src/lib.rt:15:9
 same-requires : tie.Need-same-requires
 same-requires c κs = search needs
 
--- src/lib.rt:15:9
 returns : tie.Need-returns
 returns c = search match-laws
 
--- src/lib.rt:17:16
 add-from : tie.Need-add-from
 add-from c = search needs
 
--- src/lib.rt:18:28
 sub-same : tie.Need-sub-same
 sub-same c = search needs
 
--- src/lib.rt:18:28
 part-same-start : tie.Need-part-same-start
 part-same-start c = search needs
 
--- src/lib.rt:18:28
 part-same-end : tie.Need-part-same-end
 part-same-end c = search needs
 
--- src/lib.rt:18:8
 same-requires-2 : tie.Need-same-requires-2
 same-requires-2 c κs = search needs
 
--- src/lib.rt:19:37
 sub-same-2 : tie.Need-sub-same-2
 sub-same-2 c = search needs
 
--- src/lib.rt:19:37
 part-same-start-2 : tie.Need-part-same-start-2
 part-same-start-2 c = search needs
 
--- src/lib.rt:19:37
 part-same-end-2 : tie.Need-part-same-end-2
 part-same-end-2 c = search needs
 
--- src/lib.rt:19:9
 same-requires-3 : tie.Need-same-requires-3
 same-requires-3 c κs = search needs
 
--- src/lib.rt:19:9
 returns-2 : tie.Need-returns-2
 returns-2 c = search match-laws
 
--- src/lib.rt:10:1
 returns-3 : tie.Need-returns-3
 returns-3 c = search match-laws
 

@@ -2,40 +2,28 @@ use Rattle.decode.specs.Rows.{name-laws}
 use borrow.Author.Needs.{needs}
 use Rattle.decode.proofs.same_name.Statement.{statement}
 use Rattle.decode.proofs.same_name.Tie as tie
-use Rattle.decode.proofs.same_name.Reads as reads
-use Rattle.decode.proofs.same_name.Lts as lts
-use Rattle.decode.proofs.span.Reads as span-reads
-use Rattle.slices.proofs.same.Reads as same-reads
 
--- src/lib.rt:55:21
 span-requires : tie.Need-span-requires
 span-requires c κs = search name-laws
 
--- src/lib.rt:55:45
 span-requires-2 : tie.Need-span-requires-2
 span-requires-2 c κs = search name-laws
 
--- src/lib.rt:55:8
 same-requires : tie.Need-same-requires
 same-requires c κs = search needs
 
--- src/lib.rt:56:29
 span-requires-3 : tie.Need-span-requires-3
 span-requires-3 c κs = search name-laws
 
--- src/lib.rt:56:53
 span-requires-4 : tie.Need-span-requires-4
 span-requires-4 c κs = search name-laws
 
--- src/lib.rt:56:9
 same-requires-2 : tie.Need-same-requires-2
 same-requires-2 c κs = search needs
 
--- src/lib.rt:56:9
 returns : tie.Need-returns
 returns c = search name-laws
 
--- src/lib.rt:50:1
 returns-2 : tie.Need-returns-2
 returns-2 c = search name-laws
 

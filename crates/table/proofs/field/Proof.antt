@@ -3,30 +3,22 @@ use native.Mathlib.Omega.{arith}
 use borrow.Author.Needs.{needs}
 use Rattle.table.proofs.field.Statement.{statement}
 use Rattle.table.proofs.field.Tie as tie
-use Rattle.table.proofs.field.Reads as reads
-use Rattle.table.proofs.field.Lts as lts
 
--- src/lib.rt:12:10
 mul-result : tie.Need-mul-result
 mul-result c = search needs
 
--- src/lib.rt:12:10
 add-result : tie.Need-add-result
 add-result c = search needs
 
--- src/lib.rt:12:5
 mul-result-2 : tie.Need-mul-result-2
 mul-result-2 c = search needs
 
--- src/lib.rt:12:5
 shared-slice-read-result : tie.Need-shared-slice-read-result
 shared-slice-read-result c = search needs
 
--- src/lib.rt:12:5
 cast-result : tie.Need-cast-result
 cast-result c = omega (arith, c .shared-slice-known .given (c .before .args .k * 8 + c .before .args .j))
 
--- src/lib.rt:8:1
 returns : tie.Need-returns
 returns c = search needs
 
