@@ -7,3 +7,4 @@ pub mod Examples
 pub mod Spans
 pub mod Bytes
 pub mod Order
+pub mod Pass
