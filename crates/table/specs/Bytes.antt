@@ -5,6 +5,7 @@ use mathlib.Core.Bool.{Bool, true, false}
 use mathlib.Core.List.{List, [], _∷_}
 use native.Mathlib.Omega.{arith}
 use borrow.Author.Needs.{needs}
+use borrow.Author.Tests.{not-true, not-false}
 use borrow.Author.Tests.{eq-eqb, ne-eqb, leb-true, leb-false}
 use lib.Dec.{eqb, leb, ltb}
 use lib.ListN.{length, getD}
@@ -74,7 +75,7 @@ module _ {body : List ℕ} {low at i : ℕ} (b : BackAt body at i) where
         none = λ q k l. b .none k (omega arith);
       }
 
-pub ruleset back-laws = (needs, back-start, back-turn, back-found, back-none)
+pub ruleset back-laws = (needs, not-true, not-false, back-start, back-turn, back-found, back-none)
 
 -- ---- where a tag begins
 pub record Begins (body : List ℕ) (previous : ℕ) (t : List ℕ) (k : ℕ) : Type 0 where
@@ -115,7 +116,7 @@ module _ (body t : List ℕ) (k : ℕ) {low at i : ℕ} (e : at ≡ getD t (k * 
         let h : 0 < getD t (k * 8 + 2) 0 = omega (arith, filled n z) in
         says-same (λ q. begins (λ o. omega arith)) (λ b. rw (place, g) (b .prefix h)) (says-ltb i m)
 
-pub ruleset begins-laws = (needs, begins-none, begins-bare, begins-before)
+pub ruleset begins-laws = (needs, not-true, not-false, begins-none, begins-bare, begins-before)
 
 -- ---- how a row ends
 pub record Ends (body : List ℕ) (kind own : ℕ) : Type 0 where
@@ -150,9 +151,15 @@ module _ (body : List ℕ) (kind own : ℕ) {a : Bool} (is : a ≡ among (3 ∷ 
       pub ends-slash : kind ≡ 5 → 2 ≤ own → Says (Ends body kind own) (eqb (getD body (own - 2) 0) 47)
       ends-slash e l = says-same (λ q. record { gt = λ e. (h, g); slash = λ e. (l, q) }) (λ s. (s .slash e) .1) (says-eqb (getD body (own - 2) 0) 47)
 
-pub ruleset ends-laws = (needs, ends-other, ends-none, ends-differs, ends-gt, ends-short, ends-slash)
+pub ruleset ends-laws = (needs, not-true, not-false, ends-other, ends-none, ends-differs, ends-gt, ends-short, ends-slash)
 
 -- ---- both
+-- what they read of the body stands in it
+pub record BytesIn (body : List ℕ) (own : ℕ) (t : List ℕ) (k : ℕ) : Type 0 where
+  pub row : k * 8 + 8 ≤ length t
+  pub local : getD t (k * 8 + 3) 0 ≤ length body
+  pub ends : own ≤ length body
+
 pub record Bytes (body : List ℕ) (kind previous own : ℕ) (t : List ℕ) (k : ℕ) : Type 0 where
   pub tag : among (1 ∷ 4 ∷ []) kind ≡ true → Begins body previous t k
   pub ending : Ends body kind own
@@ -167,4 +174,4 @@ module _ {body : List ℕ} {kind previous own : ℕ} {t : List ℕ} {k : ℕ} {a
   pub bytes-tag : {b r : Bool} → a ≡ true → Says (Begins body previous t k) b → b ≡ true → Says (Ends body kind own) r → Says (Bytes body kind previous own t k) r
   bytes-tag y s z d = says-same (λ i. record { tag = λ e. s .sound z; ending = i }) (λ i. i .ending) d
 
-pub ruleset bytes-laws = (needs, bytes-other, bytes-no, bytes-tag)
+pub ruleset bytes-laws = (needs, not-true, not-false, bytes-other, bytes-no, bytes-tag)

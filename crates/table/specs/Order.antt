@@ -6,6 +6,7 @@ use mathlib.Core.List.{List, [], _∷_}
 use native.Mathlib.Numerals.{add-one}
 use native.Mathlib.Omega.{arith}
 use borrow.Author.Needs.{needs}
+use borrow.Author.Tests.{not-true, not-false}
 use borrow.Author.Tests.{ne-eqb}
 use lib.Dec.{eqb, ltb}
 use Rattle.lists.specs.Tests.{pick, false-true}
@@ -88,7 +89,7 @@ module _ {inTag : Bool} {opened : ℕ} {rooted : Bool} {kind left : ℕ} where
     pub order-other : (kind ≡ 8 → ⊥) → Says (Order inTag opened rooted kind left) true
     order-other f = says-yes (all (λ e. absurd (f e)))
 
-pub ruleset order-laws = (needs, order-inside, order-outside, open-none, open-root, open-first, open-one, open-other, order-low, order-high, order-tag, order-open, order-last, order-other)
+pub ruleset order-laws = (needs, not-true, not-false, order-inside, order-outside, open-none, open-root, open-first, open-one, open-other, order-low, order-high, order-tag, order-open, order-last, order-other)
 
 -- ---- the place after a row
 abbrev pub place : ℕ → Bool → ℕ → Bool → Place
@@ -124,4 +125,4 @@ module _ {a : ℕ} {b : Bool} {c : ℕ} {d : Bool} {kind own : ℕ} where
   pub step-other : (kind ≡ 1 → ⊥) → (kind ≡ 3 → ⊥) → (kind ≡ 4 → ⊥) → (kind ≡ 5 → ⊥) → StepsTo (place a b c d) kind own (place own b c d)
   step-other f g h i = record { is = rw (ne-eqb kind 1 f, ne-eqb kind 3 g, ne-eqb kind 4 h, ne-eqb kind 5 i); more = omega arith }
 
-pub ruleset step-laws = (needs, step-start, step-end, step-close, step-slash, step-other)
+pub ruleset step-laws = (needs, not-true, not-false, step-start, step-end, step-close, step-slash, step-other)

@@ -5,6 +5,7 @@ use mathlib.Core.Bool.{Bool, true, false}
 use mathlib.Core.List.{List, [], _∷_}
 use native.Mathlib.Omega.{arith}
 use borrow.Author.Needs.{needs}
+use borrow.Author.Tests.{not-true, not-false}
 use lib.ListN.{length, getD}
 use Rattle.lists.specs.Tests.{false-true}
 use Rattle.lists.specs.Decide.{isYes, Says, says-yes, says-no, says-same, says-not, says-is}
@@ -14,7 +15,7 @@ use Rattle.table.specs.Rules.{Place, atFirst, after, RowRules, EachRow, 
 use Rattle.table.specs.Flat.{rowAt, rowsFrom, length-rows, rows-same, rows-whole, unroll, rolled-out, last-high}
 use Rattle.table.specs.Test.{first, decTable}
 use Rattle.table.specs.Spans.{Spans, local-in, filled}
-use Rattle.table.specs.Bytes.{Bytes}
+use Rattle.table.specs.Bytes.{BytesIn, Bytes}
 use Rattle.table.specs.Order.{Order, place, stepTo, StepsTo}
 
 -- ---- a row
@@ -34,28 +35,28 @@ module _ (body : List ℕ) (last : ℕ) (a : ℕ) (b : Bool) (c : ℕ) (d : Bool
   row-is rises ends s y o =
       record {
         rules =
-          record {
-            knownKind = (o .low, o .high);
-            zeroFields =
-              record {
-                prefix = s .names .prefix .is .unused;
-                local = s .names .local .unused;
-                value = s .value .is .unused;
-                emptyPrefix = s .names .prefix .is .empty;
-                emptyValue = s .value .is .empty;
-              };
-            positionRises = rises;
-            filledSpans = record { prefix = s .names .prefix .is .filled; local = s .names .local .filled; value = s .value .is .filled };
-            localStart = s .names .local .start;
-            tagBegins =
-              λ e. record { is = (y .tag e) .is; before = (y .tag e) .before; late = (y .tag e) .late; prefix = (y .tag e) .prefix };
-            ending = record { gt = y .ending .gt; slash = y .ending .slash };
-            tagOrder = record { inside = o .tag .inside; outside = o .tag .outside };
-            needsOpen = o .count .needs;
-            afterRoot = o .count .root;
-            errorLast = λ e. length-rows t (k + 1) left ∙ o .last e;
-            openLimit = o .count .limit;
-          };
+            record {
+              knownKind = (o .low, o .high);
+              zeroFields =
+                  record {
+                    prefix = s .names .prefix .is .unused;
+                    local = s .names .local .unused;
+                    value = s .value .is .unused;
+                    emptyPrefix = s .names .prefix .is .empty;
+                    emptyValue = s .value .is .empty;
+                  };
+              positionRises = rises;
+              filledSpans = record { prefix = s .names .prefix .is .filled; local = s .names .local .filled; value = s .value .is .filled };
+              localStart = s .names .local .start;
+              tagBegins =
+                  λ e. record { is = (y .tag e) .is; before = (y .tag e) .before; late = (y .tag e) .late; prefix = (y .tag e) .prefix };
+              ending = record { gt = y .ending .gt; slash = y .ending .slash };
+              tagOrder = record { inside = o .tag .inside; outside = o .tag .outside };
+              needsOpen = o .count .needs;
+              afterRoot = o .count .root;
+              errorLast = λ e. length-rows t (k + 1) left ∙ o .last e;
+              openLimit = o .count .limit;
+            };
         ends = ends;
       }
 
@@ -64,10 +65,10 @@ module _ (body : List ℕ) (last : ℕ) (a : ℕ) (b : Bool) (c : ℕ) (d : Bool
     row-spans =
         record {
           names =
-            record {
-              prefix = record { is = record { unused = i .rules .zeroFields .prefix; empty = i .rules .zeroFields .emptyPrefix; filled = i .rules .filledSpans .prefix } };
-              local = record { unused = i .rules .zeroFields .local; start = i .rules .localStart; filled = i .rules .filledSpans .local };
-            };
+              record {
+                prefix = record { is = record { unused = i .rules .zeroFields .prefix; empty = i .rules .zeroFields .emptyPrefix; filled = i .rules .filledSpans .prefix } };
+                local = record { unused = i .rules .zeroFields .local; start = i .rules .localStart; filled = i .rules .filledSpans .local };
+              };
           value = record { is = record { unused = i .rules .zeroFields .value; empty = i .rules .zeroFields .emptyValue; filled = i .rules .filledSpans .value } };
         }
 
@@ -75,12 +76,12 @@ module _ (body : List ℕ) (last : ℕ) (a : ℕ) (b : Bool) (c : ℕ) (d : Bool
     row-bytes =
         record {
           tag =
-            λ e. record {
-              is = (i .rules .tagBegins e) .is;
-              before = (i .rules .tagBegins e) .before;
-              late = (i .rules .tagBegins e) .late;
-              prefix = (i .rules .tagBegins e) .prefix;
-            };
+              λ e. record {
+                is = (i .rules .tagBegins e) .is;
+                before = (i .rules .tagBegins e) .before;
+                late = (i .rules .tagBegins e) .late;
+                prefix = (i .rules .tagBegins e) .prefix;
+              };
           ending = record { gt = i .rules .ending .gt; slash = i .rules .ending .slash };
         }
 
@@ -115,17 +116,27 @@ module _ (body : List ℕ) (last : ℕ) (a : ℕ) (b : Bool) (c : ℕ) (d : Bool
         (λ i. rw e (row-order i))
         o
 
--- a local name begins in the body
-pub local-fits : (body : List ℕ) {t : List ℕ} {kind a own last k : ℕ} {s : Bool} → Says (Spans kind a own t k) s → s ≡ true → own ≤ last → last ≤ length body
-    → getD t (k * 8 + 3) 0 ≤ length body
-local-fits body s y g h = omega (arith, local-in (s .sound y))
+-- what is read of the body stands in it
+pub bytes-in : {body t : List ℕ} {kind a own last k : ℕ} {s : Bool} → Says (Spans kind a own t k) s → s ≡ true → own ≤ last → last ≤ length body → k * 8 + 8 ≤ length t
+    → BytesIn body own t k
+bytes-in s y g h r = record { row = r; local = omega (arith, local-in (s .sound y)); ends = omega arith }
 
-pub ruleset row-laws = (needs, row-falls, row-late, row-no-spans, row-no-bytes, row-ordered, local-fits)
+pub ruleset row-laws = (needs, not-true, not-false, row-falls, row-late, row-no-spans, row-no-bytes, row-ordered, bytes-in)
 
 -- ---- the rows that are left
 pub record Rest (body : List ℕ) (last : ℕ) (p : Place) (rows : List Row) : Type 0 where
   pub each : EachRow body p rows
   pub ends : lastPosition (p .position) rows ≤ last
+
+-- q is the place after row k
+pub record StepAt (t : List ℕ) (k : ℕ) (p q : Place) : Type 0 where
+  pub is : q ≡ after p (rowAt t k)
+  pub more : q .opened ≤ p .opened + 1
+
+pub step-at : (t : List ℕ) (k : ℕ) {kind own : ℕ} {p q : Place} → kind ≡ getD t (k * 8 + 0) 0 → own ≡ getD t (k * 8 + 7) 0 → StepsTo p kind own q → StepAt t k p q
+step-at t k e f m = record { is = rw (e, f) at (m .is); more = m .more }
+
+pub ruleset at-laws = (needs, step-at)
 
 -- they obey the rules where all do
 pub record Walking (body : List ℕ) (last : ℕ) (t : List ℕ) (n k : ℕ) (p : Place) : Type 0 where
@@ -152,10 +163,9 @@ module _ {body : List ℕ} {last : ℕ} {t : List ℕ} {n k : ℕ} {p : Place} (
         split : Rest body last p (rowAt t k ∷ rowsFrom t (k + 1) (n - (k + 1))) → RowIn body last p t k (n - (k + 1))
         split r = record { rules = (first (r .each)) .0; ends = omega (arith, last-high ((first (r .each)) .1), r .ends) }
 
-    pub walk-turn : {r : Bool} {kind own : ℕ} {q : Place} → Says (RowIn body last p t k (n - (k + 1))) r → r ≡ true → kind ≡ getD t (k * 8 + 0) 0 → own ≡ getD t (k * 8 + 7) 0
-        → StepsTo p kind own q → Walking body last t n (k + 1) q
-    walk-turn {q = q} s y e f m =
-        let z : q ≡ after p (rowAt t k) = rw (e, f) at (m .is) in
+    pub walk-turn : {r : Bool} {q : Place} → Says (RowIn body last p t k (n - (k + 1))) r → r ≡ true → StepAt t k p q → Walking body last t n (k + 1) q
+    walk-turn {q = q} s y m =
+        let z : q ≡ after p (rowAt t k) = m .is in
         let i = s .sound y in
         record {
           within = omega arith;
@@ -168,7 +178,7 @@ module _ {body : List ℕ} {last : ℕ} {t : List ℕ} {n k : ℕ} {p : Place} (
   pub walk-end : n ≤ k → Says (Rest body last atFirst (rowsFrom t 0 n)) true
   walk-end h = says-yes (w .back (rw (rolled-out t k n h) (record { each = none; ends = w .low })))
 
-pub ruleset walk-laws = (needs, walk-start, walk-stop, walk-turn, walk-end)
+pub ruleset walk-laws = (needs, not-true, not-false, walk-start, walk-stop, walk-turn, walk-end)
 
 -- ---- the whole test
 module _ (body t : List ℕ) (final : ℕ) where
@@ -197,14 +207,14 @@ module _ (body t : List ℕ) (final : ℕ) where
           record {
             whole = w;
             rules =
-              record {
-                fewRows = omega (arith, rows-many);
-                fewBytes = short;
-                utf8 = λ h. u (omega (arith, rows-many));
-                ends = rw (rows-are, ← e) (r .ends);
-                within = omega arith;
-                each = rw rows-are (r .each);
-              };
+                record {
+                  fewRows = omega (arith, rows-many);
+                  fewBytes = short;
+                  utf8 = λ h. u (omega (arith, rows-many));
+                  ends = rw (rows-are, ← e) (r .ends);
+                  within = omega arith;
+                  each = rw rows-are (r .each);
+                };
           }
 
       pub obeys-empty : length t / 8 ≡ 0 → true ≡ isYes (decTable body t final)
@@ -220,4 +230,4 @@ module _ (body t : List ℕ) (final : ℕ) where
           says-is (decTable body t final)
           (says-same (λ q. whole (λ h. sym g ∙ y) q) (λ q. record { each = rw (← rows-are) (q .rules .each); ends = rw (← rows-are, e) (q .rules .ends) }) s)
 
-pub ruleset obeys-laws = (needs, rows-whole, obeys-part, obeys-many, obeys-long, obeys-past, obeys-empty, obeys-other, obeys-each)
+pub ruleset obeys-laws = (needs, not-true, not-false, rows-whole, obeys-part, obeys-many, obeys-long, obeys-past, obeys-empty, obeys-other, obeys-each)

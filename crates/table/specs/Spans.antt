@@ -5,11 +5,15 @@ use mathlib.Core.Bool.{Bool, true, false}
 use mathlib.Core.List.{List, [], _∷_}
 use native.Mathlib.Omega.{arith}
 use borrow.Author.Needs.{needs}
+use borrow.Author.Tests.{not-true, not-false}
 use lib.Dec.{eqb, leb}
 use lib.ListN.{length, getD}
-use Rattle.lists.specs.Tests.{false-true}
+use Rattle.lists.specs.Tests.{false-true, pick-flag, tests}
 use Rattle.lists.specs.Decide.{Says, says-yes, says-no, says-same, says-not, says-eqb, says-leb}
 use Rattle.table.specs.Rules.{among, usesName, usesValue, FilledSpan}
+
+-- the tests of `among`
+pub ruleset kinds = (tests, pick-flag)
 
 pub filled : (n : ℕ) → (n ≡ 0 → ⊥) → 0 < n
 filled zero f = absurd (f refl)
@@ -41,7 +45,7 @@ module _ (used : Bool) (previous own from len : ℕ) where
       (λ s. omega (arith, s .filled (filled len f)))
       (says-leb len (own - from))
 
-pub ruleset span-laws = (needs, span-empty, span-unused, span-early, span-late, span-filled)
+pub ruleset span-laws = (needs, not-true, not-false, span-empty, span-unused, span-early, span-late, span-filled)
 
 -- ---- a local name
 pub record LocalSpan (used : Bool) (previous own from len : ℕ) : Type 0 where
@@ -74,7 +78,7 @@ module _ (used : Bool) (previous own from len : ℕ) where
       (λ s. ends s h len refl)
       (says-leb len (own - from))
 
-pub ruleset local-laws = (needs, local-unused, local-zero, local-early, local-late, local-filled)
+pub ruleset local-laws = (needs, not-true, not-false, local-unused, local-zero, local-early, local-late, local-filled)
 
 -- ---- the spans of row k
 -- the prefix or value whose start is number j
@@ -110,7 +114,7 @@ module _ {t : List ℕ} {k kind previous own : ℕ} {used a : Bool} where
       → Says (SpanAt t k 5 valued previous own) r → Says (Spans kind previous own t k) r
   spans-is e s y f v = says-same (λ i. record { names = rw e at (s .sound y); value = rw f at i }) (λ i. rw f (i .value)) v
 
-pub ruleset spans-laws = (needs, span-at, names-no, names-is, spans-no, spans-is)
+pub ruleset spans-laws = (needs, not-true, not-false, span-at, names-no, names-is, spans-no, spans-is)
 
 -- a local name begins no later than its row's position
 pub local-in : {kind previous own : ℕ} {t : List ℕ} {k : ℕ} → Spans kind previous own t k → getD t (k * 8 + 3) 0 ≤ own
