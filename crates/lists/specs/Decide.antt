@@ -77,3 +77,12 @@ says-flag t = record { sound = λ e. e; complete = λ e. e }
 pub says-not-flag : (t : Bool) → Says (t ≡ false) (not t)
 says-not-flag true = says-no (λ e. false-true (sym e))
 says-not-flag false = says-yes refl
+
+-- what a decision's flag says
+pub yes-of : {P : Type 0} (d : Dec P) → true ≡ isYes d → P
+yes-of (yes p) e = p
+yes-of (no n) e = false-true (sym e)
+
+pub no-of : {P : Type 0} (d : Dec P) → false ≡ isYes d → P → ⊥
+no-of (yes p) e q = false-true {A = ⊥} e
+no-of (no n) e q = n q

@@ -1,22 +1,16 @@
 use Rattle.table.specs.Spans.{kinds}
 use Rattle.table.proofs.comes_inside.Statement.{statement}
 use Rattle.table.proofs.comes_inside.Tie as tie
-use Rattle.table.proofs.comes_inside.Reads as reads
-use Rattle.table.proofs.comes_inside.Lts as lts
 
--- src/lib.rt:67:9
 returns : tie.Need-returns
 returns c = search kinds
 
--- src/lib.rt:70:9
 returns-2 : tie.Need-returns-2
 returns-2 c = search kinds
 
--- src/lib.rt:73:9
 returns-3 : tie.Need-returns-3
 returns-3 c = search kinds
 
--- src/lib.rt:63:1
 returns-4 : tie.Need-returns-4
 returns-4 c = search kinds
 

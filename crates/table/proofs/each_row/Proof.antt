@@ -3,10 +3,6 @@ use Rattle.table.specs.Order.{place}
 use Rattle.table.specs.Pass.{Walking, walk-laws}
 use Rattle.table.proofs.each_row.Statement.{statement}
 use Rattle.table.proofs.each_row.Tie as tie
-use Rattle.table.proofs.each_row.Reads as reads
-use Rattle.table.proofs.each_row.Lts as lts
-use Rattle.table.proofs.row.Reads as row-reads
-use Rattle.table.proofs.step.Reads as step-reads
 
 abbrev Inv-loop : tie.InvT-loop
 Inv-loop body rows n last p₀ k₀ p k = Walking body last rows n k (place (p .position) (p .in_tag) (p .opened) (p .rooted))
@@ -14,43 +10,33 @@ Inv-loop body rows n last p₀ k₀ p k = Walking body last rows n k (place (p .
 abbrev μ-loop : tie.MeasureT-loop
 μ-loop body rows n last p₀ k₀ p k = n - k
 
--- src/lib.rt:392:5
 loop-holds : tie.Need-loop-holds Inv-loop μ-loop
 loop-holds c = search walk-laws
 
--- src/lib.rt:393:37
 add-row : tie.Need-add-row Inv-loop μ-loop
 add-row c = search walk-laws
 
--- src/lib.rt:393:32
 sub-row : tie.Need-sub-row Inv-loop μ-loop
 sub-row c = search walk-laws
 
--- src/lib.rt:393:13
 row-requires : tie.Need-row-requires Inv-loop μ-loop
 row-requires c κs = search walk-laws
 
--- src/lib.rt:394:13
 returns : tie.Need-returns Inv-loop μ-loop
 returns c = search walk-laws
 
--- src/lib.rt:396:9
 step-requires : tie.Need-step-requires Inv-loop μ-loop
 step-requires c κs = search walk-laws
 
--- src/lib.rt:397:9
 add-k : tie.Need-add-k Inv-loop μ-loop
 add-k c = search walk-laws
 
--- src/lib.rt:392:5
 loop-less : tie.Need-loop-less Inv-loop μ-loop
 loop-less c = search walk-laws
 
--- src/lib.rt:392:5
 loop-again : tie.Need-loop-again Inv-loop μ-loop
 loop-again c = search walk-laws
 
--- src/lib.rt:381:1
 returns-2 : tie.Need-returns-2 Inv-loop μ-loop
 returns-2 c = search walk-laws
 

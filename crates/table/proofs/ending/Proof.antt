@@ -2,43 +2,31 @@ use Rattle.table.specs.Bytes.{ends-laws}
 use borrow.Author.Needs.{needs}
 use Rattle.table.proofs.ending.Statement.{statement}
 use Rattle.table.proofs.ending.Tie as tie
-use Rattle.table.proofs.ending.Reads as reads
-use Rattle.table.proofs.ending.Lts as lts
-use Rattle.table.proofs.one_of_three.Reads as one-of-three-reads
 
--- src/lib.rt:193:9
 one-of-three-requires : tie.Need-one-of-three-requires
 one-of-three-requires c κs = search needs
 
--- src/lib.rt:194:9
 returns : tie.Need-returns
 returns c = search ends-laws
 
--- src/lib.rt:197:9
 returns-2 : tie.Need-returns-2
 returns-2 c = search ends-laws
 
--- src/lib.rt:199:8
 shared-slice-read-if3 : tie.Need-shared-slice-read-if3
 shared-slice-read-if3 c = search needs
 
--- src/lib.rt:200:9
 returns-3 : tie.Need-returns-3
 returns-3 c = search ends-laws
 
--- src/lib.rt:203:9
 returns-4 : tie.Need-returns-4
 returns-4 c = search needs
 
--- src/lib.rt:206:9
 returns-5 : tie.Need-returns-5
 returns-5 c = search ends-laws
 
--- src/lib.rt:208:5
 shared-slice-read-result : tie.Need-shared-slice-read-result
 shared-slice-read-result c = search needs
 
--- src/lib.rt:189:1
 returns-6 : tie.Need-returns-6
 returns-6 c = search ends-laws
 

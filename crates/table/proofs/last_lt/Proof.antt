@@ -1,8 +1,6 @@
 use Rattle.table.specs.Bytes.{BackAt, back-laws}
 use Rattle.table.proofs.last_lt.Statement.{statement}
 use Rattle.table.proofs.last_lt.Tie as tie
-use Rattle.table.proofs.last_lt.Reads as reads
-use Rattle.table.proofs.last_lt.Lts as lts
 
 abbrev Inv-loop : tie.InvT-loop
 Inv-loop body low at i₀ i = BackAt body at i
@@ -10,31 +8,24 @@ Inv-loop body low at i₀ i = BackAt body at i
 abbrev μ-loop : tie.MeasureT-loop
 μ-loop body low at i₀ i = i
 
--- src/lib.rt:162:5
 loop-holds : tie.Need-loop-holds Inv-loop μ-loop
 loop-holds c = search back-laws
 
--- src/lib.rt:163:17
 sub-j : tie.Need-sub-j Inv-loop μ-loop
 sub-j c = search back-laws
 
--- src/lib.rt:164:12
 shared-slice-read-if1 : tie.Need-shared-slice-read-if1 Inv-loop μ-loop
 shared-slice-read-if1 c = search back-laws
 
--- src/lib.rt:165:13
 returns : tie.Need-returns Inv-loop μ-loop
 returns c = search back-laws
 
--- src/lib.rt:162:5
 loop-less : tie.Need-loop-less Inv-loop μ-loop
 loop-less c = search back-laws
 
--- src/lib.rt:162:5
 loop-again : tie.Need-loop-again Inv-loop μ-loop
 loop-again c = search back-laws
 
--- src/lib.rt:157:1
 returns-2 : tie.Need-returns-2 Inv-loop μ-loop
 returns-2 c = search back-laws
 

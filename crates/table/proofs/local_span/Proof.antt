@@ -1,26 +1,19 @@
 use Rattle.table.specs.Spans.{local-laws}
 use Rattle.table.proofs.local_span.Statement.{statement}
 use Rattle.table.proofs.local_span.Tie as tie
-use Rattle.table.proofs.local_span.Reads as reads
-use Rattle.table.proofs.local_span.Lts as lts
 
--- src/lib.rt:105:13
 returns : tie.Need-returns
 returns c = search local-laws
 
--- src/lib.rt:107:9
 returns-2 : tie.Need-returns-2
 returns-2 c = search local-laws
 
--- src/lib.rt:110:9
 returns-3 : tie.Need-returns-3
 returns-3 c = search local-laws
 
--- src/lib.rt:113:9
 returns-4 : tie.Need-returns-4
 returns-4 c = search local-laws
 
--- src/lib.rt:100:1
 returns-5 : tie.Need-returns-5
 returns-5 c = search local-laws
 

@@ -1,14 +1,10 @@
 use Rattle.table.specs.Spans.{kinds}
 use Rattle.table.proofs.one_of.Statement.{statement}
 use Rattle.table.proofs.one_of.Tie as tie
-use Rattle.table.proofs.one_of.Reads as reads
-use Rattle.table.proofs.one_of.Lts as lts
 
--- src/lib.rt:44:9
 returns : tie.Need-returns
 returns c = search kinds
 
--- src/lib.rt:40:1
 returns-2 : tie.Need-returns-2
 returns-2 c = search kinds
 

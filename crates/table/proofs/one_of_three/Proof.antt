@@ -1,18 +1,13 @@
 use Rattle.table.specs.Spans.{kinds}
 use Rattle.table.proofs.one_of_three.Statement.{statement}
 use Rattle.table.proofs.one_of_three.Tie as tie
-use Rattle.table.proofs.one_of_three.Reads as reads
-use Rattle.table.proofs.one_of_three.Lts as lts
 
--- src/lib.rt:54:9
 returns : tie.Need-returns
 returns c = search kinds
 
--- src/lib.rt:57:9
 returns-2 : tie.Need-returns-2
 returns-2 c = search kinds
 
--- src/lib.rt:50:1
 returns-3 : tie.Need-returns-3
 returns-3 c = search kinds
 

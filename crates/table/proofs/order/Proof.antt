@@ -2,40 +2,28 @@ use Rattle.table.specs.Order.{order-laws}
 use borrow.Author.Needs.{needs}
 use Rattle.table.proofs.order.Statement.{statement}
 use Rattle.table.proofs.order.Tie as tie
-use Rattle.table.proofs.order.Reads as reads
-use Rattle.table.proofs.order.Lts as lts
-use Rattle.table.proofs.open_order.Reads as open-order-reads
-use Rattle.table.proofs.tag_order.Reads as tag-order-reads
 
--- src/lib.rt:270:9
 returns : tie.Need-returns
 returns c = search order-laws
 
--- src/lib.rt:273:9
 returns-2 : tie.Need-returns-2
 returns-2 c = search order-laws
 
--- src/lib.rt:275:9
 tag-order-requires : tie.Need-tag-order-requires
 tag-order-requires c κs = search needs
 
--- src/lib.rt:276:9
 returns-3 : tie.Need-returns-3
 returns-3 c = search order-laws
 
--- src/lib.rt:278:9
 open-order-requires : tie.Need-open-order-requires
 open-order-requires c κs = search needs
 
--- src/lib.rt:279:9
 returns-4 : tie.Need-returns-4
 returns-4 c = search order-laws
 
--- src/lib.rt:282:9
 returns-5 : tie.Need-returns-5
 returns-5 c = search order-laws
 
--- src/lib.rt:266:1
 returns-6 : tie.Need-returns-6
 returns-6 c = search order-laws
 

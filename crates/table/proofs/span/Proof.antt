@@ -1,26 +1,19 @@
 use Rattle.table.specs.Spans.{span-laws}
 use Rattle.table.proofs.span.Statement.{statement}
 use Rattle.table.proofs.span.Tie as tie
-use Rattle.table.proofs.span.Reads as reads
-use Rattle.table.proofs.span.Lts as lts
 
--- src/lib.rt:85:9
 returns : tie.Need-returns
 returns c = search span-laws
 
--- src/lib.rt:88:9
 returns-2 : tie.Need-returns-2
 returns-2 c = search span-laws
 
--- src/lib.rt:91:9
 returns-3 : tie.Need-returns-3
 returns-3 c = search span-laws
 
--- src/lib.rt:94:9
 returns-4 : tie.Need-returns-4
 returns-4 c = search span-laws
 
--- src/lib.rt:81:1
 returns-5 : tie.Need-returns-5
 returns-5 c = search span-laws
 

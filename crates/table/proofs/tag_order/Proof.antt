@@ -2,24 +2,16 @@ use Rattle.table.specs.Order.{order-laws}
 use borrow.Author.Needs.{needs}
 use Rattle.table.proofs.tag_order.Statement.{statement}
 use Rattle.table.proofs.tag_order.Tie as tie
-use Rattle.table.proofs.tag_order.Reads as reads
-use Rattle.table.proofs.tag_order.Lts as lts
-use Rattle.table.proofs.comes_inside.Reads as comes-inside-reads
-use Rattle.table.proofs.one_of_three.Reads as one-of-three-reads
 
--- src/lib.rt:232:9
 comes-inside-requires : tie.Need-comes-inside-requires
 comes-inside-requires c κs = search needs
 
--- src/lib.rt:232:9
 returns : tie.Need-returns
 returns c = search order-laws
 
--- src/lib.rt:234:6
 one-of-three-requires : tie.Need-one-of-three-requires
 one-of-three-requires c κs = search needs
 
--- src/lib.rt:228:1
 returns-2 : tie.Need-returns-2
 returns-2 c = search order-laws
 

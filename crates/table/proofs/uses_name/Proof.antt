@@ -1,18 +1,13 @@
 use Rattle.table.specs.Spans.{kinds}
 use Rattle.table.proofs.uses_name.Statement.{statement}
 use Rattle.table.proofs.uses_name.Tie as tie
-use Rattle.table.proofs.uses_name.Reads as reads
-use Rattle.table.proofs.uses_name.Lts as lts
 
--- src/lib.rt:31:9
 returns : tie.Need-returns
 returns c = search kinds
 
--- src/lib.rt:34:9
 returns-2 : tie.Need-returns-2
 returns-2 c = search kinds
 
--- src/lib.rt:27:1
 returns-3 : tie.Need-returns-3
 returns-3 c = search kinds
 
