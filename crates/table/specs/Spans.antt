@@ -19,6 +19,23 @@ pub filled : (n : ℕ) → (n ≡ 0 → ⊥) → 0 < n
 filled zero f = absurd (f refl)
 filled (suc n) f = omega arith
 
+-- ---- between two positions
+pub record Between (previous own from len : ℕ) : Type 0 where
+  pub low : previous ≤ from
+  pub high : from + len ≤ own
+
+module _ {previous own from len : ℕ} where
+  pub between-early : from < previous → Says (Between previous own from len) false
+  between-early h = says-no (λ b. omega (arith, b .low))
+
+  pub between-late : own < from → Says (Between previous own from len) false
+  between-late h = says-no (λ b. omega (arith, b .high))
+
+  pub between-is : previous ≤ from → from ≤ own → Says (Between previous own from len) (leb len (own - from))
+  between-is g h = says-same (λ l. record { low = g; high = omega arith }) (λ b. omega (arith, b .high)) (says-leb len (own - from))
+
+pub ruleset between-laws = (needs, between-early, between-late, between-is)
+
 -- ---- a prefix or a value
 pub record Span (used : Bool) (previous own from len : ℕ) : Type 0 where
   pub unused : used ≡ false → len ≡ 0
@@ -32,20 +49,14 @@ module _ (used : Bool) (previous own from len : ℕ) where
   pub span-unused : (len ≡ 0 → ⊥) → used ≡ false → Says (Span used previous own from len) false
   span-unused f u = says-no (λ s. f (s .unused u))
 
-  pub span-early : (len ≡ 0 → ⊥) → from < previous → Says (Span used previous own from len) false
-  span-early f h = says-no (λ s. omega (arith, s .filled (filled len f)))
-
-  pub span-late : (len ≡ 0 → ⊥) → own < from → Says (Span used previous own from len) false
-  span-late f h = says-no (λ s. omega (arith, s .filled (filled len f)))
-
-  pub span-filled : (len ≡ 0 → ⊥) → used ≡ true → previous ≤ from → from ≤ own → Says (Span used previous own from len) (leb len (own - from))
-  span-filled f u g h =
+  pub span-filled : {r : Bool} → (len ≡ 0 → ⊥) → used ≡ true → Says (Between previous own from len) r → Says (Span used previous own from len) r
+  span-filled f u b =
       says-same
-      (λ l. record { unused = λ v. false-true (sym v ∙ u); empty = λ e. absurd (f e); filled = λ z. (g, omega arith) })
-      (λ s. omega (arith, s .filled (filled len f)))
-      (says-leb len (own - from))
+      (λ i. record { unused = λ v. false-true (sym v ∙ u); empty = λ e. absurd (f e); filled = λ z. (i .low, i .high) })
+      (λ s. let z = s .filled (filled len f) in record { low = z .0; high = z .1 })
+      b
 
-pub ruleset span-laws = (needs, not-true, not-false, span-empty, span-unused, span-early, span-late, span-filled)
+pub ruleset span-laws = (needs, not-true, not-false, span-empty, span-unused, span-filled)
 
 -- ---- a local name
 pub record LocalSpan (used : Bool) (previous own from len : ℕ) : Type 0 where
@@ -61,24 +72,18 @@ module _ (used : Bool) (previous own from len : ℕ) where
   local-zero u e =
       says-same (λ z. record { unused = λ v. (e, z); start = λ v. false-true (sym u ∙ v); filled = λ h. absurd (omega arith) }) (λ s. (s .unused u) .1) (says-eqb len 0)
 
-  pub local-early : used ≡ true → from < previous → Says (LocalSpan used previous own from len) false
-  local-early u h = says-no (λ s. omega (arith, s .start u))
+  high : LocalSpan used previous own from len → from ≤ own → (n : ℕ) → len ≡ n → from + len ≤ own
+  high s h zero e = omega arith
+  high s h (suc n) e = let z : 0 < len = omega arith in omega (arith, s .filled z)
 
-  pub local-late : used ≡ true → own < from → Says (LocalSpan used previous own from len) false
-  local-late u h = says-no (λ s. omega (arith, s .start u))
-
-  ends : LocalSpan used previous own from len → from ≤ own → (n : ℕ) → len ≡ n → len ≤ own - from
-  ends s h zero e = omega arith
-  ends s h (suc n) e = let z : 0 < len = omega arith in omega (arith, s .filled z)
-
-  pub local-filled : used ≡ true → previous ≤ from → from ≤ own → Says (LocalSpan used previous own from len) (leb len (own - from))
-  local-filled u g h =
+  pub local-filled : {r : Bool} → used ≡ true → Says (Between previous own from len) r → Says (LocalSpan used previous own from len) r
+  local-filled u b =
       says-same
-      (λ l. record { unused = λ v. false-true (sym v ∙ u); start = λ v. (g, h); filled = λ z. (g, omega arith) })
-      (λ s. ends s h len refl)
-      (says-leb len (own - from))
+      (λ i. record { unused = λ v. false-true (sym v ∙ u); start = λ v. (i .low, omega (arith, i .high)); filled = λ z. (i .low, i .high) })
+      (λ s. let z = s .start u in record { low = z .0; high = high s (z .1) len refl })
+      b
 
-pub ruleset local-laws = (needs, not-true, not-false, local-unused, local-zero, local-early, local-late, local-filled)
+pub ruleset local-laws = (needs, not-true, not-false, local-unused, local-zero, local-filled)
 
 -- ---- the spans of row k
 -- the prefix or value whose start is number j

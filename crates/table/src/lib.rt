@@ -8,7 +8,7 @@ ghost use Rattle.lists.specs.Decide.{isYes, Says};
 ghost use Rattle.table.specs.Rules.{among, usesName, usesValue, atFirst};
 ghost use Rattle.table.specs.Flat.{rowsFrom};
 ghost use Rattle.table.specs.Test.{decTable};
-ghost use Rattle.table.specs.Spans.{Span, SpanAt, LocalSpan, NameSpans, Spans};
+ghost use Rattle.table.specs.Spans.{Between, Span, SpanAt, LocalSpan, NameSpans, Spans};
 ghost use Rattle.table.specs.Bytes.{LastIn, Begins, Ends, BytesIn, Bytes};
 ghost use Rattle.table.specs.Order.{InOrder, OpenOrder, Order, place, StepsTo};
 ghost use Rattle.table.specs.Pass.{RowIn, StepAt, Rest};
@@ -83,6 +83,19 @@ fn comes_inside(kind: usize) -> bool
 
 // ---- spans
 
+// Whether a span lies between two positions. Nothing is added, so that nothing can overflow.
+fn between(previous: usize, own: usize, from: usize, len: usize) -> bool
+    ensures { λ r. ⌜ Says (Between previous own from len) r ⌝ }
+{
+    if from < previous {
+        return false;
+    }
+    if own < from {
+        return false;
+    }
+    len <= own - from
+}
+
 // A prefix or a value: not filled where it is not used, 0 and 0 where it is empty, and between two positions where it is filled.
 fn span(used: bool, previous: usize, own: usize, from: usize, len: usize) -> bool
     ensures { λ r. ⌜ Says (Span used previous own from len) r ⌝ }
@@ -93,13 +106,7 @@ fn span(used: bool, previous: usize, own: usize, from: usize, len: usize) -> boo
     if !used {
         return false;
     }
-    if from < previous {
-        return false;
-    }
-    if own < from {
-        return false;
-    }
-    len <= own - from
+    between(previous, own, from, len)
 }
 
 // A local name: 0 and 0 where it is not used, and else between two positions, even if it is empty.
@@ -112,13 +119,7 @@ fn local_span(used: bool, previous: usize, own: usize, from: usize, len: usize) 
         }
         return len == 0;
     }
-    if from < previous {
-        return false;
-    }
-    if own < from {
-        return false;
-    }
-    len <= own - from
+    between(previous, own, from, len)
 }
 
 // The prefix or value whose start is number j of row k.
