@@ -1,6 +1,9 @@
 -- Decisions that compute: of a conjunction, of an implication, of what is said in another way; and what a test says of a statement.
+use Prim.Native.Nat.{ℕ, _≤_, _<_}
 use mathlib.Core.Path.{_≡_, refl, sym, _∙_}
-use mathlib.Core.Bool.{Bool, true, false}
+use mathlib.Core.Bool.{Bool, true, false, not}
+use borrow.Author.Tests.{leb-true, le-leb, ltb-true, lt-ltb, eqb-true, eq-eqb}
+use lib.Dec.{leb, ltb, eqb}
 use Rattle.lists.specs.Tests.{false-true}
 
 infixr 35 _and_
@@ -57,3 +60,29 @@ pub says-is : {P : Type 0} {r : Bool} (d : Dec P) → Says P r → r ≡ isYes d
 says-is (yes p) s = s .complete p
 says-is {r = true} (no n) s = absurd (n (s .sound refl))
 says-is {r = false} (no n) s = refl
+
+-- the tests of numbers, and a flag
+pub says-eqb : (a b : ℕ) → Says (a ≡ b) (eqb a b)
+says-eqb a b = record { sound = eqb-true a b; complete = eq-eqb a b }
+
+pub says-leb : (a b : ℕ) → Says (a ≤ b) (leb a b)
+says-leb a b = record { sound = leb-true a b; complete = le-leb a b }
+
+pub says-ltb : (a b : ℕ) → Says (a < b) (ltb a b)
+says-ltb a b = record { sound = ltb-true a b; complete = lt-ltb a b }
+
+pub says-flag : (t : Bool) → Says (t ≡ true) t
+says-flag t = record { sound = λ e. e; complete = λ e. e }
+
+pub says-not-flag : (t : Bool) → Says (t ≡ false) (not t)
+says-not-flag true = says-no (λ e. false-true (sym e))
+says-not-flag false = says-yes refl
+
+-- what a decision's flag says
+pub yes-of : {P : Type 0} (d : Dec P) → true ≡ isYes d → P
+yes-of (yes p) e = p
+yes-of (no n) e = false-true (sym e)
+
+pub no-of : {P : Type 0} (d : Dec P) → false ≡ isYes d → P → ⊥
+no-of (yes p) e q = false-true {A = ⊥} e
+no-of (no n) e q = n q

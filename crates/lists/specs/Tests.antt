@@ -18,6 +18,10 @@ pub pick-same {ℓ} : {A : Type ℓ} (t : Bool) (a : A) → pick t a a ≡ a
 pick-same true a = refl
 pick-same false a = refl
 
+pub pick-flag : (t : Bool) → t ≡ pick t true false
+pick-flag true = refl
+pick-flag false = refl
+
 -- what holds of both holds of the one that is picked
 pub pick-all : {A : Type 0} (P : A → Type 0) (t : Bool) (a b : A) → P a → P b → P (pick t a b)
 pick-all P true a b p q = p

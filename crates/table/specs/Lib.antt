@@ -4,3 +4,7 @@ pub mod Piece
 pub mod Flat
 pub mod Test
 pub mod Examples
+pub mod Spans
+pub mod Bytes
+pub mod Order
+pub mod Pass

@@ -1,0 +1,33 @@
+use Rattle.table.specs.Order.{step-laws}
+use borrow.Author.Needs.{needs}
+use Rattle.table.proofs.place_after.Statement.{statement}
+use Rattle.table.proofs.place_after.Tie as tie
+
+add-t5 : tie.Need-add-t5
+add-t5 c = search needs
+
+returns : tie.Need-returns
+returns c = search step-laws
+
+returns-2 : tie.Need-returns-2
+returns-2 c = search step-laws
+
+less-requires : tie.Need-less-requires
+less-requires c κs = search needs
+
+returns-3 : tie.Need-returns-3
+returns-3 c = search step-laws
+
+less-requires-2 : tie.Need-less-requires-2
+less-requires-2 c κs = search needs
+
+returns-4 : tie.Need-returns-4
+returns-4 c = search step-laws
+
+returns-5 : tie.Need-returns-5
+returns-5 c = search step-laws
+
+pub place-after-spec : {M : Type 1} → statement M
+place-after-spec =
+    tie.close
+    (tie.spec add-t5 returns returns-2 less-requires returns-3 less-requires-2 returns-4 returns-5)
