@@ -13,13 +13,15 @@ use borrow.Author.Tests.{eq-eqb, ne-eqb, eqb-true, eqb-false}
 use lib.Dec.{eqb}
 use lib.ListN.{length, getD, set, length-set}
 use lib.Seq.{getD-set-same, getD-set-other}
-use Rattle.lists.specs.Tests.{pick, false-true, or-is}
+use Rattle.lists.specs.Tests.{pick, false-true}
+use Rattle.lists.specs.Decide.{isYes}
 use Rattle.reference.specs.Text.{validated}
 use Rattle.reference.specs.declared.Validated.{Validated}
 use Rattle.table.specs.Row.{Row, Name, Tok, start, attr, gt, close, slash, text, misc, bad, nameOf, valueOf, tokAs, tokOf, toksOf, rowsOf}
 use Rattle.table.specs.Rules.{among, Place, atFirst, after, RowRules, EachRow, none, row, TableRules}
+use Rattle.table.specs.Test.{decTable}
 use Rattle.table.specs.Flat.{rowAt, rowsFrom, length-rows, rows-same, rows-whole, unroll, rolled-out, spans-in}
-use Rattle.xml.specs.Drain.{sameName, seen, State, going, failed, withValue, withAttribute, closed, popped, step, walk, verdict, walked}
+use Rattle.xml.specs.Drain.{sameName, seen, drainedBy, drained, State, going, failed, withValue, withAttribute, closed, popped, step, walk, verdict, walked}
 use Rattle.xml.specs.Passed.{openAfter, namesAfter}
 use Rattle.xml.specs.declared.Cause.{Cause}
 use Rattle.xml.specs.declared.Drained.{Drained}
@@ -553,3 +555,29 @@ pub ruleset walk-laws = (needs, walk-start, row-in, top-in, row-placed, walk-fau
 -- ---- a table that obeys the rules can be walked
 pub walkable : {body t : List ℕ} {final : ℕ} → TableRules body t final → Walkable body t
 walkable {body} {t} r = record { whole = r .whole; each = r .rules .each; readable = record { each = λ k h. spans-in r k (omega arith) } }
+
+module _ (body t : List ℕ) (final : ℕ) {u : Bool} (e : u ≡ isYes (decTable body t final)) where
+  pub drain-walk : u ≡ true → Walkable body t
+  drain-walk h = walkable (go (decTable body t final) (sym e ∙ h))
+    where
+      go : (d : Dec (TableRules body t final)) → isYes d ≡ true → TableRules body t final
+      go (yes r) q = r
+      go (no n) q = false-true q
+
+  pub drain-walked : {r : Drained} → u ≡ true → r ≡ walked (toksOf body (rowsOf t)) → r ≡ drained body t final
+  unfolding drained
+  drain-walked {r} h q = go (decTable body t final) (sym e ∙ h)
+    where
+      go : (d : Dec (TableRules body t final)) → isYes d ≡ true → r ≡ drainedBy d (toksOf body (rowsOf t))
+      go (yes x) p = q
+      go (no x) p = false-true p
+
+  pub drain-table : u ≡ false → Drained.Table ≡ drained body t final
+  unfolding drained
+  drain-table h = go (decTable body t final) (sym e ∙ h)
+    where
+      go : (d : Dec (TableRules body t final)) → isYes d ≡ false → Drained.Table ≡ drainedBy d (toksOf body (rowsOf t))
+      go (yes x) p = false-true (sym p)
+      go (no x) p = refl
+
+pub ruleset drain-laws = (needs, drain-walk, drain-walked, drain-table)

@@ -4,7 +4,7 @@ ghost use mathlib.Core.Path.{_≡_};
 ghost use Prim.Native.Nat.{_+_, _*_, _≤_, _<_};
 ghost use lib.ListN.{length, getD};
 ghost use Rattle.table.specs.Row.{cut, rowsOf, toksOf};
-ghost use Rattle.xml.specs.Drain.{sameName, seen, walked};
+ghost use Rattle.xml.specs.Drain.{sameName, seen, walked, drained};
 ghost use Rattle.decode.specs.Walk.{Placed, faultOf, tokAt, topOf, Walkable};
 ghost use Rattle.decode.specs.Names.{nameMatches, named};
 ghost use Rattle.decode.specs.Rows.{Readable, InTable, SpanAt, nameAt, namesBack, valueFault, valueAt};
@@ -169,4 +169,14 @@ fn walk(body: &[u8], rows: &[u32]) -> Drained
         row: n,
         cause: Cause::UnclosedElement,
     }
+}
+
+// The strict drain: whether a table obeys the rules and its tokens are well-formed, or the first row that is not, and why.
+pub fn drain(body: &[u8], rows: &[u32], end: u32) -> Drained
+    ensures { λ r. ⌜ r ≡ drained (now (body .entry)) (now (rows .entry)) end ⌝ }
+{
+    if table::obeys(body, rows, end) {
+        return walk(body, rows);
+    }
+    Drained::Table
 }

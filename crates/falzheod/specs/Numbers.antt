@@ -8,9 +8,19 @@ use lib.ListN.{length}
 use Rattle.reference.specs.Text.{answer, filled, unescaped, Unescape}
 use Rattle.reference.specs.declared.Validated.{Validated}
 use Rattle.reference.specs.declared.Unescaped.{Unescaped}
+use Rattle.xml.specs.declared.Cause.{Cause}
+use Rattle.xml.specs.declared.Drained.{Drained}
 
 abbrev pub finished : ℕ
 finished = 0
+
+-- "1 table"
+abbrev pub brokenTable : ℕ
+brokenTable = 1
+
+-- "9 ill-formed"
+abbrev pub illFormed : ℕ
+illFormed = 9
 
 -- "7 reference"
 abbrev pub badReference : ℕ
@@ -47,6 +57,35 @@ pub record UnescapeCall (text old new : List ℕ) (n r : ℕ) : Type 0 where
   pub written : n ≡ unescapedLength (answer (unescaped text) (length old))
   pub buffer : new ≡ filled (unescaped text) old
 
+-- the causes in the order of 01, "Drain", from 1
+abbrev pub causeNumber : Cause → ℕ
+causeNumber Cause.TokenError = 1
+causeNumber Cause.MismatchedEnd = 2
+causeNumber Cause.UnclosedElement = 3
+causeNumber Cause.RepeatedAttribute = 4
+causeNumber Cause.BadReference = 5
+
+-- "Drain. 1; then 9 with the first failing row and its cause": the number, the row and the cause
+abbrev pub drainedNumber : Drained → ℕ
+drainedNumber Drained.Passes = finished
+drainedNumber Drained.Table = brokenTable
+drainedNumber (Drained.IllFormed row cause) = illFormed
+
+abbrev pub drainedRow : Drained → ℕ
+drainedRow Drained.Passes = 0
+drainedRow Drained.Table = 0
+drainedRow (Drained.IllFormed row cause) = row
+
+abbrev pub drainedCause : Drained → ℕ
+drainedCause Drained.Passes = 0
+drainedCause Drained.Table = 0
+drainedCause (Drained.IllFormed row cause) = causeNumber cause
+
+pub record DrainCall (d : Drained) (row cause r : ℕ) : Type 0 where
+  pub number : r ≡ drainedNumber d
+  pub first : row ≡ drainedRow d
+  pub why : cause ≡ drainedCause d
+
 -- ---- each case, from what the call ensures of its answer and what the match found
 module _ {x : Validated} (y : Validated) (q : x ≡ y) where
   pub call-valid : x ≡ Validated.Valid → finished ≡ validatedNumber y
@@ -65,6 +104,16 @@ module _ {text old new : List ℕ} {x : Unescaped} (u : Unescape text old new x)
   pub call-none : x ≡ Unescaped.NoRoom → UnescapeCall text old new 0 noRoom
   call-none e = record { number = rw (← u .number, e); written = rw (← u .number, e); buffer = u .buffer }
 
+module _ (d : Drained) {x : Drained} (q : x ≡ d) where
+  pub call-passes : x ≡ Drained.Passes → DrainCall d 0 0 finished
+  call-passes e = record { number = rw (← q, e); first = rw (← q, e); why = rw (← q, e) }
+
+  pub call-table : x ≡ Drained.Table → DrainCall d 0 0 brokenTable
+  call-table e = record { number = rw (← q, e); first = rw (← q, e); why = rw (← q, e) }
+
+  pub call-ill-formed : {row n : ℕ} {cause : Cause} → x ≡ Drained.IllFormed row cause → n ≡ causeNumber cause → DrainCall d row n illFormed
+  call-ill-formed e c = record { number = rw (← q, e); first = rw (← q, e); why = rw (← q, e) c }
+
 module _ {x : Bool} (y : Bool) (q : x ≡ y) where
   pub call-yes : x ≡ true → 1 ≡ yesNo y
   call-yes e = rw (← q, e)
@@ -72,4 +121,4 @@ module _ {x : Bool} (y : Bool) (q : x ≡ y) where
   pub call-no : x ≡ false → 0 ≡ yesNo y
   call-no e = rw (← q, e)
 
-pub ruleset call-laws = (needs, call-valid, call-invalid, call-length, call-bad, call-none, call-yes, call-no)
+pub ruleset call-laws = (needs, call-valid, call-invalid, call-length, call-bad, call-none, call-yes, call-no, call-passes, call-table, call-ill-formed)

@@ -3,9 +3,12 @@
 ghost use mathlib.Core.Path.{_≡_};
 ghost use Rattle.reference.specs.Text.{validated};
 ghost use Rattle.utf8.specs.Table.{isUtf8};
-ghost use Rattle.falzheod.specs.Numbers.{validatedNumber, UnescapeCall, yesNo};
+ghost use Rattle.xml.specs.Drain.{drained};
+ghost use Rattle.falzheod.specs.Numbers.{validatedNumber, UnescapeCall, yesNo, causeNumber, DrainCall};
 use reference::Unescaped;
 use reference::Validated;
+use xml::Cause;
+use xml::Drained;
 
 // 0 where each reference of the text is right, else 7.
 #[no_mangle]
@@ -45,4 +48,50 @@ pub extern "C" fn falzheod_is_utf8(text: &[u8]) -> u32
     ensures { λ r. ⌜ r ≡ yesNo (isUtf8 (now (text .entry))) ⌝ }
 {
     if utf8::is_utf8(text) { 1 } else { 0 }
+}
+
+// The number of a cause, as the header names it.
+fn cause_number(cause: Cause) -> u32
+    ensures { λ r. ⌜ r ≡ causeNumber cause ⌝ }
+{
+    match cause {
+        Cause::TokenError => 1,
+        Cause::MismatchedEnd => 2,
+        Cause::UnclosedElement => 3,
+        Cause::RepeatedAttribute => 4,
+        Cause::BadReference => 5,
+    }
+}
+
+// The strict drain of a body by its table: 0, 1 or 9. `row` and `cause` are the first failing row and its cause where it is 9, else 0.
+#[no_mangle]
+pub extern "C" fn falzheod_drain(
+    body: &[u8],
+    rows: &[u32],
+    end: u32,
+    row: &mut usize,
+    cause: &mut u32,
+) -> u32
+    ensures { λ r. ⌜ DrainCall (drained (now (body .entry)) (now (rows .entry)) end) (now (row .exit)) (now (cause .exit)) r ⌝ }
+{
+    match decode::drain(body, rows, end) {
+        Drained::Passes => {
+            *row = 0;
+            *cause = 0;
+            0
+        }
+        Drained::Table => {
+            *row = 0;
+            *cause = 0;
+            1
+        }
+        Drained::IllFormed {
+            row: first,
+            cause: why,
+        } => {
+            *row = first;
+            *cause = cause_number(why);
+            9
+        }
+    }
 }

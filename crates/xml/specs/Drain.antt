@@ -8,7 +8,8 @@ use Rattle.lists.specs.Tests.{pick}
 use Rattle.lists.specs.Bytes.{sameb}
 use Rattle.reference.specs.Text.{validated}
 use Rattle.reference.specs.declared.Validated.{Validated}
-use Rattle.table.specs.Row.{Name, Tok, start, attr, gt, close, slash, text, misc, bad}
+use Rattle.table.specs.Row.{Name, Tok, start, attr, gt, close, slash, text, misc, bad, rowsOf, toksOf}
+use Rattle.table.specs.Test.{decTable}
 use Rattle.xml.specs.declared.Cause.{Cause}
 use Rattle.xml.specs.declared.Drained.{Drained}
 
@@ -75,3 +76,8 @@ walked l = verdict (length l) (walk zero (going [] []) l)
 abbrev pub drainedBy : {P : Type 0} → Dec P → List Tok → Drained
 drainedBy (yes rules) l = walked l
 drainedBy (no broken) l = Drained.Table
+
+-- 01, "Drain": what the drain of a body, a table and a final position answers
+unfoldable pub drained : List ℕ → List ℕ → ℕ → Drained
+unfolding decTable
+drained body table final = drainedBy (decTable body table final) (toksOf body (rowsOf table))

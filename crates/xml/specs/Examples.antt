@@ -3,20 +3,21 @@ use Prim.Native.Nat.{ℕ}
 use Prim.Native.String.{String}
 use mathlib.Core.Path.{_≡_, refl}
 use mathlib.Core.List.{List, [], _∷_, map}
+use lib.ListN.{length}
 use Rattle.lists.specs.Bytes.{ascii, sameb}
-use Rattle.table.specs.Row.{rowsOf, tokAs, toksOf}
+use Rattle.table.specs.Row.{rowsOf, tokAs}
 use Rattle.xml.specs.declared.Cause.{Cause}
 use Rattle.xml.specs.declared.Drained.{Drained}
-use Rattle.xml.specs.Drain.{sameName, seen, walk, walked}
+use Rattle.xml.specs.Drain.{sameName, seen, walk, walked, drained}
 
 infixl 70 _with-table_
 -- a body and its table
 pub data Input : Type 0 where
   _with-table_ : String → List ℕ → Input
 
--- what the drain answers of a table that obeys the rules
+-- the final position is the body's length
 abbrev drain : Input → Drained
-drain (body with-table table) = walked (toksOf (ascii body) (rowsOf table))
+drain (body with-table table) = drained (ascii body) table (length (ascii body))
 
 pub examples :
     map drain (
@@ -36,5 +37,5 @@ pub examples :
     ∷ Drained.IllFormed 2 Cause.UnclosedElement
     ∷ Drained.Passes
     ∷ []
-unfolding sameb rowsOf tokAs sameName seen walk walked
+unfolding sameb rowsOf tokAs sameName seen walk walked drained
 examples = refl

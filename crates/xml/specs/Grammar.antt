@@ -1,6 +1,7 @@
 -- Documents by W3C XML 1.0 (fifth edition) and by nothing else: productions 1, 22, 27 and 39 to 44 over the tokens of a table.
 -- Each type relates a list and what is left of it: `Element l r` says that l begins with an element, and r is what follows it.
--- What stands between the tokens, and characters written literally, are the tokenizer's.
+-- What stands between the tokens, characters written literally, and how a Name is split at its colon are the tokenizer's: two names are one where the
+-- tokenizer gives them the same prefix and local name, so `:b` and `b` are.
 use Prim.Native.Nat.{ℕ}
 use mathlib.Core.List.{List, [], _∷_, List·Memᴰ}
 use Rattle.reference.specs.Xml.{EachReference}
