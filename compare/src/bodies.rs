@@ -294,6 +294,27 @@ pub fn nested(tag: &str, levels: usize, inside: &str, closed: usize) -> Vec<u8> 
     [open.as_str(), inside, &close].concat().into_bytes()
 }
 
+/// One start tag with this many attributes, ended by `/>`. The last has the name of
+/// the first behind `last`: a prefix, or nothing, and then it repeats it.
+pub fn start_tag(attributes: usize, last: &str) -> String {
+    let mut body = "<r".to_string();
+    for number in 1..attributes {
+        body += &format!(" {}=''", short_name(number));
+    }
+    body + &format!(" {last}{}=''/>", short_name(1))
+}
+
+/// A name of its own for each number that is not 0.
+fn short_name(number: usize) -> String {
+    let mut left = number;
+    let mut name = String::new();
+    while left > 0 {
+        name.push(char::from(b'a' + (left % 26) as u8));
+        left /= 26;
+    }
+    name
+}
+
 /// Cuts, deletes, changes, inserts or doubles, once to three times.
 fn damage(body: &mut Vec<u8>, random: &mut Random) {
     for _ in 0..[1, 1, 1, 2, 3][random.below(5)] {

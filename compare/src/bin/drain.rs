@@ -7,13 +7,13 @@
 //! beside the rules (src/rules.rs). The last line is `N passed, M failed`, counted
 //! in groups; the status is 1 where one failed.
 
+use compare::bodies::{self, nested, start_tag};
 use compare::drains::{shown, Drainer};
 use compare::lent::{self, Made};
 use compare::named;
 use compare::random::Random;
 use compare::rules::{Lent, Rule, RULES};
 use compare::tally::{finish, Tally};
-use compare::{bodies, bodies::nested};
 use oracle::hex::hex;
 
 /// Bodies in rows of these: tags that match and do not, tags cut short, text with
@@ -158,7 +158,9 @@ fn limits_of_bodies() -> bool {
         for tail in ["</a>", "</b>", "", "<"] {
             group.body(format!("<a>{comments}{tail}").as_bytes());
         }
-        group.body(&start_tag(rows - 2));
+        for last in ["p:", ""] {
+            group.body(start_tag(rows - 2, last).as_bytes());
+        }
     }
     for bytes in 65_534..=65_538 {
         for (before, behind) in [
@@ -174,28 +176,6 @@ fn limits_of_bodies() -> bool {
         group.body(&vec![b' '; bytes]);
     }
     group.end()
-}
-
-/// One start tag with this many attributes, all of other names. Its last has the
-/// first one's name with another prefix.
-fn start_tag(attributes: usize) -> Vec<u8> {
-    let mut body = "<r".to_string();
-    for number in 1..attributes {
-        body += &format!(" {}=''", name(number));
-    }
-    body += &format!(" p:{}=''/>", name(1));
-    body.into_bytes()
-}
-
-/// A short name for each number: letters, the first never a digit.
-fn name(number: usize) -> String {
-    let mut left = number;
-    let mut name = String::new();
-    while left > 0 {
-        name.push(char::from(b'a' + (left % 26) as u8));
-        left /= 26;
-    }
-    name
 }
 
 /// For each rule tables that break it alone, by name, and tables at a limit.
