@@ -83,7 +83,9 @@ impl Made {
                 .flatten()
                 .filter_map(|at| self.numbers.get(*at)),
         );
-        if place % 8 == 0 {
+        let field = place % 8;
+        if field == 0 {
+            // a kind
             values.extend(0..=9);
         }
         values.sort_unstable();

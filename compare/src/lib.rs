@@ -11,3 +11,4 @@ pub mod random;
 pub mod rules;
 pub mod tally;
 pub mod texts;
+pub mod timing;

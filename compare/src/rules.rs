@@ -191,7 +191,8 @@ fn note(broken: &mut Broken, rule: Rule, holds: bool) {
 }
 
 fn limits(lent: Lent<'_>, rows: &[Row], broken: &mut Broken) {
-    note(broken, Rule::Length, lent.numbers.len() % 8 == 0);
+    let rest = lent.numbers.chunks_exact(8).remainder();
+    note(broken, Rule::Length, rest.is_empty());
     note(broken, Rule::Rows, rows.len() <= MOST_ROWS);
     note(broken, Rule::Bytes, lent.body.len() <= MOST_BYTES);
     let utf8 = std::str::from_utf8(lent.body).is_ok();
