@@ -2,14 +2,14 @@
  *
  * Link libfalzheod.a, which `rt staticlib falzheod` writes to target/staticlib.
  *
- * What the library promises: any content of `text` and of `out` is taken, and
- * any length up to the size of an object; nothing about the bytes is assumed, so
- * `out` need not be initialised. Nothing is kept after the call, nothing is
+ * What the library promises: any content of what is lent is taken, and any length
+ * up to the size of an object; nothing about the bytes or the numbers is assumed,
+ * and `out` need not be initialised. Nothing is kept after the call, nothing is
  * allocated, and only the memory that a function is said to write is written.
  *
  * What the caller sees to, or the behaviour is undefined: each pointer is valid
- * for its length and not null, not even where the length is 0; `text`, `out` and
- * `length` do not overlap.
+ * for its length, aligned for its type and not null, not even where the length is
+ * 0; what a function writes overlaps nothing else that is lent to it.
  */
 #ifndef FALZHEOD_H
 #define FALZHEOD_H
@@ -27,9 +27,15 @@ extern "C" {
 /* The operation finished. */
 #define FALZHEOD_FINISHED UINT32_C(0)
 
+/* The token table breaks a rule (falzheod_drain says which there are). */
+#define FALZHEOD_TABLE UINT32_C(1)
+
 /* A reference is bad: an `&` without a `;` before the next `&` or the end, a
  * name other than lt, gt, amp, quot and apos, or a number that is not taken. */
 #define FALZHEOD_REFERENCE UINT32_C(7)
+
+/* The table keeps the rules, but the document is ill-formed. */
+#define FALZHEOD_ILL_FORMED UINT32_C(9)
 
 /* The result is longer than the room lent for it. */
 #define FALZHEOD_NO_ROOM UINT32_C(10)
@@ -62,6 +68,56 @@ uint32_t falzheod_validate_references(const uint8_t *text, size_t text_len);
  * 0 it is not. These two are a yes and a no, none of the numbers above.
  * Writes nothing. */
 uint32_t falzheod_is_utf8(const uint8_t *text, size_t text_len);
+
+/* Why a document is ill-formed: the causes that falzheod_drain tells. */
+
+/* The tokenizer could not go on: the row is of kind 8. */
+#define FALZHEOD_CAUSE_TOKEN UINT32_C(1)
+
+/* An end tag whose prefix and local name are not those of the innermost open
+ * element. */
+#define FALZHEOD_CAUSE_MISMATCHED UINT32_C(2)
+
+/* An element is still open where the rows end. */
+#define FALZHEOD_CAUSE_UNCLOSED UINT32_C(3)
+
+/* An attribute alike in prefix and local name to an earlier one of its tag. */
+#define FALZHEOD_CAUSE_REPEATED UINT32_C(4)
+
+/* A value or a text with a reference that falzheod_validate_references refuses. */
+#define FALZHEOD_CAUSE_REFERENCE UINT32_C(5)
+
+/* Tests that a token table stands for a well-formed document: the strict drain.
+ *
+ * `rows` has eight numbers for each token of `body`, and `rows_len` counts
+ * numbers: kind, prefix start and length, local name start and length, value start
+ * and length, and the position in the body behind the token. `end` is the final
+ * position. Kinds: 1 start of a start tag, 2 attribute, 3 `>`, 4 end tag, 5 `/>`,
+ * 6 text, 7 all others, 8 token error. Kinds 1 and 4 use prefix and local name, 2
+ * all three spans, 6 the value; fields not used, and an empty prefix or value, are
+ * 0 and 0.
+ *
+ * The rules. `rows_len` divides by 8; there are at most 8,192 rows, 65,536 bytes of
+ * body and 256 elements open at once, each from its row of kind 1. A body that is
+ * not UTF-8 has no rows. Positions never fall; none is behind `end`, nor `end`
+ * behind the body. A filled span lies between the previous row's position (0 at
+ * first) and its own row's, and so does the start of a local name that is empty. In
+ * kinds 1 and 4 the last `<` before the local name stands at or behind the previous
+ * position, and before a filled prefix. The body has `>` right before the position
+ * of kinds 3 and 4, `/>` before that of kind 5. After kind 1 come only rows of kind
+ * 2, then 3 or 5, or 8, or the end of the table; kinds 2, 3 and 5 come nowhere
+ * else. Kinds 4 and 6 need an open element. Behind the root only 7 and 8 come. Kind
+ * 8 is last.
+ *
+ * Answers FALZHEOD_FINISHED, FALZHEOD_TABLE or FALZHEOD_ILL_FORMED, tested in this
+ * order: the rules, then the rows one by one. A row is tested for repetition before
+ * its references. No rows at all pass.
+ *
+ * `*row` and `*cause` become the number of the first failing row, from 0, and why;
+ * the row of an unclosed element is the count of rows. Where the answer is not
+ * FALZHEOD_ILL_FORMED both become 0. Writes nothing else. */
+uint32_t falzheod_drain(const uint8_t *body, size_t body_len, const uint32_t *rows,
+                        size_t rows_len, uint32_t end, size_t *row, uint32_t *cause);
 
 #ifdef __cplusplus
 }

@@ -62,3 +62,19 @@ packaged_xmlparser() {
     XMLPARSER_SRC=
     return 1
 }
+
+# xmlparser as a crate that cargo finds without fetching: the wrapper's feature wants it, and
+# offline cargo asks for it even where the feature is off.
+need_xmlparser_crate() {
+    local XMLPARSER_SRC
+    packaged_xmlparser && return 0
+    install_package librust-xmlparser-dev && packaged_xmlparser ||
+        setup_fail "no crate xmlparser in /usr/share/cargo/registry"
+}
+
+# cargo_offline COMMAND...: cargo with Debian's crates for those of crates.io.
+cargo_offline() {
+    local command=$1
+    shift
+    cargo "$command" --config "$root/tools/debian.toml" --offline "$@"
+}

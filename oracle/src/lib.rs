@@ -3,7 +3,8 @@
 //! The modules `unescape`, `decode`, `codec` and `codec::deserializer` are the
 //! published files, copied here unchanged by `setup.sh`. [`answer`] takes the
 //! questions that README.md lists; [`unescape`] and [`validate_references`] are
-//! the two functions of `src/unescape.rs` for Rust programs to call.
+//! the two functions of `src/unescape.rs` for Rust programs to call, and [`table`]
+//! makes tables and drains for them.
 
 #![allow(dead_code, unused_imports, non_local_definitions)]
 
@@ -46,7 +47,7 @@ mod numbers;
 mod questions;
 mod readings;
 mod sheet;
-mod table;
+pub mod table;
 mod unescape;
 
 pub use questions::answer;

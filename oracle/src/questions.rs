@@ -3,7 +3,7 @@
 use crate::codec::{find_depth2_element_slice_by, XmlDeserializer};
 use crate::hex::{bytes, hex, utf8};
 use crate::readings::{codec, entry, place, reading};
-use crate::table::{drain, table};
+use crate::table::{drain, table, Table};
 use crate::{sheet, unescape, validate_references};
 use aws_smithy_schema::serde::{SerdeError, ShapeDeserializer};
 use aws_smithy_schema::Schema;
@@ -24,8 +24,11 @@ fn asked(fields: &[&str]) -> Result<String, String> {
             Ok(()) => "ok".to_string(),
             Err(error) => format!("refuse {}", error.number()),
         }),
-        ["table", body] => Ok(table(&bytes(body)?)),
-        ["drain", body] => Ok(drain(&bytes(body)?)),
+        ["table", body] => Ok(written(&table(&bytes(body)?))),
+        ["drain", body] => Ok(match drain(&bytes(body)?) {
+            Ok(()) => "ok".to_string(),
+            Err((row, cause)) => format!("refuse 9 {row} {cause}"),
+        }),
         ["find", body, name] => find(&bytes(body)?, &utf8(name)?),
         [kind @ ("struct" | "list" | "map" | "strings"), body, sheet, flags, depth, maximum] => {
             let call = Call::new(body, flags, depth, maximum)?;
@@ -50,6 +53,14 @@ fn asked(fields: &[&str]) -> Result<String, String> {
         }
         _ => Err("question".to_string()),
     }
+}
+
+fn written(table: &Table) -> String {
+    let rows = table.rows.iter().map(|row| {
+        let numbers: Vec<String> = row.iter().map(u32::to_string).collect();
+        format!(" {}", numbers.join(","))
+    });
+    format!("ok {}{}", table.end, rows.collect::<String>())
 }
 
 fn find(body: &[u8], name: &str) -> Result<String, String> {

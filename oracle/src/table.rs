@@ -1,34 +1,49 @@
 //! The token table of a body, and the drain over it.
 
 use crate::decode::{Document, XmlDecodeError};
-use std::fmt::Write as _;
 use xmlparser::{ElementEnd, StrSpan, Token, Tokenizer};
 
-pub fn table(body: &[u8]) -> String {
+/// A token table as document 01 has it: eight numbers a row, and the final position.
+#[derive(Debug, Default, PartialEq)]
+pub struct Table {
+    pub rows: Vec<[u32; 8]>,
+    pub end: u32,
+}
+
+/// The table of the tokens that the Rust reads in `body`.
+pub fn table(body: &[u8]) -> Table {
     let Ok(text) = std::str::from_utf8(body) else {
         // `unwrap_or_else(|_| Document::new(""))` in the deserializer
-        return "ok 0".to_string();
+        return Table::default();
     };
     let mut tokenizer = Tokenizer::from(text); // as `Document::new`
-    let mut rows = String::new();
+    let mut rows = Vec::new();
     while let Some(token) = tokenizer.next() {
         let position = tokenizer.stream().pos(); // as `Document::offset`
         let (kind, prefix, local, value) = row(text, token);
-        write!(
-            rows,
-            " {kind},{},{},{},{},{},{},{position}",
-            prefix.0, prefix.1, local.0, local.1, value.0, value.1
-        )
-        .expect("a string");
+        let row = [
+            kind, prefix.0, prefix.1, local.0, local.1, value.0, value.1, position,
+        ];
+        rows.push(row.map(number));
     }
-    format!("ok {}{rows}", tokenizer.stream().pos())
+    let end = number(tokenizer.stream().pos());
+    Table { rows, end }
+}
+
+fn number(place: usize) -> u32 {
+    u32::try_from(place).expect("a body of less than 4 GiB")
+}
+
+/// The tokens of `body` read and thrown away: how many there are.
+pub fn count_tokens(body: &[u8]) -> usize {
+    std::str::from_utf8(body).map_or(0, |text| Tokenizer::from(text).count())
 }
 
 /// Start and length.
 type Span = (usize, usize);
 
 /// A token's kind and its spans: prefix, local name, value.
-fn row(text: &str, token: Result<Token<'_>, xmlparser::Error>) -> (u32, Span, Span, Span) {
+fn row(text: &str, token: Result<Token<'_>, xmlparser::Error>) -> (usize, Span, Span, Span) {
     let none = (0, 0);
     let filled = |span: StrSpan<'_>| {
         let (start, end) = (span.start(), span.end());
@@ -58,26 +73,35 @@ fn row(text: &str, token: Result<Token<'_>, xmlparser::Error>) -> (u32, Span, Sp
     }
 }
 
-pub fn drain(body: &[u8]) -> String {
-    let open = || {
-        let mut doc = Document::try_from(body).unwrap_or_else(|_| Document::new(""));
-        doc.check_well_formedness();
-        doc
-    };
-    let passes = open().finish_well_formed().is_ok();
-    // The same document once more, token by token, for the row and the cause.
-    let mut doc = open();
+/// A failing row and why: token, mismatched, unclosed, repeated or reference.
+pub type Failure = (usize, &'static str);
+
+/// The strict reading of all of `body`, as the readings run it.
+pub fn is_well_formed(body: &[u8]) -> bool {
+    open(body).finish_well_formed().is_ok()
+}
+
+fn open(body: &[u8]) -> Document<'_> {
+    let mut doc = Document::try_from(body).unwrap_or_else(|_| Document::new(""));
+    doc.check_well_formedness();
+    doc
+}
+
+/// The same, and once more token by token for the row and the cause.
+pub fn drain(body: &[u8]) -> Result<(), Failure> {
+    let passes = is_well_formed(body);
+    let mut doc = open(body);
     let mut row = 0;
     loop {
         match doc.next() {
             Some(Ok(_)) => row += 1,
             Some(Err(error)) => {
                 assert!(doc.finish_well_formed().is_err() && !passes);
-                return format!("refuse 9 {row} {}", cause(&error));
+                return Err((row, cause(&error)));
             }
             None => {
                 assert!(doc.finish_well_formed().is_ok() && passes);
-                return "ok".to_string();
+                return Ok(());
             }
         }
     }

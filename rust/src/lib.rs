@@ -12,7 +12,12 @@
 
 #![warn(missing_docs)]
 
+mod drain;
 pub mod sys;
+#[cfg(feature = "xmlparser")]
+pub mod table;
+
+pub use drain::{drain, drain_numbers, Cause, Row};
 
 use std::fmt;
 
@@ -20,14 +25,23 @@ use std::fmt;
 ///
 /// More numbers come with the readings, so a `match` needs a last arm.
 #[derive(Clone, Copy, Debug, PartialEq, Eq, Hash)]
-#[repr(u32)]
 #[non_exhaustive]
 pub enum Refusal {
+    /// The token table breaks a rule, so it is not looked at further.
+    Table,
     /// A reference is bad: not ended, of an unknown name, or with a number that
     /// is not taken.
-    Reference = 7,
+    Reference,
+    /// The table keeps the rules, but the document is ill-formed.
+    IllFormed {
+        /// The first failing row, from 0; the count of rows for an element that is
+        /// still open at their end.
+        row: usize,
+        /// What is wrong with it.
+        cause: Cause,
+    },
     /// The result is longer than the room lent for it.
-    NoRoom = 10,
+    NoRoom,
 }
 
 impl Refusal {
@@ -38,22 +52,30 @@ impl Refusal {
     /// assert_eq!(falzheod::Refusal::NoRoom.number(), 10);
     /// ```
     pub fn number(self) -> u32 {
-        self as u32
+        match self {
+            Refusal::Table => 1,
+            Refusal::Reference => 7,
+            Refusal::IllFormed { .. } => 9,
+            Refusal::NoRoom => 10,
+        }
     }
 }
 
 impl fmt::Display for Refusal {
     fn fmt(&self, f: &mut fmt::Formatter<'_>) -> fmt::Result {
-        f.write_str(match self {
-            Refusal::Reference => "a reference is bad",
-            Refusal::NoRoom => "the result does not fit into the room lent for it",
-        })
+        match self {
+            Refusal::Table => f.write_str("the token table breaks a rule"),
+            Refusal::Reference => f.write_str("a reference is bad"),
+            Refusal::IllFormed { row, cause } => write!(f, "ill-formed at row {row}: {cause}"),
+            Refusal::NoRoom => f.write_str("the result does not fit into the room lent for it"),
+        }
     }
 }
 
 impl std::error::Error for Refusal {}
 
-/// The library's number as a result. Its contracts leave no other number.
+/// The number of an operation on references as a result. Their contracts leave no
+/// other number.
 fn finished(number: u32) -> Result<(), Refusal> {
     match number {
         0 => Ok(()),

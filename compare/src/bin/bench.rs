@@ -8,12 +8,10 @@
 
 use compare::random::Random;
 use compare::texts;
+use compare::timing::{medians, TURNS};
 use std::hint::black_box;
-use std::time::{Duration, Instant};
 
 const SIZE: usize = 64 * 1024;
-const TURNS: usize = 15;
-const TURN: Duration = Duration::from_millis(20);
 
 const NAMES: [&str; 5] = ["&lt;", "&gt;", "&amp;", "&quot;", "&apos;"];
 const LETTERS: [&str; 8] = ["é", "µ", "ß", "€", "木", "輪", "🌲", "🪵"];
@@ -81,40 +79,8 @@ fn utf8_texts() -> [(&'static str, String); 3] {
     ]
 }
 
-/// How many calls take about one turn.
-fn calls(call: &mut dyn FnMut()) -> u32 {
-    let mut calls = 1;
-    loop {
-        let taken = time(call, calls);
-        if taken >= TURN.as_secs_f64() * 1e9 / f64::from(calls) {
-            return calls;
-        }
-        calls *= 2;
-    }
-}
-
-/// Nanoseconds for one call.
-fn time(call: &mut dyn FnMut(), calls: u32) -> f64 {
-    let start = Instant::now();
-    for _ in 0..calls {
-        call();
-    }
-    start.elapsed().as_secs_f64() * 1e9 / f64::from(calls)
-}
-
-fn median(mut times: Vec<f64>) -> f64 {
-    times.sort_by(f64::total_cmp);
-    times[times.len() / 2]
-}
-
 fn row(operation: &str, name: &str, ours: &mut dyn FnMut(), rust: &mut dyn FnMut()) {
-    let (our_calls, rust_calls) = (calls(ours), calls(rust));
-    let (mut our_times, mut rust_times) = (Vec::new(), Vec::new());
-    for _ in 0..TURNS {
-        our_times.push(time(ours, our_calls));
-        rust_times.push(time(rust, rust_calls));
-    }
-    let (our_time, rust_time) = (median(our_times), median(rust_times));
+    let [our_time, rust_time] = medians([ours, rust]);
     let speed = |time: f64| SIZE as f64 / time;
     println!(
         "| {operation} | {name} | {our_time:.0} | {:.2} | {rust_time:.0} | {:.2} | {:.2} |",

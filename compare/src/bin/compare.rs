@@ -8,6 +8,7 @@
 
 use compare::check::Checker;
 use compare::random::Random;
+use compare::tally::{finish, Tally};
 use compare::texts::{self, BAD, GOOD, LAX, NOT_UTF8, PLAIN};
 use oracle::hex::hex;
 
@@ -50,27 +51,19 @@ const PIECES: [&str; 22] = [
     "4294967296",
 ];
 
-/// How many differing texts a group shows.
-const SHOWN: usize = 5;
-
 /// One kind of texts. It passes when no text differs.
 struct Group {
-    name: String,
+    tally: Tally,
     checker: Checker,
     random: Random,
-    texts: u64,
-    differing: u64,
 }
 
 impl Group {
     fn new(name: impl Into<String>) -> Self {
-        let (name, checker, random) = (name.into(), Checker::default(), Random::new(1));
         Group {
-            name,
-            checker,
-            random,
-            texts: 0,
-            differing: 0,
+            tally: Tally::new(name, "texts"),
+            checker: Checker::default(),
+            random: Random::new(1),
         }
     }
 
@@ -93,31 +86,18 @@ impl Group {
     }
 
     fn count(&mut self, text: &[u8], problem: Option<String>) {
-        self.texts += 1;
-        if let Some(problem) = problem {
-            if self.differing < SHOWN as u64 {
-                println!("differs: {}: {problem}: {}", self.name, hex(text));
-            }
-            self.differing += 1;
-        }
+        self.tally.count(problem, || hex(text));
     }
 
     /// Says what was found, and whether all were alike.
     fn end(self) -> bool {
-        let word = if self.differing == 0 {
-            "alike"
-        } else {
-            "DIFFERENT"
-        };
-        print!(
-            "{word}: {}: {} texts, {} differ",
-            self.name, self.texts, self.differing
-        );
         match (self.checker.taken, self.checker.valid) {
-            (0, 0) => println!(),
-            (taken, valid) => println!("; unescape takes {taken}, validate {valid}"),
+            (0, 0) => self.tally.end(""),
+            (taken, valid) => {
+                let remark = format!("unescape takes {taken}, validate {valid}");
+                self.tally.end(&remark)
+            }
         }
-        self.differing == 0
     }
 }
 
@@ -229,7 +209,7 @@ fn random_texts(count: u64, seed: u64) -> bool {
         asked += u64::from(std::str::from_utf8(&text).is_ok());
         group.both(&text);
     }
-    group.name += &format!(" ({asked} put to the Rust, the others are not UTF-8)");
+    group.tally.name += &format!(" ({asked} put to the Rust, the others are not UTF-8)");
     group.end()
 }
 
@@ -336,7 +316,7 @@ fn main() {
         LAX.len(),
         BAD.len()
     );
-    let groups = [
+    finish(&[
         every_text(length),
         every_row_of_pieces(length.saturating_sub(1)),
         every_code(),
@@ -347,8 +327,5 @@ fn main() {
         random_bytes(count / 4, seed),
         short_utf8(),
         long_utf8(),
-    ];
-    let passed = groups.iter().filter(|alike| **alike).count();
-    println!("{passed} passed, {} failed", groups.len() - passed);
-    std::process::exit(i32::from(passed != groups.len()));
+    ]);
 }

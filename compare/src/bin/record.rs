@@ -1,11 +1,15 @@
-//! Writes the Rust's answers for some two thousand texts, two lines each, for
-//! crates/replay to replay without the Rust:
+//! Writes the Rust's answers for some two thousand texts, two lines each, and for a
+//! thousand bodies, for crates/replay to replay without the Rust:
 //!
 //!     v TEXT N            validate_references: 0 or 7
 //!     u TEXT N [RESULT]   unescape: 0 and its result, or 7
+//!     d BODY END ROWS N [ROW CAUSE]   the strict drain: 0, or 9 with row and cause
 //!
-//! TEXT and RESULT in hexadecimal, `-` for none. The same every time.
+//! TEXT, RESULT and BODY in hexadecimal, `-` for none. ROWS are all numbers of the
+//! table's rows in decimal, parted by commas, `-` for none. The same every time.
 
+use compare::bodies::{self, nested, start_tag};
+use compare::drains::of_rust;
 use compare::random::Random;
 use compare::texts::{self, BOUNDS, MARKED, PLAIN};
 use oracle::hex::hex;
@@ -13,8 +17,12 @@ use std::collections::HashSet;
 use std::io::{BufWriter, Write};
 
 const TEXTS: usize = 2_000;
+const BODIES: usize = 1_000;
 
-/// The longest text, in bytes. Most are shorter, to keep the file small.
+/// Lines are shorter than this, for replay to hold one.
+const LONGEST_LINE: usize = 1_000;
+
+/// The longest text or body, in bytes. Most are shorter, to keep the file small.
 const LONGEST: usize = 120;
 const MOSTLY: usize = 40;
 
@@ -80,6 +88,85 @@ impl Texts {
     }
 }
 
+/// The bodies in the order of the file, each once: document 01's, then those that
+/// are few among random ones, then random ones.
+#[derive(Default)]
+struct Bodies {
+    seen: HashSet<Vec<u8>>,
+    lines: Vec<String>,
+}
+
+impl Bodies {
+    /// A body whose line is short enough, and which is new.
+    fn add(&mut self, body: Vec<u8>) {
+        let line = drain_line(&body);
+        if line.len() < LONGEST_LINE && self.seen.insert(body) {
+            self.lines.push(line);
+        }
+    }
+
+    fn add_marked(&mut self) {
+        for body in [
+            "",
+            "<a><b></a></b>",
+            "<a>",
+            "<r><b>7</b></r>",
+            "<r x=\"1\" x=\"2\"/>",
+            "<r><a x=\"&zz;\">1</a><b>2</b></r>",
+            "<r><a>1</b><c>2</c></r>",
+        ] {
+            self.add(body.into());
+        }
+        for reference in texts::references() {
+            self.add(format!("<a>{reference}</a>").into());
+            self.add(format!("<a x='{reference}'/>").into());
+        }
+    }
+
+    fn add_shapes(&mut self) {
+        for count in 1..=12 {
+            for tag in ["a", "p:a"] {
+                self.add(nested(tag, count, "<b/>", count));
+                self.add(nested(tag, count, "t", count - 1));
+            }
+            self.add(start_tag(count, "p:").into());
+            self.add(start_tag(count + 1, "").into());
+        }
+        let prefixes = ["", "p:", "q:", ":"];
+        for (first, second) in prefixes.iter().flat_map(|f| prefixes.map(|s| (f, s))) {
+            self.add(format!("<{first}a></{second}a>").into());
+            self.add(format!("<r {first}x='' {second}x=''/>").into());
+        }
+    }
+
+    fn add_random(&mut self) {
+        let mut random = Random::new(2);
+        while self.lines.len() < BODIES {
+            let body = bodies::random(&mut random);
+            // what passes would be half of them
+            if body.len() <= LONGEST && (random.chance(50) || of_rust(&body).number != 0) {
+                self.add(body);
+            }
+        }
+    }
+}
+
+fn drain_line(body: &[u8]) -> String {
+    let table = oracle::table::table(body);
+    let numbers: Vec<String> = table.rows.iter().flatten().map(u32::to_string).collect();
+    let rows = if numbers.is_empty() {
+        "-".to_string()
+    } else {
+        numbers.join(",")
+    };
+    let asked = format!("d {} {} {rows}", hex(body), table.end);
+    let answer = of_rust(body);
+    match answer.number {
+        0 => format!("{asked} 0"),
+        number => format!("{asked} {number} {} {}", answer.row, answer.cause),
+    }
+}
+
 fn validate_line(text: &str) -> String {
     let number = oracle::validate_references(text).map_or_else(|error| error.number(), |()| 0);
     format!("v {} {number}", hex(text.as_bytes()))
@@ -99,10 +186,17 @@ fn main() -> std::io::Result<()> {
     texts.add_bounds();
     texts.add_offsets();
     texts.add_random();
+    let mut bodies = Bodies::default();
+    bodies.add_marked();
+    bodies.add_shapes();
+    bodies.add_random();
     let mut out = BufWriter::new(std::io::stdout().lock());
     for text in &texts.list {
         writeln!(out, "{}", validate_line(text))?;
         writeln!(out, "{}", unescape_line(text))?;
+    }
+    for line in &bodies.lines {
+        writeln!(out, "{line}")?;
     }
     out.flush()
 }

@@ -1,0 +1,177 @@
+//! The check of one table: the static library's drain beside what is expected.
+
+use crate::rules::{self, Answer, Lent, Rule};
+use falzheod::sys;
+use oracle::hex::hex;
+
+/// What stands in memory around a body and around rows. A library that looks past
+/// either end finds what would change its answer.
+const BEFORE: &[u8] = b"<";
+const BEHIND: &[u8] = b"/>;";
+const ROW_BEFORE: [u32; 8] = [1, 0, 0, 0, 0, 0, 0, 0];
+const ROW_BEHIND: [u32; 8] = [8, 0, 0, 0, 0, 0, 0, 0];
+
+/// Holds the memory that is lent, for one table after the other.
+#[derive(Default)]
+pub struct Drainer {
+    body: Vec<u8>,
+    rows: Vec<u32>,
+    /// How many were to be answered so: 0, 1, and 9 by its causes 1 to 5.
+    answers: [u64; 7],
+}
+
+impl Drainer {
+    /// What differs for a body and the Rust's own table of it, if anything. The
+    /// Rust has no limits; past them the answer is 1.
+    pub fn beside_rust(&mut self, body: &[u8]) -> Option<String> {
+        let table = oracle::table::table(body);
+        if let Some(problem) = wrapper_differs(body, &table) {
+            return Some(problem);
+        }
+        let numbers = table.rows.concat();
+        let lent = Lent {
+            body,
+            numbers: &numbers,
+            end: table.end,
+        };
+        let expected = if is_past_a_limit(body, &table.rows) {
+            Answer::TABLE
+        } else {
+            of_rust(body)
+        };
+        let by_rules = rules::answer(lent);
+        if by_rules != expected {
+            return Some(format!("01 says {by_rules:?}, the Rust {expected:?}"));
+        }
+        self.beside(lent, expected)
+    }
+
+    /// The same for any table, beside 01's rules.
+    pub fn beside_rules(&mut self, lent: Lent<'_>) -> Option<String> {
+        self.beside(lent, rules::answer(lent))
+    }
+
+    /// The same for a table that breaks just one rule, or none.
+    pub fn breaking(&mut self, lent: Lent<'_>, rule: Option<Rule>) -> Option<String> {
+        let broken = rules::broken(lent);
+        if !broken.iter().copied().eq(rule) {
+            return Some(format!("breaks {broken:?}, not {rule:?}"));
+        }
+        self.beside_rules(lent)
+    }
+
+    fn beside(&mut self, lent: Lent<'_>, expected: Answer) -> Option<String> {
+        let place = if expected.number == 9 {
+            1 + expected.cause
+        } else {
+            expected.number
+        };
+        self.answers[place as usize] += 1;
+        let (got, untouched) = self.ask(lent);
+        if got != expected {
+            return Some(format!("is {got:?}, not {expected:?}"));
+        }
+        (!untouched).then(|| "wrote to what it only reads".to_string())
+    }
+
+    /// The library's answer, and whether the memory lent is as it was.
+    fn ask(&mut self, lent: Lent<'_>) -> (Answer, bool) {
+        self.body.clear();
+        for part in [BEFORE, lent.body, BEHIND] {
+            self.body.extend_from_slice(part);
+        }
+        self.rows.clear();
+        for part in [&ROW_BEFORE, lent.numbers, &ROW_BEHIND] {
+            self.rows.extend_from_slice(part);
+        }
+        let body = &self.body[BEFORE.len()..][..lent.body.len()];
+        let rows = &self.rows[ROW_BEFORE.len()..][..lent.numbers.len()];
+        // not 0: that they become 0 has to show
+        let (mut row, mut cause) = (usize::MAX, u32::MAX);
+        // SAFETY: pointers to live memory of the lengths given; nothing overlaps.
+        let number = unsafe {
+            sys::falzheod_drain(
+                body.as_ptr(),
+                body.len(),
+                rows.as_ptr(),
+                rows.len(),
+                lent.end,
+                &mut row,
+                &mut cause,
+            )
+        };
+        let answer = Answer { number, row, cause };
+        (answer, body == lent.body && rows == lent.numbers)
+    }
+
+    /// How often each answer was expected, in words.
+    pub fn answers(&self) -> String {
+        let [passes, table, token, mismatched, unclosed, repeated, reference] = self.answers;
+        format!(
+            "{passes} pass, {table} break a rule, {token} token, {mismatched} mismatched, \
+             {unclosed} unclosed, {repeated} repeated, {reference} reference"
+        )
+    }
+}
+
+/// A table as it is shown: what a person needs to ask again.
+pub fn shown(lent: Lent<'_>) -> String {
+    let rows: Vec<String> = lent
+        .numbers
+        .chunks(8)
+        .map(|row| row.iter().map(u32::to_string).collect::<Vec<_>>().join(","))
+        .collect();
+    format!(
+        "body {} end {} rows {}",
+        hex(lent.body),
+        lent.end,
+        rows.join(" ")
+    )
+}
+
+/// The Rust's answer for a body.
+pub fn of_rust(body: &[u8]) -> Answer {
+    match oracle::table::drain(body) {
+        Ok(()) => Answer::PASSES,
+        Err((row, cause)) => Answer::ill_formed(row, cause_number(cause)),
+    }
+}
+
+fn cause_number(cause: &str) -> u32 {
+    let causes = ["token", "mismatched", "unclosed", "repeated", "reference"];
+    let place = causes.iter().position(|known| *known == cause);
+    1 + place.expect("a cause of the oracle's") as u32
+}
+
+/// Counted here once more, for a mistake in rules.rs to show.
+fn is_past_a_limit(body: &[u8], rows: &[[u32; 8]]) -> bool {
+    let (mut open, mut most) = (0, 0);
+    for row in rows {
+        match row[0] {
+            1 => open += 1,
+            4 | 5 => open -= 1,
+            _ => {}
+        }
+        most = most.max(open);
+    }
+    body.len() > 65_536 || rows.len() > 8_192 || most > 256
+}
+
+/// The wrapper makes the same table, with the tokenizer as it is packaged.
+fn wrapper_differs(body: &[u8], table: &oracle::table::Table) -> Option<String> {
+    let made = falzheod::table::from_tokens(body);
+    let rows = made.rows.iter().map(|row| {
+        [
+            row.kind,
+            row.prefix_start,
+            row.prefix_len,
+            row.local_start,
+            row.local_len,
+            row.value_start,
+            row.value_len,
+            row.position,
+        ]
+    });
+    let alike = made.end == table.end && rows.eq(table.rows.iter().copied());
+    (!alike).then(|| "the wrapper's table is not the Rust's".to_string())
+}

@@ -1,0 +1,148 @@
+//! The strict drain: whether a token table stands for a well-formed document.
+
+use crate::{sys, Refusal};
+use std::fmt;
+use std::mem::size_of;
+
+/// One row of a token table: a token's kind, its spans in the body and the
+/// position behind it. `include/falzheod.h` has the kinds and the rules.
+#[derive(Clone, Copy, Debug, Default, PartialEq, Eq, Hash)]
+#[repr(C)]
+pub struct Row {
+    /// 1 start, 2 attribute, 3 `>`, 4 end tag, 5 `/>`, 6 text, 7 all others,
+    /// 8 token error.
+    pub kind: u32,
+    /// Where the prefix starts (kinds 1, 2, 4), 0 where it is empty.
+    pub prefix_start: u32,
+    /// How many bytes the prefix has.
+    pub prefix_len: u32,
+    /// Where the local name starts (kinds 1, 2, 4), even where it is empty.
+    pub local_start: u32,
+    /// How many bytes the local name has.
+    pub local_len: u32,
+    /// Where the value starts (kinds 2, 6), 0 where it is empty.
+    pub value_start: u32,
+    /// How many bytes the value has.
+    pub value_len: u32,
+    /// The position in the body behind the token.
+    pub position: u32,
+}
+
+/// The numbers of a row in the library's tables.
+const NUMBERS: usize = 8;
+
+// the library reads a row as eight numbers in a line
+const _: () = assert!(size_of::<Row>() == NUMBERS * size_of::<u32>());
+
+/// Why a document is ill-formed.
+#[derive(Clone, Copy, Debug, PartialEq, Eq, Hash)]
+#[repr(u32)]
+pub enum Cause {
+    /// The tokenizer could not go on.
+    Token = 1,
+    /// An end tag whose name is not that of the innermost open element.
+    Mismatched = 2,
+    /// An element is still open where the rows end.
+    Unclosed = 3,
+    /// An attribute of the same name as an earlier one of its tag.
+    Repeated = 4,
+    /// A reference that [`validate_references`](crate::validate_references) refuses.
+    Reference = 5,
+}
+
+impl Cause {
+    /// The number of this cause in `include/falzheod.h`.
+    ///
+    /// ```
+    /// assert_eq!(falzheod::Cause::Repeated.number(), 4);
+    /// ```
+    pub fn number(self) -> u32 {
+        self as u32
+    }
+
+    /// The library's number as a cause. Its contract leaves no other number.
+    fn of(number: u32) -> Self {
+        match number {
+            1 => Cause::Token,
+            2 => Cause::Mismatched,
+            3 => Cause::Unclosed,
+            4 => Cause::Repeated,
+            5 => Cause::Reference,
+            other => unreachable!("falzheod told the cause {other}"),
+        }
+    }
+}
+
+impl fmt::Display for Cause {
+    fn fmt(&self, f: &mut fmt::Formatter<'_>) -> fmt::Result {
+        f.write_str(match self {
+            Cause::Token => "a token error",
+            Cause::Mismatched => "an end tag that does not match the open element",
+            Cause::Unclosed => "an element is not closed",
+            Cause::Repeated => "an attribute is repeated in its tag",
+            Cause::Reference => "a reference is bad",
+        })
+    }
+}
+
+/// Tests that the rows, with the final position `end`, keep the rules of a token
+/// table of `body` and stand for a well-formed document.
+///
+/// The tests come in this order: the rules ([`Refusal::Table`]), then the rows one by
+/// one ([`Refusal::IllFormed`] with the first that fails). No rows at all pass. Any
+/// rows are taken, whoever made them; with the feature `xmlparser`,
+/// `table::from_tokens` makes them from a body.
+///
+/// ```
+/// use falzheod::{drain, Cause, Refusal, Row};
+///
+/// let start = Row { kind: 1, local_start: 1, local_len: 1, position: 2, ..Row::default() };
+/// let end = Row { kind: 5, position: 4, ..Row::default() };
+/// assert_eq!(drain(b"<a/>", &[start, end], 4), Ok(()));
+///
+/// let cut = Refusal::IllFormed { row: 1, cause: Cause::Unclosed };
+/// assert_eq!(drain(b"<a", &[start], 2), Err(cut));
+/// assert_eq!(cut.to_string(), "ill-formed at row 1: an element is not closed");
+///
+/// assert_eq!(drain(b"<a", &[end], 2), Err(Refusal::Table));
+/// ```
+pub fn drain(body: &[u8], rows: &[Row], end: u32) -> Result<(), Refusal> {
+    // SAFETY: a row is `NUMBERS` numbers without padding (`repr(C)`, and its size is
+    // asserted above), so the rows are this many initialised numbers in a line.
+    let numbers = unsafe { std::slice::from_raw_parts(rows.as_ptr().cast(), rows.len() * NUMBERS) };
+    drain_numbers(body, numbers, end)
+}
+
+/// [`drain`] of a table that is held as plain numbers, eight a row in the order of
+/// [`Row`]'s fields. A length that does not divide by 8 breaks the rules.
+///
+/// ```
+/// let numbers = [1, 0, 0, 1, 1, 0, 0, 2, 5, 0, 0, 0, 0, 0, 0, 4];
+/// assert_eq!(falzheod::drain_numbers(b"<a/>", &numbers, 4), Ok(()));
+/// assert_eq!(falzheod::drain_numbers(b"<a/>", &numbers[..9], 4), Err(falzheod::Refusal::Table));
+/// ```
+pub fn drain_numbers(body: &[u8], rows: &[u32], end: u32) -> Result<(), Refusal> {
+    let (mut row, mut cause) = (0, 0);
+    // SAFETY: the pointers are those of live slices, never null, with their
+    // lengths; `row` and `cause` are borrowed mutably, so nothing overlaps them.
+    let number = unsafe {
+        sys::falzheod_drain(
+            body.as_ptr(),
+            body.len(),
+            rows.as_ptr(),
+            rows.len(),
+            end,
+            &mut row,
+            &mut cause,
+        )
+    };
+    match number {
+        0 => Ok(()),
+        1 => Err(Refusal::Table),
+        9 => Err(Refusal::IllFormed {
+            row,
+            cause: Cause::of(cause),
+        }),
+        other => unreachable!("falzheod answered {other}"),
+    }
+}
