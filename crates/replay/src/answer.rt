@@ -1,7 +1,9 @@
 // One recorded answer: read from its line, and compared with ours.
 use crate::field;
 use crate::field::Decoded;
+use crate::field::Number;
 use check::same;
+use falzheod::falzheod_drain;
 use reference::Unescaped;
 use reference::Validated;
 use unescape::unescape;
@@ -11,6 +13,7 @@ use unescape::validate_references;
 pub enum Outcome {
     Unescape { agrees: bool },
     Validate { agrees: bool },
+    Drain { agrees: bool },
     Malformed,
 }
 
@@ -124,12 +127,91 @@ fn replay_unescape(text: &[u8], rest: &[u8]) -> Outcome {
     }
 }
 
+// What the Rust's drain answered.
+enum Recorded {
+    Passes,
+    IllFormed { row: u32, cause: u32 },
+    Malformed,
+}
+
+// What stands after the rows: 0, or 9 with the row and the cause.
+fn recorded(rest: &[u8]) -> Recorded {
+    if same(rest, b" 0") {
+        return Recorded::Passes;
+    }
+    if rest.len() < 3 {
+        return Recorded::Malformed;
+    }
+    if !same(&rest[0..3], b" 9 ") {
+        return Recorded::Malformed;
+    }
+    let stop = field::end(rest, 3, b' ');
+    if stop >= rest.len() {
+        return Recorded::Malformed;
+    }
+    let Number::Value(row) = field::number(&rest[3..stop]) else {
+        return Recorded::Malformed;
+    };
+    let from = stop + 1;
+    let Number::Value(cause) = field::number(&rest[from..]) else {
+        return Recorded::Malformed;
+    };
+    Recorded::IllFormed { row, cause }
+}
+
+// Whether the drain answers this number, row and cause. What it is lent for them holds other numbers before.
+fn drains_to(body: &[u8], rows: &[u32], last: u32, number: u32, row: u32, cause: u32) -> bool {
+    let mut first: usize = 77;
+    let mut why: u32 = 77;
+    let answer = falzheod_drain(body, rows, last, &mut first, &mut why);
+    answer == number && first as u64 == row as u64 && why == cause
+}
+
+fn replay_table(body: &[u8], rows: &[u32], last: u32, verdict: Recorded) -> Outcome {
+    match verdict {
+        Recorded::Passes => Outcome::Drain {
+            agrees: drains_to(body, rows, last, 0, 0, 0),
+        },
+        Recorded::IllFormed { row, cause } => Outcome::Drain {
+            agrees: drains_to(body, rows, last, 9, row, cause),
+        },
+        Recorded::Malformed => Outcome::Malformed,
+    }
+}
+
+// `rest` has the final position, the rows, and what was answered.
+fn replay_drain(body: &[u8], rest: &[u8]) -> Outcome {
+    if rest.len() < 1 {
+        return Outcome::Malformed;
+    }
+    let stop = field::end(rest, 1, b' ');
+    if stop >= rest.len() {
+        return Outcome::Malformed;
+    }
+    let Number::Value(last) = field::number(&rest[1..stop]) else {
+        return Outcome::Malformed;
+    };
+    let from = stop + 1;
+    let to = field::end(rest, from, b' ');
+    let mut rows = [0u32; 512];
+    let Decoded::Length(n) = field::numbers(&rest[from..to], &mut rows) else {
+        return Outcome::Malformed;
+    };
+    if n > rows.len() {
+        return Outcome::Malformed;
+    }
+    replay_table(body, &rows[0..n], last, recorded(&rest[to..]))
+}
+
 fn replay_operation(operation: u8, text: &[u8], rest: &[u8]) -> Outcome {
     if operation == b'u' {
         return replay_unescape(text, rest);
     }
     if operation == b'v' {
         return replay_validate(text, rest);
+    }
+    if operation == b'd' {
+        return replay_drain(text, rest);
     }
     Outcome::Malformed
 }

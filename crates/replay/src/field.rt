@@ -1,5 +1,6 @@
 // The fields of a line: where one ends, and the bytes that hexadecimal digits spell.
 ghost use Prim.Native.Nat.{_≤_};
+ghost use mathlib.Core.Path.{_≡_};
 ghost use lib.ListN.{length};
 use check::same;
 
@@ -75,4 +76,59 @@ pub fn bytes(field: &[u8], out: &mut [u8]) -> Decoded {
         return Decoded::Malformed;
     }
     spelt(field, out)
+}
+
+// A number, or that there is none.
+pub enum Number {
+    Value(u32),
+    Malformed,
+}
+
+fn wide(x: u8) -> u64
+    ensures { λ r. ⌜ r ≡ x ⌝ }
+{
+    x as u64
+}
+
+// The number that decimal digits spell.
+pub fn number(digits: &[u8]) -> Number {
+    if digits.len() == 0 {
+        return Number::Malformed;
+    }
+    let mut value: u64 = 0;
+    let mut i = 0;
+    while i < digits.len() {
+        let d = digit(digits[i]);
+        if d > 9 {
+            return Number::Malformed;
+        }
+        value = value * 10 + wide(d);
+        if value > 0xffff_ffff {
+            return Number::Malformed;
+        }
+        i += 1;
+    }
+    Number::Value(value as u32)
+}
+
+// Puts the numbers of a field, parted by commas, at the start of `out`: `-` is none.
+pub fn numbers(field: &[u8], out: &mut [u32]) -> Decoded {
+    if same(field, b"-") {
+        return Decoded::Length(0);
+    }
+    let mut n = 0;
+    let mut i = 0;
+    while i < field.len() {
+        let stop = end(field, i, b',');
+        let Number::Value(value) = number(&field[i..stop]) else {
+            return Decoded::Malformed;
+        };
+        if n >= out.len() {
+            return Decoded::Malformed;
+        }
+        out[n] = value;
+        n += 1;
+        i = stop + 1;
+    }
+    Decoded::Length(n)
 }

@@ -1,7 +1,8 @@
-// Replays recorded answers of the Rust against the proved functions. Standard input has an answer a line, `v TEXT NUMBER` of `validate_references` or
-// `u TEXT NUMBER [RESULT]` of `unescape`: bytes in lower-case hexadecimal, `-` for none, the number 0 or 7, and the result where it is 0. The program says
+// Replays recorded answers of the Rust against the proved functions. Standard input has an answer a line, `v TEXT NUMBER` of `validate_references`,
+// `u TEXT NUMBER [RESULT]` of `unescape`, or `d BODY FINAL ROWS NUMBER [ROW CAUSE]` of the drain: bytes in lower-case hexadecimal, rows as their numbers parted by
+// commas, `-` for none, the number 0, 7 or 9, the result where it is 0, and row and cause where it is 9. The program says
 // how many answers it replayed and how many differ, and names the first lines that differ or that it cannot read, so its output is the expected one only where
-// all agree. It rests on `unescape`, and on the recording being the Rust's; that the input is read as it stands rests on the system's calls.
+// all agree. It rests on `unescape` and `falzheod`, and on the recording being the Rust's; that the input is read as it stands rests on the system's calls.
 mod answer;
 mod field;
 
@@ -13,6 +14,7 @@ use libc::STDOUT_FILENO;
 struct Progress {
     unescape: u64,
     validate: u64,
+    drain: u64,
     differences: u64,
     malformed: u64,
     lines: u64,
@@ -52,6 +54,10 @@ fn counted(p: Progress, outcome: Outcome) -> Progress {
         }
         Outcome::Validate { agrees } => {
             next.validate = one_more(p.validate);
+            next.differences = differences(p, agrees);
+        }
+        Outcome::Drain { agrees } => {
+            next.drain = one_more(p.drain);
             next.differences = differences(p, agrees);
         }
         Outcome::Malformed => {
@@ -122,9 +128,11 @@ fn take_all(line: &mut [u8], p: Progress) -> Progress {
 fn report(p: Progress) {
     io::write_all(STDOUT_FILENO, b"replayed ");
     io::print_decimal(STDOUT_FILENO, p.unescape);
-    io::write_all(STDOUT_FILENO, b" unescape and ");
+    io::write_all(STDOUT_FILENO, b" unescape, ");
     io::print_decimal(STDOUT_FILENO, p.validate);
-    io::write_all(STDOUT_FILENO, b" validate answers of the Rust: ");
+    io::write_all(STDOUT_FILENO, b" validate and ");
+    io::print_decimal(STDOUT_FILENO, p.drain);
+    io::write_all(STDOUT_FILENO, b" drain answers of the Rust: ");
     io::print_decimal(STDOUT_FILENO, p.differences);
     io::write_all(STDOUT_FILENO, b" differences\n");
     if p.malformed > 0 {
@@ -139,6 +147,7 @@ fn replay_input(line: &mut [u8]) {
     let start = Progress {
         unescape: 0,
         validate: 0,
+        drain: 0,
         differences: 0,
         malformed: 0,
         lines: 0,
