@@ -135,7 +135,7 @@ enum Recorded {
 }
 
 // What stands after the rows: 0, or 9 with the row and the cause.
-fn recorded(rest: &[u8]) -> Recorded {
+fn recorded_verdict(rest: &[u8]) -> Recorded {
     if same(rest, b" 0") {
         return Recorded::Passes;
     }
@@ -149,11 +149,11 @@ fn recorded(rest: &[u8]) -> Recorded {
     if stop >= rest.len() {
         return Recorded::Malformed;
     }
-    let Number::Value(row) = field::number(&rest[3..stop]) else {
+    let Number::Value(row) = field::decimal(&rest[3..stop]) else {
         return Recorded::Malformed;
     };
     let from = stop + 1;
-    let Number::Value(cause) = field::number(&rest[from..]) else {
+    let Number::Value(cause) = field::decimal(&rest[from..]) else {
         return Recorded::Malformed;
     };
     Recorded::IllFormed { row, cause }
@@ -188,7 +188,7 @@ fn replay_drain(body: &[u8], rest: &[u8]) -> Outcome {
     if stop >= rest.len() {
         return Outcome::Malformed;
     }
-    let Number::Value(last) = field::number(&rest[1..stop]) else {
+    let Number::Value(last) = field::decimal(&rest[1..stop]) else {
         return Outcome::Malformed;
     };
     let from = stop + 1;
@@ -200,7 +200,7 @@ fn replay_drain(body: &[u8], rest: &[u8]) -> Outcome {
     if n > rows.len() {
         return Outcome::Malformed;
     }
-    replay_table(body, &rows[0..n], last, recorded(&rest[to..]))
+    replay_table(body, &rows[0..n], last, recorded_verdict(&rest[to..]))
 }
 
 fn replay_operation(operation: u8, text: &[u8], rest: &[u8]) -> Outcome {

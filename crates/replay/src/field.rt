@@ -91,7 +91,7 @@ fn wide(x: u8) -> u64
 }
 
 // The number that decimal digits spell.
-pub fn number(digits: &[u8]) -> Number {
+pub fn decimal(digits: &[u8]) -> Number {
     if digits.len() == 0 {
         return Number::Malformed;
     }
@@ -120,7 +120,7 @@ pub fn numbers(field: &[u8], out: &mut [u32]) -> Decoded {
     let mut i = 0;
     while i < field.len() {
         let stop = end(field, i, b',');
-        let Number::Value(value) = number(&field[i..stop]) else {
+        let Number::Value(value) = decimal(&field[i..stop]) else {
             return Decoded::Malformed;
         };
         if n >= out.len() {
