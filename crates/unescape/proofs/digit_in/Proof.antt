@@ -1,0 +1,25 @@
+use Rattle.lists.specs.Tests.{tests}
+use borrow.Author.Needs.{needs}
+use Rattle.unescape.proofs.digit_in.Statement.{statement}
+use Rattle.unescape.proofs.digit_in.Tie as tie
+use Rattle.unescape.proofs.digit_in.Reads as reads
+use Rattle.unescape.proofs.digit_in.Lts as lts
+
+-- src/lib.rt:25:9
+returns : tie.Need-returns
+returns c = search tests
+
+-- src/lib.rt:28:16
+sub-result : tie.Need-sub-result
+sub-result c = search needs
+
+-- src/lib.rt:28:9
+returns-2 : tie.Need-returns-2
+returns-2 c = search tests
+
+-- src/lib.rt:20:1
+returns-3 : tie.Need-returns-3
+returns-3 c = search tests
+
+pub digit-in-spec : {M : Type 1} → statement M
+digit-in-spec = tie.close (tie.spec returns sub-result returns-2 returns-3)
