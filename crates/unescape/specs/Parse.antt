@@ -1,5 +1,5 @@
 -- Laws of the functions that read one reference: one for each way through a turn of a loop and each way out, at `drop i`.
-use Prim.Native.Nat.{ℕ, zero, suc, _+_, _-_, _*_, _^_, _≤_, _<_}
+use Prim.Native.Nat.{ℕ, zero, suc, _+_, _-_, _*_, _/_, _%_, _^_, _≤_, _<_}
 use mathlib.Core.Path.{_≡_, refl, sym, _∙_, ap}
 use mathlib.Core.Bool.{Bool, true, false}
 use mathlib.Core.List.{List, [], _∷_, _++_}
@@ -13,7 +13,7 @@ use mir.Syntax.{w64}
 use lib.Dec.{ltb, leb, eqb}
 use lib.ListN.{length, getD, drop, take, drop-of-length-le, length-take, length-drop}
 use lib.Seq.{drop-cons, drop-drop}
-use Rattle.lists.specs.Tests.{pick, pick-same, false-true}
+use Rattle.lists.specs.Tests.{pick, pick-same, pick-all, false-true}
 use Rattle.lists.specs.Bytes.{ascii, sameb, same-is}
 use Rattle.lists.specs.Parts.{getD-in}
 use Rattle.reference.specs.Number.{digit, number, limited, digits, plusDigits}
@@ -261,7 +261,16 @@ module _ (strict : Bool) (t : List ℕ) (from : ℕ) (hash : getD t from 0 ≡ 3
       let x = spelt-same after (reader strict 10) 1 u (rw (ne-eqb _ 120 (not-front (span u) 119 u n))) in
       q ∙ sym (past-hash ∙ x ∙ (rw m at (p .same 10 1)))
 
-pub ruleset numeric-laws = (needs, numeric-end, numeric-hex, numeric-decimal)
+pub numeric-any : (strict : Bool) (t : List ℕ) (from : ℕ) {k base s : ℕ} {r : Reference} → getD t from 0 ≡ 35 → from < length t → (from + 1 ≡ length t → ⊥)
+    → k ≡ pick (eqb (getD t (from + 1) 0) 120) 2 1 → base ≡ pick (eqb (getD t (from + 1) 0) 120) 16 10 → PastSign strict t (from + k) s
+    → r ≡ spelt (digits base) (s - from) (drop s t) → r ≡ spelt (numeric (reader strict)) 0 (drop from t)
+numeric-any strict t from {k} {base} {s} {r} e h n x y p q = go (eqb (getD t (from + 1) 0) 120) refl x y
+  where
+    go : (v : Bool) → eqb (getD t (from + 1) 0) 120 ≡ v → k ≡ pick v 2 1 → base ≡ pick v 16 10 → r ≡ spelt (numeric (reader strict)) 0 (drop from t)
+    go true g x y = numeric-hex strict t from e h n (eqb-true _ _ g) (rw x at p) (rw y at q)
+    go false g x y = numeric-decimal strict t from e h n (eqb-false _ _ g) (rw x at p) (rw y at q)
+
+pub ruleset numeric-laws = (needs, numeric-end, numeric-any)
 
 -- ---- only the codes that are allowed
 unfoldable pub onlyRef : (ℕ → Bool) → Reference → Reference
@@ -430,6 +439,140 @@ named-spelt s =
                 let l : span s ≡ length name = omega (arith, getD-in s (span s) 58 (eqb-true _ _ q), length-take (span s) s, ap length (same-is e name p)) in
                 rw l
             pass false p = h
+
+-- ---- names by their bytes: a character c and a length n as one number, or 0
+unfoldable pub packed : Reference → ℕ
+packed (Reference.Char c n) = c + 256 * n
+packed Reference.Bad = 0
+
+-- a byte as a number, and three and two that follow each other
+pub record Byte (b r : ℕ) : Type 0 where
+  pub is : r ≡ b
+  pub small : r < 256
+
+pub record Three (t : List ℕ) (from r : ℕ) : Type 0 where
+  pub first : ℕ
+  pub second : ℕ
+  pub third : ℕ
+  pub one : Byte (getD t from 0) first
+  pub two : Byte (getD t (from + 1) 0) second
+  pub three : Byte (getD t (from + 2) 0) third
+  pub is : r ≡ first + 256 * (second + 256 * third)
+
+pub three-is : (t : List ℕ) (from : ℕ) {a b c : ℕ} → Byte (getD t from 0) a → Byte (getD t (from + 1) 0) b → Byte (getD t (from + 2) 0) c
+    → Three t from (a + 256 * (b + 256 * c))
+three-is t from x y z = record { first = _; second = _; third = _; one = x; two = y; three = z; is = refl }
+
+-- the number of a name, from its first three bytes, its fourth, and its fourth and fifth
+unfoldable pub nameValue : ℕ → ℕ → ℕ → ℕ
+nameValue w b v =
+    pick (eqb w (108 + 256 * (116 + 256 * 59))) (60 + 256 * 3)
+    (pick (eqb w (103 + 256 * (116 + 256 * 59))) (62 + 256 * 3)
+    (pick (pick (eqb w (97 + 256 * (109 + 256 * 112))) (eqb b 59) false) (38 + 256 * 4)
+    (pick (pick (eqb w (113 + 256 * (117 + 256 * 111))) (eqb v (116 + 256 * 59)) false) (34 + 256 * 5)
+    (pick (pick (eqb w (97 + 256 * (112 + 256 * 111))) (eqb v (115 + 256 * 59)) false) (39 + 256 * 5)
+    0))))
+
+two-eqb : (b m x n : ℕ) → b < 256 → x < 256 → eqb (b + 256 * m) (x + 256 * n) ≡ pick (eqb b x) (eqb m n) false
+two-eqb b m x n g h = go (eqb b x) (eqb m n) refl refl
+  where
+    go : (t u : Bool) → eqb b x ≡ t → eqb m n ≡ u → eqb (b + 256 * m) (x + 256 * n) ≡ pick t u false
+    go true true p q = eq-eqb (b + 256 * m) (x + 256 * n) (rw (eqb-true b x p, eqb-true m n q))
+    go true false p q = ne-eqb (b + 256 * m) (x + 256 * n) (λ e. eqb-false m n q (omega (arith, eqb-true b x p)))
+    go false u p q = ne-eqb (b + 256 * m) (x + 256 * n) (λ e. eqb-false b x p (omega arith))
+
+pick-test : (t : Bool) → t ≡ pick t true false
+pick-test true = refl
+pick-test false = refl
+
+module _ (a b c d e : ℕ) (u : List ℕ) (ha : a < 256) (hb : b < 256) (hc : c < 256) (hd : d < 256) where
+  -- the first three bytes, then what follows them
+  three-eqb : (x y z : ℕ) (n : List ℕ) (t : Bool) → x < 256 → y < 256 → t ≡ begins n (d ∷ e ∷ u)
+      → pick (eqb (a + 256 * (b + 256 * c)) (x + 256 * (y + 256 * z))) t false ≡ begins (x ∷ y ∷ z ∷ n) (a ∷ b ∷ c ∷ d ∷ e ∷ u)
+  unfolding begins
+  three-eqb x y z n t hx hy q =
+      rw (two-eqb a (b + 256 * c) x (y + 256 * z) ha hx, two-eqb b c y z hb hy, ← q) (shift (eqb a x) (eqb b y) (eqb c z))
+    where
+      shift : (f g h : Bool) → pick (pick f (pick g h false) false) t false ≡ pick f (pick g (pick h t false) false) false
+      shift true true h = refl
+      shift true false h = refl
+      shift false g h = refl
+
+  next : (t v : Bool) (w c n x : ℕ) (r : Reference) → t ≡ v → w ≡ c + 256 * n → x ≡ packed r → pick t w x ≡ packed (pick v (Reference.Char c n) r)
+  unfolding packed
+  next t true w c n x r p q h = rw (p, q)
+  next t false w c n x r p q h = rw p h
+
+  name-list : nameValue (a + 256 * (b + 256 * c)) d (d + 256 * e) ≡ packed (namedRef (a ∷ b ∷ c ∷ d ∷ e ∷ u))
+  unfolding nameValue namedRef begins packed
+  name-list =
+      let w = a + 256 * (b + 256 * c) in
+      next (eqb w 3896428) _ _ 60 3 _ _ (pick-test (eqb w 3896428) ∙ three-eqb 108 116 59 [] true (omega arith) (omega arith) refl) refl
+      (next (eqb w 3896423) _ _ 62 3 _ _ (pick-test (eqb w 3896423) ∙ three-eqb 103 116 59 [] true (omega arith) (omega arith) refl) refl
+      (next (pick (eqb w 7368033) (eqb d 59) false) _ _ 38 4 _ _ (three-eqb 97 109 112 (59 ∷ []) (eqb d 59) (omega arith) (omega arith) (pick-test (eqb d 59))) refl
+      (next (pick (eqb w 7304561) (eqb (d + 256 * e) 15220) false) _ _ 34 5 _ _ (three-eqb 113 117 111 (116 ∷ 59 ∷ []) _ (omega arith) (omega arith) (last 116 (omega arith))) refl
+      (next (pick (eqb w 7303265) (eqb (d + 256 * e) 15219) false) _ _ 39 5 _ _ (three-eqb 97 112 111 (115 ∷ 59 ∷ []) _ (omega arith) (omega arith) (last 115 (omega arith))) refl refl))))
+    where
+      last : (x : ℕ) → x < 256 → eqb (d + 256 * e) (x + 256 * 59) ≡ begins (x ∷ 59 ∷ []) (d ∷ e ∷ u)
+      last x h = two-eqb d e x 59 hd h ∙ ap (λ (t : Bool). pick (eqb d x) t false) (pick-test (eqb e 59))
+
+-- the bytes from a place on
+five : (t : List ℕ) (i : ℕ) → 5 ≤ length t - i
+    → drop i t ≡ getD t i 0 ∷ getD t (i + 1) 0 ∷ getD t (i + 2) 0 ∷ getD t (i + 3) 0 ∷ getD t (i + 4) 0 ∷ drop (i + 5) t
+five t i h =
+    next i (omega arith)
+    ∙ ap (λ (l : List ℕ). getD t i 0 ∷ l)
+    (again 1 (omega arith)
+    ∙ ap (λ (l : List ℕ). getD t (i + 1) 0 ∷ l)
+    (again 2 (omega arith)
+    ∙ ap (λ (l : List ℕ). getD t (i + 2) 0 ∷ l)
+    (again 3 (omega arith)
+    ∙ ap (λ (l : List ℕ). getD t (i + 3) 0 ∷ l) (again 4 (omega arith)))))
+  where
+    next : (k : ℕ) → k < length t → drop k t ≡ getD t k 0 ∷ drop (k + 1) t
+    next k h = rw (add-one k) (drop-cons t k 0 h)
+
+    again : (k : ℕ) → i + k < length t → drop (i + k) t ≡ getD t (i + k) 0 ∷ drop (i + (k + 1)) t
+    again k h = let e : i + (k + 1) ≡ i + k + 1 = omega arith in rw e (next (i + k) h)
+
+pub name-is : (t : List ℕ) (from : ℕ) {w b c r : ℕ} → 5 ≤ length t - from → Three t from w → Byte (getD t (from + 3) 0) b → Byte (getD t (from + 4) 0) c
+    → r ≡ nameValue w b (b + 256 * c) → r ≡ packed (namedRef (drop from t))
+name-is t from h w x y q =
+    let o = w .one in
+    let p = w .two in
+    let s = w .three in
+    q
+    ∙ rw (w .is, five t from h, ← o .is, ← p .is, ← s .is, ← x .is, ← y .is)
+    (name-list _ _ _ _ _ (drop (from + 5) t) (o .small) (p .small) (s .small) (x .small))
+
+pub ruleset name-laws = (needs, three-is, name-is)
+
+-- what holds of the five and of none holds of a reference by name
+named-ref-all : (P : Reference → Type 0) (s : List ℕ)
+    → P (Reference.Char 60 3) → P (Reference.Char 62 3) → P (Reference.Char 38 4) → P (Reference.Char 34 5) → P (Reference.Char 39 5) → P Reference.Bad → P (namedRef s)
+unfolding namedRef
+named-ref-all P s lt gt amp quot apos none =
+    pick-all P (begins (ascii "lt;") s) _ _ lt
+    (pick-all P (begins (ascii "gt;") s) _ _ gt
+    (pick-all P (begins (ascii "amp;") s) _ _ amp
+    (pick-all P (begins (ascii "quot;") s) _ _ quot
+    (pick-all P (begins (ascii "apos;") s) _ _ apos none))))
+
+module _ (s : List ℕ) {r : ℕ} (q : r ≡ packed (namedRef s)) where
+  pub packed-bad : r ≡ 0 → Reference.Bad ≡ namedRef s
+  unfolding packed
+  packed-bad e = named-ref-all (λ (x : Reference). r ≡ packed x → Reference.Bad ≡ x) s (no 60 2) (no 62 2) (no 38 3) (no 34 4) (no 39 4) (λ q. refl) q
+    where
+      no : (c n : ℕ) {x : Reference} → r ≡ c + 256 * suc n → Reference.Bad ≡ x
+      no c n h = absurd (omega arith)
+
+  pub packed-char : (r ≡ 0 → ⊥) → Reference.Char (r % 256) (r / 256) ≡ namedRef s
+  unfolding packed
+  packed-char n =
+      named-ref-all (λ (x : Reference). r ≡ packed x → Reference.Char (r % 256) (r / 256) ≡ x) s (λ q. rw q) (λ q. rw q) (λ q. rw q) (λ q. rw q) (λ q. rw q)
+      (λ q. absurd (n q)) q
+
+pub ruleset packed-laws = (needs, packed-bad, packed-char)
 
 -- ---- a reference
 first-none : (x : Number) → first x No ≡ x

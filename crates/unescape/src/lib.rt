@@ -2,6 +2,8 @@
 // What both answer is defined in `reference`; the crate rests on it, on `utf8` for the bytes of a character and on `slices` for runs of
 // plain bytes; specs/ has the laws of the loops.
 ghost use mathlib.Core.Path.{_≡_};
+ghost use mathlib.Core.Bool.{false};
+ghost use lib.Dec.{eqb};
 ghost use Prim.Native.Nat.{_+_, _-_, _≤_, _<_};
 ghost use lib.ListN.{length, getD, drop};
 ghost use Rattle.reference.specs.Number.{digit, digits};
@@ -9,7 +11,7 @@ ghost use Rattle.reference.specs.Entity.{numeric, reader, xmlChar, allowed};
 ghost use Rattle.reference.specs.Text.{reference, unescaped, validated, filled, Unescape};
 ghost use Rattle.lists.specs.Tests.{pick, within};
 ghost use Rattle.lists.specs.Find.{NextAt};
-ghost use Rattle.unescape.specs.Parse.{spelt, PastSign, onlyRef, begins, namedRef};
+ghost use Rattle.unescape.specs.Parse.{spelt, PastSign, onlyRef, begins, namedRef, packed, nameValue, Byte, Three};
 ghost use Rattle.unescape.specs.Loops.{sizeOf};
 ghost use Rattle.unescape.specs.Fill.{Room};
 use reference::Reference;
@@ -87,7 +89,21 @@ fn past_sign(strict: bool, text: &[u8], start: usize) -> usize
     start
 }
 
-// The reference by number, from its `#` on.
+// How many bytes stand before the digits of a number: `#x`, or `#`.
+fn mark_len(b: u8) -> usize
+    ensures { λ r. ⌜ (r ≡ pick (eqb b 120) 2 1) × (r ≤ 2) ⌝ }
+{
+    if b == b'x' { 2 } else { 1 }
+}
+
+// The base of a number.
+fn base_of(b: u8) -> u64
+    ensures { λ r. ⌜ (r ≡ pick (eqb b 120) 16 10) × (1 ≤ r) × (r ≤ 16) ⌝ }
+{
+    if b == b'x' { 16 } else { 10 }
+}
+
+// The reference by number, from its `#` on: one loop for both bases.
 fn numeric_at(strict: bool, text: &[u8], from: usize) -> Reference
     requires { ⌜ (from < length (now text)) × (getD (now text) from 0 ≡ 35) ⌝ }
     ensures { λ r. ⌜ r ≡ spelt (numeric (reader strict)) 0 (drop from (now (text .entry))) ⌝ }
@@ -95,12 +111,9 @@ fn numeric_at(strict: bool, text: &[u8], from: usize) -> Reference
     if from + 1 == text.len() {
         return Reference::Bad;
     }
-    if text[from + 1] == b'x' {
-        let hex = past_sign(strict, text, from + 2);
-        return digits_at(text, from, hex, 16);
-    }
-    let start = past_sign(strict, text, from + 1);
-    digits_at(text, from, start, 10)
+    let mark = text[from + 1];
+    let start = past_sign(strict, text, from + mark_len(mark));
+    digits_at(text, from, start, base_of(mark))
 }
 
 // Whether XML allows a character.
@@ -178,8 +191,8 @@ fn begins_at(text: &[u8], from: usize, name: &[u8]) -> bool
     true
 }
 
-// The reference by name at a place.
-fn named_at(text: &[u8], from: usize) -> Reference
+// The reference by name at one of the last places.
+fn named_last(text: &[u8], from: usize) -> Reference
     requires { ⌜ from ≤ length (now text) ⌝ }
     ensures { λ r. ⌜ r ≡ namedRef (drop from (now (text .entry))) ⌝ }
 {
@@ -199,6 +212,79 @@ fn named_at(text: &[u8], from: usize) -> Reference
         return Reference::Char { code: 39, len: 5 };
     }
     Reference::Bad
+}
+
+// A byte as a number.
+fn wide(b: u8) -> u64
+    ensures { λ r. ⌜ Byte b r ⌝ }
+{
+    b as u64
+}
+
+// A value, if a number is another; or the other value.
+fn when(w: u64, name: u64, value: u64, other: u64) -> u64
+    ensures { λ r. ⌜ r ≡ pick (eqb w name) value other ⌝ }
+{
+    if w == name { value } else { other }
+}
+
+// The same, of two numbers.
+fn when_both(w: u64, name: u64, v: u64, end: u64, value: u64, other: u64) -> u64
+    ensures { λ r. ⌜ r ≡ pick (pick (eqb w name) (eqb v end) false) value other ⌝ }
+{
+    if w == name {
+        return when(v, end, value, other);
+    }
+    other
+}
+
+// The character and the length of a name as one number, or 0: with no branch, since the names of a text follow no rule.
+fn name_value(w: u64, b: u64, v: u64) -> u64
+    ensures { λ r. ⌜ r ≡ nameValue w b v ⌝ }
+{
+    // apo s; quo t; amp ; gt; lt;
+    let apos = when_both(w, 7303265, v, 15219, 1319, 0);
+    let quot = when_both(w, 7304561, v, 15220, 1314, apos);
+    let amp = when_both(w, 7368033, b, 59, 1062, quot);
+    let gt = when(w, 3896423, 830, amp);
+    when(w, 3896428, 828, gt)
+}
+
+// Three bytes as a number.
+fn three_at(text: &[u8], from: usize) -> u64
+    requires { ⌜ 5 ≤ length (now text) - from ⌝ }
+    ensures { λ r. ⌜ Three (now (text .entry)) from r ⌝ }
+{
+    wide(text[from]) + 256 * (wide(text[from + 1]) + 256 * wide(text[from + 2]))
+}
+
+// The reference by name at a place, as one number.
+fn name_at(text: &[u8], from: usize) -> u64
+    requires { ⌜ 5 ≤ length (now text) - from ⌝ }
+    ensures { λ r. ⌜ r ≡ packed (namedRef (drop from (now (text .entry)))) ⌝ }
+{
+    let w = three_at(text, from);
+    let b = wide(text[from + 3]);
+    let c = wide(text[from + 4]);
+    name_value(w, b, b + 256 * c)
+}
+
+// The reference by name at a place.
+fn named_at(text: &[u8], from: usize) -> Reference
+    requires { ⌜ from ≤ length (now text) ⌝ }
+    ensures { λ r. ⌜ r ≡ namedRef (drop from (now (text .entry))) ⌝ }
+{
+    if text.len() - from < 5 {
+        return named_last(text, from);
+    }
+    let r = name_at(text, from);
+    if r == 0 {
+        return Reference::Bad;
+    }
+    Reference::Char {
+        code: (r % 256) as u32,
+        len: (r / 256) as usize,
+    }
 }
 
 // The reference whose bytes after `&` stand from a place on.

@@ -1,99 +1,41 @@
-use Rattle.lists.specs.Tests.{flags}
-use Rattle.unescape.specs.Parse.{namedRef}
+use Rattle.unescape.specs.Parse.{packed-laws}
 use borrow.Author.Needs.{needs}
 use Rattle.unescape.proofs.named_at.Statement.{statement}
 use Rattle.unescape.proofs.named_at.Tie as tie
 use Rattle.unescape.proofs.named_at.Reads as reads
 use Rattle.unescape.proofs.named_at.Lts as lts
-use Rattle.unescape.proofs.begins_at.Reads as begins-at-reads
+use Rattle.unescape.proofs.name_at.Reads as name-at-reads
+use Rattle.unescape.proofs.named_last.Reads as named-last-reads
 
--- src/lib.rt:186:30
-slice-aggregate-begins-at : tie.Need-slice-aggregate-begins-at
-slice-aggregate-begins-at c = search needs
+-- src/lib.rt:277:8
+sub-if1 : tie.Need-sub-if1
+sub-if1 c = search needs
 
--- src/lib.rt:186:8
-begins-at-requires : tie.Need-begins-at-requires
-begins-at-requires c κs = search needs
+-- src/lib.rt:278:9
+named-last-requires : tie.Need-named-last-requires
+named-last-requires c κs = search needs
 
--- src/lib.rt:187:9
+-- src/lib.rt:278:9
 returns : tie.Need-returns
-unfolding namedRef
-returns c = search flags depth 8
+returns c = search needs
 
--- src/lib.rt:189:30
-slice-aggregate-begins-at-2 : tie.Need-slice-aggregate-begins-at-2
-slice-aggregate-begins-at-2 c = search needs
+-- src/lib.rt:280:9
+name-at-requires : tie.Need-name-at-requires
+name-at-requires c κs = search needs
 
--- src/lib.rt:189:8
-begins-at-requires-2 : tie.Need-begins-at-requires-2
-begins-at-requires-2 c κs = search needs
-
--- src/lib.rt:190:9
+-- src/lib.rt:282:9
 returns-2 : tie.Need-returns-2
-unfolding namedRef
-returns-2 c = search flags depth 8
+returns-2 c = search packed-laws
 
--- src/lib.rt:192:30
-slice-aggregate-begins-at-3 : tie.Need-slice-aggregate-begins-at-3
-slice-aggregate-begins-at-3 c = search needs
+-- src/lib.rt:285:15
+cast-t8 : tie.Need-cast-t8
+cast-t8 c = search needs
 
--- src/lib.rt:192:8
-begins-at-requires-3 : tie.Need-begins-at-requires-3
-begins-at-requires-3 c κs = search needs
-
--- src/lib.rt:193:9
+-- src/lib.rt:273:1
 returns-3 : tie.Need-returns-3
-unfolding namedRef
-returns-3 c = search flags depth 8
-
--- src/lib.rt:195:30
-slice-aggregate-begins-at-4 : tie.Need-slice-aggregate-begins-at-4
-slice-aggregate-begins-at-4 c = search needs
-
--- src/lib.rt:195:8
-begins-at-requires-4 : tie.Need-begins-at-requires-4
-begins-at-requires-4 c κs = search needs
-
--- src/lib.rt:196:9
-returns-4 : tie.Need-returns-4
-unfolding namedRef
-returns-4 c = search flags depth 8
-
--- src/lib.rt:198:30
-slice-aggregate-begins-at-5 : tie.Need-slice-aggregate-begins-at-5
-slice-aggregate-begins-at-5 c = search needs
-
--- src/lib.rt:198:8
-begins-at-requires-5 : tie.Need-begins-at-requires-5
-begins-at-requires-5 c κs = search needs
-
--- src/lib.rt:199:9
-returns-5 : tie.Need-returns-5
-unfolding namedRef
-returns-5 c = search flags depth 8
-
--- src/lib.rt:182:1
-returns-6 : tie.Need-returns-6
-unfolding namedRef
-returns-6 c = search flags depth 8
+returns-3 c = search packed-laws
 
 pub named-at-spec : {M : Type 1} → statement M
 named-at-spec =
     tie.close
-    (tie.spec
-    slice-aggregate-begins-at
-    begins-at-requires
-    returns
-    slice-aggregate-begins-at-2
-    begins-at-requires-2
-    returns-2
-    slice-aggregate-begins-at-3
-    begins-at-requires-3
-    returns-3
-    slice-aggregate-begins-at-4
-    begins-at-requires-4
-    returns-4
-    slice-aggregate-begins-at-5
-    begins-at-requires-5
-    returns-5
-    returns-6)
+    (tie.spec sub-if1 named-last-requires returns name-at-requires returns-2 cast-t8 returns-3)
