@@ -185,14 +185,11 @@ fn block_of(s: &[u8], from: usize) -> [u8; 32]
     b
 }
 
-// Writes a slice at a place, and answers the place after it. The last block may write again what the one before it wrote.
-pub fn put(out: &mut [u8], at: usize, s: &[u8]) -> usize
-    requires { ⌜ at + length (now s) ≤ length (now out) ⌝ }
+// The same, block by block. The last block may write again what the one before it wrote.
+fn put_blocks(out: &mut [u8], at: usize, s: &[u8]) -> usize
+    requires { ⌜ (at + length (now s) ≤ length (now out)) × (32 ≤ length (now s)) ⌝ }
     ensures { λ r. ⌜ Stored (now (out .entry)) (now (out .exit)) at (now (s .entry)) r ⌝ }
 {
-    if s.len() < 32 {
-        return put_bytes(out, at, s);
-    }
     let mut k = 0;
     while 32 <= s.len() - k {
         let b = block_of(s, k);
@@ -202,4 +199,18 @@ pub fn put(out: &mut [u8], at: usize, s: &[u8]) -> usize
     let last = s.len() - 32;
     let b = block_of(s, last);
     put_bytes(out, at + last, &b)
+}
+
+// Writes a slice at a place, and answers the place after it. The loop over bytes is the fastest for a long slice, but for its end.
+pub fn put(out: &mut [u8], at: usize, s: &[u8]) -> usize
+    requires { ⌜ at + length (now s) ≤ length (now out) ⌝ }
+    ensures { λ r. ⌜ Stored (now (out .entry)) (now (out .exit)) at (now (s .entry)) r ⌝ }
+{
+    if s.len() < 32 {
+        return put_bytes(out, at, s);
+    }
+    if s.len() < 1024 {
+        return put_blocks(out, at, s);
+    }
+    put_bytes(out, at, s)
 }

@@ -261,16 +261,7 @@ module _ (strict : Bool) (t : List ℕ) (from : ℕ) (hash : getD t from 0 ≡ 3
       let x = spelt-same after (reader strict 10) 1 u (rw (ne-eqb _ 120 (not-front (span u) 119 u n))) in
       q ∙ sym (past-hash ∙ x ∙ (rw m at (p .same 10 1)))
 
-pub numeric-any : (strict : Bool) (t : List ℕ) (from : ℕ) {k base s : ℕ} {r : Reference} → getD t from 0 ≡ 35 → from < length t → (from + 1 ≡ length t → ⊥)
-    → k ≡ pick (eqb (getD t (from + 1) 0) 120) 2 1 → base ≡ pick (eqb (getD t (from + 1) 0) 120) 16 10 → PastSign strict t (from + k) s
-    → r ≡ spelt (digits base) (s - from) (drop s t) → r ≡ spelt (numeric (reader strict)) 0 (drop from t)
-numeric-any strict t from {k} {base} {s} {r} e h n x y p q = go (eqb (getD t (from + 1) 0) 120) refl x y
-  where
-    go : (v : Bool) → eqb (getD t (from + 1) 0) 120 ≡ v → k ≡ pick v 2 1 → base ≡ pick v 16 10 → r ≡ spelt (numeric (reader strict)) 0 (drop from t)
-    go true g x y = numeric-hex strict t from e h n (eqb-true _ _ g) (rw x at p) (rw y at q)
-    go false g x y = numeric-decimal strict t from e h n (eqb-false _ _ g) (rw x at p) (rw y at q)
-
-pub ruleset numeric-laws = (needs, numeric-end, numeric-any)
+pub ruleset numeric-laws = (needs, numeric-end, numeric-hex, numeric-decimal)
 
 -- ---- only the codes that are allowed
 unfoldable pub onlyRef : (ℕ → Bool) → Reference → Reference

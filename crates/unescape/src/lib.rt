@@ -10,7 +10,7 @@ ghost use Rattle.reference.specs.Number.{digit, digits};
 ghost use Rattle.reference.specs.Entity.{numeric, reader, xmlChar, allowed};
 ghost use Rattle.reference.specs.Text.{reference, unescaped, validated, filled, Unescape};
 ghost use Rattle.lists.specs.Tests.{pick, within};
-ghost use Rattle.lists.specs.Find.{NextAt};
+ghost use Rattle.lists.specs.Find.{Clear, NextAt};
 ghost use Rattle.unescape.specs.Parse.{spelt, PastSign, onlyRef, begins, namedRef, packed, nameValue, Byte, Three};
 ghost use Rattle.unescape.specs.Loops.{sizeOf};
 ghost use Rattle.unescape.specs.Fill.{Room};
@@ -89,21 +89,7 @@ fn past_sign(strict: bool, text: &[u8], start: usize) -> usize
     start
 }
 
-// How many bytes stand before the digits of a number: `#x`, or `#`.
-fn mark_len(b: u8) -> usize
-    ensures { λ r. ⌜ (r ≡ pick (eqb b 120) 2 1) × (r ≤ 2) ⌝ }
-{
-    if b == b'x' { 2 } else { 1 }
-}
-
-// The base of a number.
-fn base_of(b: u8) -> u64
-    ensures { λ r. ⌜ (r ≡ pick (eqb b 120) 16 10) × (1 ≤ r) × (r ≤ 16) ⌝ }
-{
-    if b == b'x' { 16 } else { 10 }
-}
-
-// The reference by number, from its `#` on: one loop for both bases.
+// The reference by number, from its `#` on.
 fn numeric_at(strict: bool, text: &[u8], from: usize) -> Reference
     requires { ⌜ (from < length (now text)) × (getD (now text) from 0 ≡ 35) ⌝ }
     ensures { λ r. ⌜ r ≡ spelt (numeric (reader strict)) 0 (drop from (now (text .entry))) ⌝ }
@@ -111,9 +97,12 @@ fn numeric_at(strict: bool, text: &[u8], from: usize) -> Reference
     if from + 1 == text.len() {
         return Reference::Bad;
     }
-    let mark = text[from + 1];
-    let start = past_sign(strict, text, from + mark_len(mark));
-    digits_at(text, from, start, base_of(mark))
+    if text[from + 1] == b'x' {
+        let hex = past_sign(strict, text, from + 2);
+        return digits_at(text, from, hex, 16);
+    }
+    let start = past_sign(strict, text, from + 1);
+    digits_at(text, from, start, 10)
 }
 
 // Whether XML allows a character.
@@ -301,16 +290,27 @@ fn reference_from(strict: bool, text: &[u8], from: usize) -> Reference
     named_at(text, from)
 }
 
-// Whether each reference of a text is right.
+// The next `&` from a place on, looked for from an earlier place.
+fn next_amp(text: &[u8], seek: usize, i: usize) -> usize
+    requires { ⌜ Clear (now text) 38 seek i × (i < length (now text)) × (getD (now text) i 0 ≡ 38 → ⊥) ⌝ }
+    ensures { λ r. ⌜ NextAt (now (text .entry)) 38 i r ⌝ }
+{
+    slices::find(text, seek, b'&')
+}
+
+// Whether each reference of a text is right. The next `&` is looked for from right after the last one, so that the search waits for no
+// reference to be read.
 pub fn validate_references(text: &[u8]) -> Validated
     ensures { λ r. ⌜ r ≡ validated (now (text .entry)) ⌝ }
 {
     let mut i = 0;
+    let mut seek = 0;
     while i < text.len() {
         if text[i] == b'&' {
             let from = i + 1;
             match reference_from(true, text, from) {
                 Reference::Char { code: _, len } => {
+                    seek = from;
                     i = from + len;
                 }
                 Reference::Bad => {
@@ -318,7 +318,7 @@ pub fn validate_references(text: &[u8]) -> Validated
                 }
             }
         } else {
-            i = slices::find(text, i, b'&');
+            i = next_amp(text, seek, i);
         }
     }
     Validated::Valid
@@ -330,12 +330,14 @@ fn measure(text: &[u8]) -> Unescaped
 {
     let mut size = 0;
     let mut i = 0;
+    let mut seek = 0;
     while i < text.len() {
         if text[i] == b'&' {
             let from = i + 1;
             match reference_from(false, text, from) {
                 Reference::Char { code, len } => {
                     size += utf8::encoded_len(code);
+                    seek = from;
                     i = from + len;
                 }
                 Reference::Bad => {
@@ -343,7 +345,7 @@ fn measure(text: &[u8]) -> Unescaped
                 }
             }
         } else {
-            let next = slices::find(text, i, b'&');
+            let next = next_amp(text, seek, i);
             size += next - i;
             i = next;
         }
@@ -358,12 +360,14 @@ fn fill(text: &[u8], out: &mut [u8])
 {
     let mut n = 0;
     let mut i = 0;
+    let mut seek = 0;
     while i < text.len() {
         if text[i] == b'&' {
             let from = i + 1;
             match reference_from(false, text, from) {
                 Reference::Char { code, len } => {
                     n = utf8::put_char(out, n, code);
+                    seek = from;
                     i = from + len;
                 }
                 Reference::Bad => {
@@ -371,7 +375,7 @@ fn fill(text: &[u8], out: &mut [u8])
                 }
             }
         } else {
-            let next = slices::find(text, i, b'&');
+            let next = next_amp(text, seek, i);
             n = slices::put(out, n, &text[i..next]);
             i = next;
         }

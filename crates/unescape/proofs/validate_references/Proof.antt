@@ -1,3 +1,4 @@
+use Rattle.lists.specs.Find.{Clear}
 use Prim.Native.Nat.{_-_}
 use lib.ListN.{length}
 use Rattle.unescape.specs.Loops.{ValidAt, valid-laws}
@@ -5,10 +6,10 @@ use Rattle.unescape.proofs.validate_references.Statement.{statement}
 use Rattle.unescape.proofs.validate_references.Tie as tie
 
 abbrev Inv-loop : tie.InvT-loop
-Inv-loop text i₀ i = ValidAt text i
+Inv-loop text i₀ seek₀ i seek = ValidAt text i × Clear text 38 seek i
 
 abbrev μ-loop : tie.MeasureT-loop
-μ-loop text i₀ i = length text - i
+μ-loop text i₀ seek₀ i seek = length text - i
 
 loop-holds : tie.Need-loop-holds Inv-loop μ-loop
 loop-holds c = search valid-laws
@@ -40,8 +41,8 @@ enum-told c = search valid-laws
 returns : tie.Need-returns Inv-loop μ-loop
 returns c = search valid-laws
 
-find-requires : tie.Need-find-requires Inv-loop μ-loop
-find-requires c κs = search valid-laws
+next-amp-requires : tie.Need-next-amp-requires Inv-loop μ-loop
+next-amp-requires c κs = search valid-laws
 
 loop-less-2 : tie.Need-loop-less-2 Inv-loop μ-loop
 loop-less-2 c = search valid-laws
@@ -68,7 +69,7 @@ validate-references-spec =
     loop-again
     enum-told
     returns
-    find-requires
+    next-amp-requires
     loop-less-2
     loop-again-2
     returns-2)

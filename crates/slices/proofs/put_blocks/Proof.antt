@@ -2,10 +2,10 @@ use borrow.Author.Needs.{needs}
 use Rattle.slices.specs.Copy.{CopyAt, copy-block, copy-laws}
 use Prim.Native.Nat.{_-_}
 use lib.ListN.{length}
-use Rattle.slices.proofs.put.Statement.{statement}
-use Rattle.slices.proofs.put.Tie as tie
-use Rattle.slices.proofs.put.Reads as reads
-use Rattle.slices.proofs.put.Lts as lts
+use Rattle.slices.proofs.put_blocks.Statement.{statement}
+use Rattle.slices.proofs.put_blocks.Tie as tie
+use Rattle.slices.proofs.put_blocks.Reads as reads
+use Rattle.slices.proofs.put_blocks.Lts as lts
 use Rattle.slices.proofs.block_of.Reads as block-of-reads
 use Rattle.slices.proofs.put_bytes.Reads as put-bytes-reads
 
@@ -15,97 +15,82 @@ Inv-loop out₀ at s k₀ out k = CopyAt s out₀ out at k
 abbrev μ-loop : tie.MeasureT-loop
 μ-loop out₀ at s k₀ out k = length s - k
 
--- src/lib.rt:194:9
-put-bytes-requires : tie.Need-put-bytes-requires Inv-loop μ-loop
-put-bytes-requires c κs = search copy-laws
-
--- src/lib.rt:194:9
-same-length : tie.Need-same-length Inv-loop μ-loop
-same-length c = search copy-laws
-
--- src/lib.rt:194:9
-returns : tie.Need-returns Inv-loop μ-loop
-returns c = search copy-laws
-
--- src/lib.rt:197:5
+-- src/lib.rt:194:5
 loop-holds : tie.Need-loop-holds Inv-loop μ-loop
 loop-holds c = search copy-laws
 
--- src/lib.rt:197:17
+-- src/lib.rt:194:17
 sub-loop : tie.Need-sub-loop Inv-loop μ-loop
 sub-loop c = search copy-laws
 
--- src/lib.rt:198:17
+-- src/lib.rt:195:17
 block-of-requires : tie.Need-block-of-requires Inv-loop μ-loop
 block-of-requires c κs = search copy-laws
 
--- src/lib.rt:199:24
+-- src/lib.rt:196:24
 add-put-bytes : tie.Need-add-put-bytes Inv-loop μ-loop
 add-put-bytes c = search copy-laws
 
--- src/lib.rt:199:32
+-- src/lib.rt:196:32
 slice-aggregate-put-bytes : tie.Need-slice-aggregate-put-bytes Inv-loop μ-loop
 slice-aggregate-put-bytes c = search copy-laws
 
--- src/lib.rt:199:9
-put-bytes-requires-2 : tie.Need-put-bytes-requires-2 Inv-loop μ-loop
-put-bytes-requires-2 c κs = search copy-laws
+-- src/lib.rt:196:9
+put-bytes-requires : tie.Need-put-bytes-requires Inv-loop μ-loop
+put-bytes-requires c κs = search copy-laws
 
--- src/lib.rt:200:9
+-- src/lib.rt:197:9
 add-k : tie.Need-add-k Inv-loop μ-loop
 add-k c = search copy-laws
 
--- src/lib.rt:197:5
+-- src/lib.rt:194:5
 loop-less : tie.Need-loop-less Inv-loop μ-loop
 loop-less c = search copy-laws
 
--- src/lib.rt:197:5
+-- src/lib.rt:194:5
 loop-again : tie.Need-loop-again Inv-loop μ-loop
-loop-again c = copy-block (search needs) (search needs) (search needs) (c .before .before .put-bytes2 .ensures)
+loop-again c = copy-block (search needs) (search needs) (search needs) (c .before .before .put-bytes .ensures)
 
--- src/lib.rt:202:16
+-- src/lib.rt:199:16
 sub-last : tie.Need-sub-last Inv-loop μ-loop
 sub-last c = search copy-laws
 
--- src/lib.rt:203:13
+-- src/lib.rt:200:13
 block-of-requires-2 : tie.Need-block-of-requires-2 Inv-loop μ-loop
 block-of-requires-2 c κs = search copy-laws
 
--- src/lib.rt:204:20
+-- src/lib.rt:201:20
 add-put-bytes-2 : tie.Need-add-put-bytes-2 Inv-loop μ-loop
 add-put-bytes-2 c = search copy-laws
 
--- src/lib.rt:204:31
+-- src/lib.rt:201:31
 slice-aggregate-put-bytes-2 : tie.Need-slice-aggregate-put-bytes-2 Inv-loop μ-loop
 slice-aggregate-put-bytes-2 c = search copy-laws
 
--- src/lib.rt:204:5
-put-bytes-requires-3 : tie.Need-put-bytes-requires-3 Inv-loop μ-loop
-put-bytes-requires-3 c κs = search copy-laws
+-- src/lib.rt:201:5
+put-bytes-requires-2 : tie.Need-put-bytes-requires-2 Inv-loop μ-loop
+put-bytes-requires-2 c κs = search copy-laws
 
 -- src/lib.rt:189:1
-same-length-2 : tie.Need-same-length-2 Inv-loop μ-loop
-same-length-2 c = search copy-laws
+same-length : tie.Need-same-length Inv-loop μ-loop
+same-length c = search copy-laws
 
 -- src/lib.rt:189:1
-returns-2 : tie.Need-returns-2 Inv-loop μ-loop
-returns-2 c = search copy-laws
+returns : tie.Need-returns Inv-loop μ-loop
+returns c = search copy-laws
 
-pub put-spec : {M : Type 1} → statement M
-put-spec =
+pub put-blocks-spec : {M : Type 1} → statement M
+put-blocks-spec =
     tie.close
     (tie.spec
     Inv-loop
     μ-loop
-    put-bytes-requires
-    same-length
-    returns
     loop-holds
     sub-loop
     block-of-requires
     add-put-bytes
     slice-aggregate-put-bytes
-    put-bytes-requires-2
+    put-bytes-requires
     add-k
     loop-less
     loop-again
@@ -113,6 +98,6 @@ put-spec =
     block-of-requires-2
     add-put-bytes-2
     slice-aggregate-put-bytes-2
-    put-bytes-requires-3
-    same-length-2
-    returns-2)
+    put-bytes-requires-2
+    same-length
+    returns)
