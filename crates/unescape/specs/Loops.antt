@@ -56,13 +56,6 @@ module _ {strict : Bool} {t acc : List ℕ} {i : ℕ} (at : DecodeAt strict t ac
 pub seek-start : (t : List ℕ) → Clear t 38 0 0
 seek-start t = record { low = omega arith; high = omega arith; none = λ k l u e. omega arith }
 
-pub seek-run : {t : List ℕ} {seek i r : ℕ} → Clear t 38 seek i → NextAt t 38 i r → Clear t 38 seek r
-seek-run {t} {seek} {i} {r} c x = record { low = omega (arith, c .low, x .clear .low); high = x .clear .high; none = λ k l u e. go k l u e (leb i k) refl }
-  where
-    go : (k : ℕ) → seek ≤ k → k < r → getD t k 0 ≡ 38 → (b : Bool) → leb i k ≡ b → ⊥
-    go k l u e true q = x .clear .none k (leb-true i k q) u e
-    go k l u e false q = c .none k l (leb-false i k q) e
-
 pub seek-next : {t : List ℕ} {seek i r : ℕ} → Clear t 38 seek i → i < length t → (getD t i 0 ≡ 38 → ⊥) → NextAt t 38 seek r → NextAt t 38 i r
 seek-next {t} {seek} {i} {r} c h n x =
     record {
@@ -85,7 +78,10 @@ seek-ref strict {t} {i} {r} {c} {n} h q e =
       none = λ k g u x. let z : i + 1 + (k - (i + 1)) ≡ k = omega arith in a (k - (i + 1)) (omega arith) (rw (getD-drop (i + 1) t (k - (i + 1)) 0, z) x);
     }
 
-pub ruleset seek-laws = (needs, seek-start, seek-run, seek-next, seek-ref)
+pub seek-low : {t : List ℕ} {seek i r : ℕ} → Clear t 38 seek i → i < length t → (getD t i 0 ≡ 38 → ⊥) → NextAt t 38 seek r → i ≤ r
+seek-low c h n x = seek-next c h n x .clear .low
+
+pub ruleset seek-laws = (needs, seek-start, seek-next, seek-low, seek-ref)
 
 -- ---- validating: the loop keeps no bytes
 pub record ValidAt (t : List ℕ) (i : ℕ) : Type 0 where

@@ -10,7 +10,7 @@ ghost use Rattle.reference.specs.Number.{digit, digits};
 ghost use Rattle.reference.specs.Entity.{numeric, reader, xmlChar, allowed};
 ghost use Rattle.reference.specs.Text.{reference, unescaped, validated, filled, Unescape};
 ghost use Rattle.lists.specs.Tests.{pick, within};
-ghost use Rattle.lists.specs.Find.{Clear, NextAt};
+ghost use Rattle.lists.specs.Find.{NextAt};
 ghost use Rattle.unescape.specs.Parse.{spelt, PastSign, onlyRef, begins, namedRef, packed, nameValue, Byte, Three};
 ghost use Rattle.unescape.specs.Loops.{sizeOf};
 ghost use Rattle.unescape.specs.Fill.{Room};
@@ -290,14 +290,6 @@ fn reference_from(strict: bool, text: &[u8], from: usize) -> Reference
     named_at(text, from)
 }
 
-// The next `&` from a place on, looked for from an earlier place.
-fn next_amp(text: &[u8], seek: usize, i: usize) -> usize
-    requires { ⌜ Clear (now text) 38 seek i × (i < length (now text)) × (getD (now text) i 0 ≡ 38 → ⊥) ⌝ }
-    ensures { λ r. ⌜ NextAt (now (text .entry)) 38 i r ⌝ }
-{
-    slices::find(text, seek, b'&')
-}
-
 // Whether each reference of a text is right. The next `&` is looked for from right after the last one, so that the search waits for no
 // reference to be read.
 pub fn validate_references(text: &[u8]) -> Validated
@@ -318,7 +310,7 @@ pub fn validate_references(text: &[u8]) -> Validated
                 }
             }
         } else {
-            i = next_amp(text, seek, i);
+            i = slices::find(text, seek, b'&');
         }
     }
     Validated::Valid
@@ -345,7 +337,7 @@ fn measure(text: &[u8]) -> Unescaped
                 }
             }
         } else {
-            let next = next_amp(text, seek, i);
+            let next = slices::find(text, seek, b'&');
             size += next - i;
             i = next;
         }
@@ -375,7 +367,7 @@ fn fill(text: &[u8], out: &mut [u8])
                 }
             }
         } else {
-            let next = next_amp(text, seek, i);
+            let next = slices::find(text, seek, b'&');
             n = slices::put(out, n, &text[i..next]);
             i = next;
         }

@@ -47,8 +47,8 @@ same-length c = search fill-laws
 returns : tie.Need-returns Inv-loop μ-loop
 returns c = search fill-laws
 
-next-amp-requires : tie.Need-next-amp-requires Inv-loop μ-loop
-next-amp-requires c κs = search fill-laws
+find-requires : tie.Need-find-requires Inv-loop μ-loop
+find-requires c κs = search fill-laws
 
 sub-put : tie.Need-sub-put Inv-loop μ-loop
 sub-put c = search fill-laws
@@ -92,7 +92,7 @@ fill-spec =
     enum-told
     same-length
     returns
-    next-amp-requires
+    find-requires
     sub-put
     part-put-start
     part-put-end

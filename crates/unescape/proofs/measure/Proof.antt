@@ -47,8 +47,8 @@ enum-told c = search measure-laws
 returns : tie.Need-returns Inv-loop μ-loop
 returns c = search measure-laws
 
-next-amp-requires : tie.Need-next-amp-requires Inv-loop μ-loop
-next-amp-requires c κs = search measure-laws
+find-requires : tie.Need-find-requires Inv-loop μ-loop
+find-requires c κs = search measure-laws
 
 sub-size : tie.Need-sub-size Inv-loop μ-loop
 sub-size c = search measure-laws
@@ -83,7 +83,7 @@ measure-spec =
     loop-again
     enum-told
     returns
-    next-amp-requires
+    find-requires
     sub-size
     add-size-2
     loop-less-2

@@ -41,8 +41,8 @@ enum-told c = search valid-laws
 returns : tie.Need-returns Inv-loop μ-loop
 returns c = search valid-laws
 
-next-amp-requires : tie.Need-next-amp-requires Inv-loop μ-loop
-next-amp-requires c κs = search valid-laws
+find-requires : tie.Need-find-requires Inv-loop μ-loop
+find-requires c κs = search valid-laws
 
 loop-less-2 : tie.Need-loop-less-2 Inv-loop μ-loop
 loop-less-2 c = search valid-laws
@@ -69,7 +69,7 @@ validate-references-spec =
     loop-again
     enum-told
     returns
-    next-amp-requires
+    find-requires
     loop-less-2
     loop-again-2
     returns-2)
