@@ -1,3 +1,4 @@
+pub mod Digits
 pub mod Parse
 pub mod Loops
 pub mod Fill

@@ -3,7 +3,6 @@
 ghost use mathlib.Core.Path.{_≡_};
 ghost use Prim.Native.Nat.{_+_, _≤_, _<_};
 ghost use lib.ListN.{length, getD};
-ghost use lib.Dec.{ltb};
 ghost use mathlib.Core.List.{[], _∷_};
 ghost use Rattle.utf8.specs.Encode.{scalar, encode, EncodedLen};
 ghost use Rattle.lists.specs.Overwrite.{Stored};
@@ -24,18 +23,20 @@ pub fn is_scalar(n: u32) -> bool
     n <= 0x10ffff
 }
 
-// 1 from a limit on, or 0.
-fn from_on(c: u32, limit: u32) -> usize
-    ensures { λ r. ⌜ (r ≡ pick (ltb c limit) 0 1) × (r ≤ 1) ⌝ }
-{
-    if c < limit { 0 } else { 1 }
-}
-
-// How many bytes a scalar value takes: with no branch, since the characters of a text follow no rule.
+// How many bytes a scalar value takes.
 pub fn encoded_len(c: u32) -> usize
     ensures { λ r. ⌜ EncodedLen c r ⌝ }
 {
-    1 + from_on(c, 0x80) + from_on(c, 0x800) + from_on(c, 0x10000)
+    if c < 0x80 {
+        return 1;
+    }
+    if c < 0x800 {
+        return 2;
+    }
+    if c < 0x10000 {
+        return 3;
+    }
+    4
 }
 
 // Writes the bytes of a scalar value at a place, and answers the place after them.

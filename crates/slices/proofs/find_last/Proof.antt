@@ -4,8 +4,6 @@ use Prim.Native.Nat.{_-_}
 use lib.ListN.{length}
 use Rattle.slices.proofs.find_last.Statement.{statement}
 use Rattle.slices.proofs.find_last.Tie as tie
-use Rattle.slices.proofs.find_last.Reads as reads
-use Rattle.slices.proofs.find_last.Lts as lts
 
 abbrev Inv-loop : tie.InvT-loop
 Inv-loop s from x i₀ i = Clear s x from i
@@ -13,31 +11,24 @@ Inv-loop s from x i₀ i = Clear s x from i
 abbrev μ-loop : tie.MeasureT-loop
 μ-loop s from x i₀ i = length s - i
 
--- src/lib.rt:106:5
 loop-holds : tie.Need-loop-holds Inv-loop μ-loop
 loop-holds c = search scan-laws
 
--- src/lib.rt:107:12
 shared-slice-read-if1 : tie.Need-shared-slice-read-if1 Inv-loop μ-loop
 shared-slice-read-if1 c = search scan-laws
 
--- src/lib.rt:108:13
 returns : tie.Need-returns Inv-loop μ-loop
 returns c = search scan-laws
 
--- src/lib.rt:110:9
 add-i : tie.Need-add-i Inv-loop μ-loop
 add-i c = search scan-laws
 
--- src/lib.rt:106:5
 loop-less : tie.Need-loop-less Inv-loop μ-loop
 loop-less c = search scan-laws
 
--- src/lib.rt:106:5
 loop-again : tie.Need-loop-again Inv-loop μ-loop
 loop-again c = search scan-laws
 
--- src/lib.rt:101:1
 returns-2 : tie.Need-returns-2 Inv-loop μ-loop
 returns-2 c = search scan-laws
 

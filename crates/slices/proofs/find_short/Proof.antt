@@ -4,10 +4,6 @@ use Prim.Native.Nat.{_-_}
 use lib.ListN.{length}
 use Rattle.slices.proofs.find_short.Statement.{statement}
 use Rattle.slices.proofs.find_short.Tie as tie
-use Rattle.slices.proofs.find_short.Reads as reads
-use Rattle.slices.proofs.find_short.Lts as lts
-use Rattle.slices.proofs.find_last.Reads as find-last-reads
-use Rattle.slices.proofs.first_in_block.Reads as first-in-block-reads
 
 abbrev Inv-loop : tie.InvT-loop
 Inv-loop s from x i₀ i = Clear s x from i
@@ -15,43 +11,33 @@ Inv-loop s from x i₀ i = Clear s x from i
 abbrev μ-loop : tie.MeasureT-loop
 μ-loop s from x i₀ i = length s - i
 
--- src/lib.rt:121:5
 loop-holds : tie.Need-loop-holds Inv-loop μ-loop
 loop-holds c = search later-laws
 
--- src/lib.rt:121:17
 sub-loop : tie.Need-sub-loop Inv-loop μ-loop
 sub-loop c = search later-laws
 
--- src/lib.rt:122:13
 first-in-block-requires : tie.Need-first-in-block-requires Inv-loop μ-loop
 first-in-block-requires c κs = search later-laws
 
--- src/lib.rt:124:20
 add-result : tie.Need-add-result Inv-loop μ-loop
 add-result c = search later-laws
 
--- src/lib.rt:124:13
 returns : tie.Need-returns Inv-loop μ-loop
 returns c = search later-laws
 
--- src/lib.rt:126:9
 add-i : tie.Need-add-i Inv-loop μ-loop
 add-i c = search later-laws
 
--- src/lib.rt:121:5
 loop-less : tie.Need-loop-less Inv-loop μ-loop
 loop-less c = search later-laws
 
--- src/lib.rt:121:5
 loop-again : tie.Need-loop-again Inv-loop μ-loop
 loop-again c = search later-laws
 
--- src/lib.rt:128:5
 find-last-requires : tie.Need-find-last-requires Inv-loop μ-loop
 find-last-requires c κs = search later-laws
 
--- src/lib.rt:116:1
 returns-2 : tie.Need-returns-2 Inv-loop μ-loop
 returns-2 c = search later-laws
 

@@ -4,10 +4,6 @@ use Prim.Native.Nat.{_-_}
 use lib.ListN.{length}
 use Rattle.slices.proofs.put_blocks.Statement.{statement}
 use Rattle.slices.proofs.put_blocks.Tie as tie
-use Rattle.slices.proofs.put_blocks.Reads as reads
-use Rattle.slices.proofs.put_blocks.Lts as lts
-use Rattle.slices.proofs.block_of.Reads as block-of-reads
-use Rattle.slices.proofs.put_bytes.Reads as put-bytes-reads
 
 abbrev Inv-loop : tie.InvT-loop
 Inv-loop out₀ at s k₀ out k = CopyAt s out₀ out at k
@@ -15,67 +11,51 @@ Inv-loop out₀ at s k₀ out k = CopyAt s out₀ out at k
 abbrev μ-loop : tie.MeasureT-loop
 μ-loop out₀ at s k₀ out k = length s - k
 
--- src/lib.rt:194:5
 loop-holds : tie.Need-loop-holds Inv-loop μ-loop
 loop-holds c = search copy-laws
 
--- src/lib.rt:194:17
 sub-loop : tie.Need-sub-loop Inv-loop μ-loop
 sub-loop c = search copy-laws
 
--- src/lib.rt:195:17
 block-of-requires : tie.Need-block-of-requires Inv-loop μ-loop
 block-of-requires c κs = search copy-laws
 
--- src/lib.rt:196:24
 add-put-bytes : tie.Need-add-put-bytes Inv-loop μ-loop
 add-put-bytes c = search copy-laws
 
--- src/lib.rt:196:32
 slice-aggregate-put-bytes : tie.Need-slice-aggregate-put-bytes Inv-loop μ-loop
 slice-aggregate-put-bytes c = search copy-laws
 
--- src/lib.rt:196:9
 put-bytes-requires : tie.Need-put-bytes-requires Inv-loop μ-loop
 put-bytes-requires c κs = search copy-laws
 
--- src/lib.rt:197:9
 add-k : tie.Need-add-k Inv-loop μ-loop
 add-k c = search copy-laws
 
--- src/lib.rt:194:5
 loop-less : tie.Need-loop-less Inv-loop μ-loop
 loop-less c = search copy-laws
 
--- src/lib.rt:194:5
 loop-again : tie.Need-loop-again Inv-loop μ-loop
 loop-again c = copy-block (search needs) (search needs) (search needs) (c .before .before .put-bytes .ensures)
 
--- src/lib.rt:199:16
 sub-last : tie.Need-sub-last Inv-loop μ-loop
 sub-last c = search copy-laws
 
--- src/lib.rt:200:13
 block-of-requires-2 : tie.Need-block-of-requires-2 Inv-loop μ-loop
 block-of-requires-2 c κs = search copy-laws
 
--- src/lib.rt:201:20
 add-put-bytes-2 : tie.Need-add-put-bytes-2 Inv-loop μ-loop
 add-put-bytes-2 c = search copy-laws
 
--- src/lib.rt:201:31
 slice-aggregate-put-bytes-2 : tie.Need-slice-aggregate-put-bytes-2 Inv-loop μ-loop
 slice-aggregate-put-bytes-2 c = search copy-laws
 
--- src/lib.rt:201:5
 put-bytes-requires-2 : tie.Need-put-bytes-requires-2 Inv-loop μ-loop
 put-bytes-requires-2 c κs = search copy-laws
 
--- src/lib.rt:189:1
 same-length : tie.Need-same-length Inv-loop μ-loop
 same-length c = search copy-laws
 
--- src/lib.rt:189:1
 returns : tie.Need-returns Inv-loop μ-loop
 returns c = search copy-laws
 

@@ -4,8 +4,6 @@ use Prim.Native.Nat.{_-_}
 use lib.ListN.{length}
 use Rattle.unescape.proofs.begins_at.Statement.{statement}
 use Rattle.unescape.proofs.begins_at.Tie as tie
-use Rattle.unescape.proofs.begins_at.Reads as reads
-use Rattle.unescape.proofs.begins_at.Lts as lts
 
 abbrev Inv-loop : tie.InvT-loop
 Inv-loop text from name k₀ k = BeginsAt name text from k
@@ -13,47 +11,36 @@ Inv-loop text from name k₀ k = BeginsAt name text from k
 abbrev μ-loop : tie.MeasureT-loop
 μ-loop text from name k₀ k = length name - k
 
--- src/lib.rt:168:8
 sub-if1 : tie.Need-sub-if1 Inv-loop μ-loop
 sub-if1 c = search begins-laws
 
--- src/lib.rt:169:9
 returns : tie.Need-returns Inv-loop μ-loop
 returns c = search begins-laws
 
--- src/lib.rt:172:5
 loop-holds : tie.Need-loop-holds Inv-loop μ-loop
 loop-holds c = search begins-laws
 
--- src/lib.rt:173:17
 add-if2 : tie.Need-add-if2 Inv-loop μ-loop
 add-if2 c = search begins-laws
 
--- src/lib.rt:173:12
 shared-slice-read-if2 : tie.Need-shared-slice-read-if2 Inv-loop μ-loop
 shared-slice-read-if2 c = search begins-laws
 
--- src/lib.rt:173:30
 shared-slice-read-if2-2 : tie.Need-shared-slice-read-if2-2 Inv-loop μ-loop
 shared-slice-read-if2-2 c = search begins-laws
 
--- src/lib.rt:174:13
 returns-2 : tie.Need-returns-2 Inv-loop μ-loop
 returns-2 c = search begins-laws
 
--- src/lib.rt:176:9
 add-k : tie.Need-add-k Inv-loop μ-loop
 add-k c = search begins-laws
 
--- src/lib.rt:172:5
 loop-less : tie.Need-loop-less Inv-loop μ-loop
 loop-less c = search begins-laws
 
--- src/lib.rt:172:5
 loop-again : tie.Need-loop-again Inv-loop μ-loop
 loop-again c = search begins-laws
 
--- src/lib.rt:164:1
 returns-3 : tie.Need-returns-3 Inv-loop μ-loop
 returns-3 c = search begins-laws
 

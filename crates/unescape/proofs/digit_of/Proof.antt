@@ -1,28 +1,18 @@
-use Rattle.reference.specs.Number.{digit}
+use mathlib.Core.Path.{_∙_}
+use Rattle.unescape.specs.Digits.{table, table-is}
 use borrow.Author.Needs.{needs}
 use Rattle.unescape.proofs.digit_of.Statement.{statement}
 use Rattle.unescape.proofs.digit_of.Tie as tie
-use Rattle.unescape.proofs.digit_of.Reads as reads
-use Rattle.unescape.proofs.digit_of.Lts as lts
-use Rattle.unescape.proofs.digit_in.Reads as digit-in-reads
 
--- src/lib.rt:38:9
-digit-in-requires : tie.Need-digit-in-requires
-digit-in-requires c κs = search needs
+array-read-wide : tie.Need-array-read-wide
+array-read-wide c = search needs
 
--- src/lib.rt:39:9
-digit-in-requires-2 : tie.Need-digit-in-requires-2
-digit-in-requires-2 c κs = search needs
+wide-requires : tie.Need-wide-requires
+wide-requires c κs = search needs
 
--- src/lib.rt:40:5
-digit-in-requires-3 : tie.Need-digit-in-requires-3
-digit-in-requires-3 c κs = search needs
-
--- src/lib.rt:34:1
 returns : tie.Need-returns
-unfolding digit
-returns c = cc
+unfolding table
+returns c = c .wide .ensures .is ∙ table-is _ (search needs)
 
 pub digit-of-spec : {M : Type 1} → statement M
-digit-of-spec =
-    tie.close (tie.spec digit-in-requires digit-in-requires-2 digit-in-requires-3 returns)
+digit-of-spec = tie.close (tie.spec array-read-wide wide-requires returns)

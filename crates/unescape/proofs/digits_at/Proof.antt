@@ -4,9 +4,6 @@ use Prim.Native.Nat.{_-_}
 use lib.ListN.{length}
 use Rattle.unescape.proofs.digits_at.Statement.{statement}
 use Rattle.unescape.proofs.digits_at.Tie as tie
-use Rattle.unescape.proofs.digits_at.Reads as reads
-use Rattle.unescape.proofs.digits_at.Lts as lts
-use Rattle.unescape.proofs.digit_of.Reads as digit-of-reads
 
 abbrev Inv-loop : tie.InvT-loop
 Inv-loop text from start base acc₀ i₀ acc i = DigitsAt base text from start acc i
@@ -14,71 +11,54 @@ Inv-loop text from start base acc₀ i₀ acc i = DigitsAt base text from start 
 abbrev μ-loop : tie.MeasureT-loop
 μ-loop text from start base acc₀ i₀ acc i = length text - i
 
--- src/lib.rt:50:5
 loop-holds : tie.Need-loop-holds Inv-loop μ-loop
 loop-holds c = search digits-laws
 
--- src/lib.rt:51:26
 shared-slice-read-digit-of : tie.Need-shared-slice-read-digit-of Inv-loop μ-loop
 shared-slice-read-digit-of c = search digits-laws
 
--- src/lib.rt:51:13
 digit-of-requires : tie.Need-digit-of-requires Inv-loop μ-loop
 digit-of-requires c κs = search digits-laws
 
--- src/lib.rt:53:16
 shared-slice-read-if2 : tie.Need-shared-slice-read-if2 Inv-loop μ-loop
 shared-slice-read-if2 c = search digits-laws
 
--- src/lib.rt:54:17
 returns : tie.Need-returns Inv-loop μ-loop
 returns c = search digits-laws
 
--- src/lib.rt:57:17
 returns-2 : tie.Need-returns-2 Inv-loop μ-loop
 returns-2 c = search digits-laws
 
--- src/lib.rt:60:23
 cast-t15 : tie.Need-cast-t15 Inv-loop μ-loop
 cast-t15 c = search digits-laws
 
--- src/lib.rt:61:22
 sub-t16 : tie.Need-sub-t16 Inv-loop μ-loop
 sub-t16 c = search digits-laws
 
--- src/lib.rt:61:22
 add-t17 : tie.Need-add-t17 Inv-loop μ-loop
 add-t17 c = search digits-laws
 
--- src/lib.rt:59:13
 returns-3 : tie.Need-returns-3 Inv-loop μ-loop
 returns-3 c = search digits-laws
 
--- src/lib.rt:64:15
 mul-acc : tie.Need-mul-acc Inv-loop μ-loop
 mul-acc c = search digits-laws
 
--- src/lib.rt:64:15
 add-acc : tie.Need-add-acc Inv-loop μ-loop
 add-acc c = search digits-laws
 
--- src/lib.rt:66:13
 returns-4 : tie.Need-returns-4 Inv-loop μ-loop
 returns-4 c = search digits-laws
 
--- src/lib.rt:68:9
 add-i : tie.Need-add-i Inv-loop μ-loop
 add-i c = search digits-laws
 
--- src/lib.rt:50:5
 loop-less : tie.Need-loop-less Inv-loop μ-loop
 loop-less c = search digits-laws
 
--- src/lib.rt:50:5
 loop-again : tie.Need-loop-again Inv-loop μ-loop
 loop-again c = search digits-laws
 
--- src/lib.rt:44:1
 returns-5 : tie.Need-returns-5 Inv-loop μ-loop
 returns-5 c = search digits-laws
 

@@ -2,53 +2,37 @@ use Rattle.unescape.specs.Parse.{name-laws}
 use borrow.Author.Needs.{needs}
 use Rattle.unescape.proofs.name_at.Statement.{statement}
 use Rattle.unescape.proofs.name_at.Tie as tie
-use Rattle.unescape.proofs.name_at.Reads as reads
-use Rattle.unescape.proofs.name_at.Lts as lts
-use Rattle.unescape.proofs.name_value.Reads as name-value-reads
-use Rattle.unescape.proofs.three_at.Reads as three-at-reads
-use Rattle.unescape.proofs.wide.Reads as wide-reads
 
--- src/lib.rt:266:9
 three-at-requires : tie.Need-three-at-requires
 three-at-requires c κs = search needs
 
--- src/lib.rt:267:23
 add-wide : tie.Need-add-wide
 add-wide c = search needs
 
--- src/lib.rt:267:18
 shared-slice-read-wide : tie.Need-shared-slice-read-wide
 shared-slice-read-wide c = search needs
 
--- src/lib.rt:267:9
 wide-requires : tie.Need-wide-requires
 wide-requires c κs = search needs
 
--- src/lib.rt:268:23
 add-wide-2 : tie.Need-add-wide-2
 add-wide-2 c = search needs
 
--- src/lib.rt:268:18
 shared-slice-read-wide-2 : tie.Need-shared-slice-read-wide-2
 shared-slice-read-wide-2 c = search needs
 
--- src/lib.rt:268:9
 wide-requires-2 : tie.Need-wide-requires-2
 wide-requires-2 c κs = search needs
 
--- src/lib.rt:269:26
 mul-name-value : tie.Need-mul-name-value
 mul-name-value c = search needs
 
--- src/lib.rt:269:22
 add-name-value : tie.Need-add-name-value
 add-name-value c = search needs
 
--- src/lib.rt:269:5
 name-value-requires : tie.Need-name-value-requires
 name-value-requires c κs = search needs
 
--- src/lib.rt:262:1
 returns : tie.Need-returns
 returns c = search name-laws
 

@@ -3,76 +3,57 @@ use Rattle.unescape.specs.Parse.{namedRef}
 use borrow.Author.Needs.{needs}
 use Rattle.unescape.proofs.named_last.Statement.{statement}
 use Rattle.unescape.proofs.named_last.Tie as tie
-use Rattle.unescape.proofs.named_last.Reads as reads
-use Rattle.unescape.proofs.named_last.Lts as lts
-use Rattle.unescape.proofs.begins_at.Reads as begins-at-reads
 
--- src/lib.rt:186:30
 slice-aggregate-begins-at : tie.Need-slice-aggregate-begins-at
 slice-aggregate-begins-at c = search needs
 
--- src/lib.rt:186:8
 begins-at-requires : tie.Need-begins-at-requires
 begins-at-requires c κs = search needs
 
--- src/lib.rt:187:9
 returns : tie.Need-returns
 unfolding namedRef
 returns c = search flags depth 8
 
--- src/lib.rt:189:30
 slice-aggregate-begins-at-2 : tie.Need-slice-aggregate-begins-at-2
 slice-aggregate-begins-at-2 c = search needs
 
--- src/lib.rt:189:8
 begins-at-requires-2 : tie.Need-begins-at-requires-2
 begins-at-requires-2 c κs = search needs
 
--- src/lib.rt:190:9
 returns-2 : tie.Need-returns-2
 unfolding namedRef
 returns-2 c = search flags depth 8
 
--- src/lib.rt:192:30
 slice-aggregate-begins-at-3 : tie.Need-slice-aggregate-begins-at-3
 slice-aggregate-begins-at-3 c = search needs
 
--- src/lib.rt:192:8
 begins-at-requires-3 : tie.Need-begins-at-requires-3
 begins-at-requires-3 c κs = search needs
 
--- src/lib.rt:193:9
 returns-3 : tie.Need-returns-3
 unfolding namedRef
 returns-3 c = search flags depth 8
 
--- src/lib.rt:195:30
 slice-aggregate-begins-at-4 : tie.Need-slice-aggregate-begins-at-4
 slice-aggregate-begins-at-4 c = search needs
 
--- src/lib.rt:195:8
 begins-at-requires-4 : tie.Need-begins-at-requires-4
 begins-at-requires-4 c κs = search needs
 
--- src/lib.rt:196:9
 returns-4 : tie.Need-returns-4
 unfolding namedRef
 returns-4 c = search flags depth 8
 
--- src/lib.rt:198:30
 slice-aggregate-begins-at-5 : tie.Need-slice-aggregate-begins-at-5
 slice-aggregate-begins-at-5 c = search needs
 
--- src/lib.rt:198:8
 begins-at-requires-5 : tie.Need-begins-at-requires-5
 begins-at-requires-5 c κs = search needs
 
--- src/lib.rt:199:9
 returns-5 : tie.Need-returns-5
 unfolding namedRef
 returns-5 c = search flags depth 8
 
--- src/lib.rt:182:1
 returns-6 : tie.Need-returns-6
 unfolding namedRef
 returns-6 c = search flags depth 8

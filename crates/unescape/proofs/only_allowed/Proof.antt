@@ -2,31 +2,22 @@ use Rattle.unescape.specs.Parse.{only-laws}
 use borrow.Author.Needs.{needs}
 use Rattle.unescape.proofs.only_allowed.Statement.{statement}
 use Rattle.unescape.proofs.only_allowed.Tie as tie
-use Rattle.unescape.proofs.only_allowed.Reads as reads
-use Rattle.unescape.proofs.only_allowed.Lts as lts
-use Rattle.unescape.proofs.is_allowed.Reads as is-allowed-reads
 
--- src/lib.rt:152:27
 enum-known-x : tie.Need-enum-known-x
 enum-known-x c = search needs
 
--- src/lib.rt:153:16
 is-allowed-requires : tie.Need-is-allowed-requires
 is-allowed-requires c κs = search needs
 
--- src/lib.rt:159:27
 enum-told : tie.Need-enum-told
 enum-told c = search needs
 
--- src/lib.rt:148:1
 returns : tie.Need-returns
 returns c = search only-laws
 
--- src/lib.rt:148:1
 returns-2 : tie.Need-returns-2
 returns-2 c = search only-laws
 
--- src/lib.rt:148:1
 returns-3 : tie.Need-returns-3
 returns-3 c = search only-laws
 

@@ -2,30 +2,22 @@ use Rattle.unescape.specs.Parse.{sign-laws}
 use borrow.Author.Needs.{needs}
 use Rattle.unescape.proofs.past_sign.Statement.{statement}
 use Rattle.unescape.proofs.past_sign.Tie as tie
-use Rattle.unescape.proofs.past_sign.Reads as reads
-use Rattle.unescape.proofs.past_sign.Lts as lts
 
--- src/lib.rt:79:9
 returns : tie.Need-returns
 returns c = search sign-laws
 
--- src/lib.rt:82:9
 returns-2 : tie.Need-returns-2
 returns-2 c = search sign-laws
 
--- src/lib.rt:84:8
 shared-slice-read-if3 : tie.Need-shared-slice-read-if3
 shared-slice-read-if3 c = search needs
 
--- src/lib.rt:85:16
 add-result : tie.Need-add-result
 add-result c = search needs
 
--- src/lib.rt:85:9
 returns-3 : tie.Need-returns-3
 returns-3 c = search sign-laws
 
--- src/lib.rt:74:1
 returns-4 : tie.Need-returns-4
 returns-4 c = search sign-laws
 

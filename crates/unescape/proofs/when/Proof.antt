@@ -1,14 +1,10 @@
 use Rattle.lists.specs.Tests.{tests}
 use Rattle.unescape.proofs.when.Statement.{statement}
 use Rattle.unescape.proofs.when.Tie as tie
-use Rattle.unescape.proofs.when.Reads as reads
-use Rattle.unescape.proofs.when.Lts as lts
 
--- src/lib.rt:225:1
 returns : tie.Need-returns
 returns c = search tests
 
--- src/lib.rt:225:1
 returns-2 : tie.Need-returns-2
 returns-2 c = search tests
 
