@@ -1,4 +1,3 @@
-pub mod Digits
 pub mod Parse
 pub mod Loops
 pub mod Fill

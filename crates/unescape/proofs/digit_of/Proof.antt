@@ -1,18 +1,21 @@
-use mathlib.Core.Path.{_∙_}
-use Rattle.unescape.specs.Digits.{table, table-is}
+use Rattle.reference.specs.Number.{digit}
 use borrow.Author.Needs.{needs}
 use Rattle.unescape.proofs.digit_of.Statement.{statement}
 use Rattle.unescape.proofs.digit_of.Tie as tie
 
-array-read-wide : tie.Need-array-read-wide
-array-read-wide c = search needs
+digit-in-requires : tie.Need-digit-in-requires
+digit-in-requires c κs = search needs
 
-wide-requires : tie.Need-wide-requires
-wide-requires c κs = search needs
+digit-in-requires-2 : tie.Need-digit-in-requires-2
+digit-in-requires-2 c κs = search needs
+
+digit-in-requires-3 : tie.Need-digit-in-requires-3
+digit-in-requires-3 c κs = search needs
 
 returns : tie.Need-returns
-unfolding table
-returns c = c .wide .ensures .is ∙ table-is _ (search needs)
+unfolding digit
+returns c = cc
 
 pub digit-of-spec : {M : Type 1} → statement M
-digit-of-spec = tie.close (tie.spec array-read-wide wide-requires returns)
+digit-of-spec =
+    tie.close (tie.spec digit-in-requires digit-in-requires-2 digit-in-requires-3 returns)
