@@ -351,11 +351,11 @@ reference-sound s {c} {n} q = go (eqb (getD s (span s) 0) 59) (charOf true (take
 
 -- ---- the whole text
 -- no `&` among the first n bytes
-NoAmp : ℕ → List ℕ → Type 0
+abbrev pub NoAmp : ℕ → List ℕ → Type 0
 NoAmp n s = (j : ℕ) → j < n → getD s j 0 ≡ 38 → ⊥
 
 span-no-amp : (s : List ℕ) → NoAmp (span s) s
-unfolding span NoAmp
+unfolding span
 span-no-amp [] j h e = omega arith
 span-no-amp (b ∷ s) j h e = go (eqb b 59) (eqb b 38) refl j h e (span-no-amp s)
   where
@@ -366,8 +366,8 @@ span-no-amp (b ∷ s) j h e = go (eqb b 59) (eqb b 38) refl j h e (span-no-amp s
     go false false q zero h e ih = eqb-false b 38 q e
     go false false q (suc j) h e ih = ih j (omega arith) e
 
-reference-no-amp : (strict : Bool) (s : List ℕ) {c n : ℕ} → reference strict s ≡ Reference.Char c n → NoAmp n s
-unfolding reference sized NoAmp
+pub reference-no-amp : (strict : Bool) (s : List ℕ) {c n : ℕ} → reference strict s ≡ Reference.Char c n → NoAmp n s
+unfolding reference sized
 reference-no-amp strict s {c} {n} q = go (eqb (getD s (span s) 0) 59) (charOf strict (take (span s) s)) refl q
   where
     go : (t : Bool) (x : Number) → eqb (getD s (span s) 0) 59 ≡ t → pick t (sized (span s + 1) x) Reference.Bad ≡ Reference.Char c n
@@ -396,7 +396,7 @@ begins s {c} {n} q = record { front = 0x26 ∷ take n s; rest = drop n s; cut = 
 
 -- each `&` of s, once k bytes that hold none are passed
 each-sound : (at k : ℕ) (s l : List ℕ) → NoAmp k s → decode true at k s ≡ bytes l → (a b : List ℕ) → s ≡ a ++ (0x26 ∷ b) → BeginsReference (0x26 ∷ b)
-unfolding decode NoAmp
+unfolding decode
 each-sound at k [] l p e a b q = nil-append a 0x26 b q
 each-sound at (suc k) (x ∷ s) l p e [] b q = let z : x ≡ 38 = cc in absurd (p 0 (omega arith) z)
 each-sound at (suc k) (x ∷ s) l p e (y ∷ a) b q = let z : s ≡ a ++ (0x26 ∷ b) = cc in each-sound (suc at) k s l (λ j h. p (suc j) (omega arith)) e a b z

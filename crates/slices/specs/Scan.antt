@@ -82,6 +82,7 @@ clear-block c t e = clear-join c (t .clear e)
 pub record FirstIn (s : List ℕ) (x from width r : ℕ) : Type 0 where
   pub clear : r < width → Clear s x from (from + r)
   pub found : r < width → getD s (from + r) 0 ≡ x
+  pub none : width ≤ r → Clear s x from (from + width)
 
 -- the first k places are tested: first is the first hit among them, or 255
 pub record FirstAt (s : List ℕ) (x from width first k : ℕ) : Type 0 where
@@ -136,8 +137,12 @@ module _ {s : List ℕ} {x from width first k : ℕ} (f : FirstAt s x from width
       record {
         clear = λ l. record { low = omega arith; high = omega arith; none = λ i a b. go l i a b };
         found = λ l. rw e (f .found (omega arith));
+        none = λ l. record { low = omega arith; high = room; none = λ i a b g. all l i a b g };
       }
     where
+      all : width ≤ r → (i : ℕ) → from ≤ i → i < from + width → getD s i 0 ≡ x → ⊥
+      all l i a b g = let q : from + (i - from) ≡ i = omega arith in f .none (i - from) (omega arith) (omega arith) (rw q g)
+
       go : r < width → (i : ℕ) → from ≤ i → i < from + r → getD s i 0 ≡ x → ⊥
       go l i a b g = let q : from + (i - from) ≡ i = omega arith in f .none (i - from) (omega arith) (omega arith) (rw q g)
 
@@ -148,8 +153,17 @@ found-in c f h = record { clear = clear-join c (f .clear h); found = λ l. f .fo
 pub found-later : {s : List ℕ} {x from i r : ℕ} → Clear s x from i → NextAt s x i r → NextAt s x from r
 found-later c n = record { clear = clear-join c (n .clear); found = n .found }
 
+pub clear-first : {s : List ℕ} {x from i width k : ℕ} → Clear s x from i → FirstIn s x i width k → width ≤ k → Clear s x from (i + width)
+clear-first c f h = clear-join c (f .none h)
+
+pub found-near : {s : List ℕ} {x from width k : ℕ} → FirstIn s x from width k → k < width → NextAt s x from (from + k)
+found-near f h = record { clear = f .clear h; found = λ l. f .found h }
+
+pub found-far : {s : List ℕ} {x from width k r : ℕ} → FirstIn s x from width k → width ≤ k → NextAt s x (from + width) r → NextAt s x from r
+found-far f h n = found-later (f .none h) n
+
 pub ruleset first-laws = (needs, first-start, first-turn, first-end)
 
-pub ruleset later-laws = (needs, found-in, found-later)
+pub ruleset later-laws = (needs, clear-start, clear-first, found-in, found-later, found-near, found-far)
 
 pub ruleset scan-laws = (needs, clear-start, clear-more, found-at, found-end, block-start, block-hit, block-miss, block-none, block-some, clear-block)

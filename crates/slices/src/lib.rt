@@ -2,7 +2,7 @@
 // What they answer is defined in `lists`, on which the crate rests; specs/ has the laws of their loops.
 ghost use mathlib.Core.Path.{_≡_};
 ghost use Prim.Native.Nat.{_+_, _≤_, _<_};
-ghost use lib.ListN.{length};
+ghost use lib.ListN.{length, take, drop};
 ghost use Rattle.lists.specs.Bytes.{sameb};
 ghost use Rattle.lists.specs.Find.{Clear, NextAt};
 ghost use Rattle.lists.specs.Overwrite.{Stored};
@@ -97,12 +97,12 @@ fn first_in_block(s: &[u8], from: usize, width: usize, x: u8) -> usize
     wide(first)
 }
 
-// The first place from a place on where a byte stands, or the length, of a slice too short for large blocks.
-fn find_short(s: &[u8], from: usize, x: u8) -> usize
+// The first place from a place on where a byte stands, or the length, of the last bytes of a slice.
+fn find_last(s: &[u8], from: usize, x: u8) -> usize
     requires { ⌜ from ≤ length (now s) ⌝ }
     ensures { λ r. ⌜ NextAt (now (s .entry)) x from r ⌝ }
 {
-    let mut i = past_blocks(s, from, 16, x);
+    let mut i = from;
     while i < s.len() {
         if s[i] == x {
             return i;
@@ -112,8 +112,24 @@ fn find_short(s: &[u8], from: usize, x: u8) -> usize
     i
 }
 
-// The first place from a place on where a byte stands, or the length.
-pub fn find(s: &[u8], from: usize, x: u8) -> usize
+// The same, of a slice too short for large blocks.
+fn find_short(s: &[u8], from: usize, x: u8) -> usize
+    requires { ⌜ from ≤ length (now s) ⌝ }
+    ensures { λ r. ⌜ NextAt (now (s .entry)) x from r ⌝ }
+{
+    let mut i = from;
+    while 16 <= s.len() - i {
+        let k = first_in_block(s, i, 16, x);
+        if k < 16 {
+            return i + k;
+        }
+        i += 16;
+    }
+    find_last(s, i, x)
+}
+
+// The same, where the byte is far.
+fn find_far(s: &[u8], from: usize, x: u8) -> usize
     requires { ⌜ from ≤ length (now s) ⌝ }
     ensures { λ r. ⌜ NextAt (now (s .entry)) x from r ⌝ }
 {
@@ -127,8 +143,23 @@ pub fn find(s: &[u8], from: usize, x: u8) -> usize
     find_short(s, i, x)
 }
 
-// Writes a slice at a place, and answers the place after it.
-pub fn put(out: &mut [u8], at: usize, s: &[u8]) -> usize
+// The first place from a place on where a byte stands, or the length. It is often near: the first block is read once.
+pub fn find(s: &[u8], from: usize, x: u8) -> usize
+    requires { ⌜ from ≤ length (now s) ⌝ }
+    ensures { λ r. ⌜ NextAt (now (s .entry)) x from r ⌝ }
+{
+    if s.len() - from < 128 {
+        return find_short(s, from, x);
+    }
+    let near = first_in_block(s, from, 128, x);
+    if near < 128 {
+        return from + near;
+    }
+    find_far(s, from + 128, x)
+}
+
+// Writes a slice at a place, byte by byte, and answers the place after it.
+fn put_bytes(out: &mut [u8], at: usize, s: &[u8]) -> usize
     requires { ⌜ at + length (now s) ≤ length (now out) ⌝ }
     ensures { λ r. ⌜ Stored (now (out .entry)) (now (out .exit)) at (now (s .entry)) r ⌝ }
 {
@@ -138,4 +169,48 @@ pub fn put(out: &mut [u8], at: usize, s: &[u8]) -> usize
         k += 1;
     }
     at + k
+}
+
+// Some bytes of a slice, as a value: what is read cannot be what is written, so that a block is copied at once.
+fn block_of(s: &[u8], from: usize) -> [u8; 32]
+    requires { ⌜ from + 32 ≤ length (now s) ⌝ }
+    ensures { λ r. ⌜ r ≡ take 32 (drop from (now (s .entry))) ⌝ }
+{
+    let mut b: [u8; 32] = [0; 32];
+    let mut k = 0;
+    while k < 32 {
+        b[k] = s[from + k];
+        k += 1;
+    }
+    b
+}
+
+// The same, block by block. The last block may write again what the one before it wrote.
+fn put_blocks(out: &mut [u8], at: usize, s: &[u8]) -> usize
+    requires { ⌜ (at + length (now s) ≤ length (now out)) × (32 ≤ length (now s)) ⌝ }
+    ensures { λ r. ⌜ Stored (now (out .entry)) (now (out .exit)) at (now (s .entry)) r ⌝ }
+{
+    let mut k = 0;
+    while 32 <= s.len() - k {
+        let b = block_of(s, k);
+        put_bytes(out, at + k, &b);
+        k += 32;
+    }
+    let last = s.len() - 32;
+    let b = block_of(s, last);
+    put_bytes(out, at + last, &b)
+}
+
+// Writes a slice at a place, and answers the place after it. The loop over bytes is the fastest for a long slice, but for its end.
+pub fn put(out: &mut [u8], at: usize, s: &[u8]) -> usize
+    requires { ⌜ at + length (now s) ≤ length (now out) ⌝ }
+    ensures { λ r. ⌜ Stored (now (out .entry)) (now (out .exit)) at (now (s .entry)) r ⌝ }
+{
+    if s.len() < 32 {
+        return put_bytes(out, at, s);
+    }
+    if s.len() < 1024 {
+        return put_blocks(out, at, s);
+    }
+    put_bytes(out, at, s)
 }

@@ -19,7 +19,7 @@ use Rattle.reference.specs.Text.{reference, Out, before, decode, answer, filled
 use Rattle.reference.specs.Text.Out.{bytes, bad}
 use Rattle.reference.specs.Taken.{Taken, taken}
 use Rattle.reference.specs.Walk.{DecodeAt, decode-start, decode-plain, decode-end, decode-bad, decode-ref}
-use Rattle.unescape.specs.Loops.{sizeOf, next-fits, next-less, run-less}
+use Rattle.unescape.specs.Loops.{seek-laws, sizeOf, next-fits, next-less, run-less}
 use Rattle.reference.specs.declared.Reference.{Reference}
 use Rattle.reference.specs.declared.Unescaped.{Unescaped}
 
@@ -101,7 +101,7 @@ module _ {t old out : List ℕ} {n i : ℕ} (f : FillAt t old out n i) (room : R
     pub fill-room : {c k : ℕ} → r ≡ Reference.Char c k → n + length (encode c) ≤ length out
     fill-room {c} {k} e = more-room (encode c) (decode-ref (f .at) h amp q e)
 
-pub ruleset fill-laws = (needs, fill-start, fill-plain, fill-plain-room, fill-end, fill-bad, fill-ref, fill-room, small-reference, next-fits, next-less, run-less)
+pub ruleset fill-laws = (seek-laws, fill-start, fill-plain, fill-plain-room, fill-end, fill-bad, fill-ref, fill-room, small-reference, next-fits, next-less, run-less)
 
 -- ---- the answer, from what measuring found
 length-is : (o : Out) {r : Unescaped} {n : ℕ} → r ≡ sizeOf o → r ≡ Unescaped.Length n → (l : List ℕ) × (o ≡ bytes l) × (length l ≡ n)

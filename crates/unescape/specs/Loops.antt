@@ -10,12 +10,14 @@ use mir.Val.{Fits}
 use mir.Syntax.{w64}
 use lib.Dec.{leb}
 use lib.ListN.{length, getD, drop, take, length-drop, length-append, length-take}
+use lib.Seq.{getD-drop}
 use Rattle.lists.specs.Parts.{part}
 use Rattle.lists.specs.Find.{Clear, NextAt}
 use Rattle.utf8.specs.Encode.{encode, EncodedLen}
 use Rattle.reference.specs.Text.{reference, Out, references, verdict, validated, unescaped}
 use Rattle.reference.specs.Text.Out.{bytes, bad}
 use Rattle.reference.specs.Taken.{Taken, taken}
+use Rattle.reference.specs.Grammar.{reference-no-amp}
 use Rattle.reference.specs.Walk.{DecodeAt, decode-start, decode-plain, decode-end, decode-bad, decode-ref}
 use Rattle.reference.specs.declared.Reference.{Reference}
 use Rattle.reference.specs.declared.Validated.{Validated}
@@ -50,6 +52,37 @@ module _ {strict : Bool} {t acc : List ℕ} {i : ℕ} (at : DecodeAt strict t ac
   pub next-less : length t - (i + 1 + n) < length t - i
   next-less = omega (arith, next-in .0, next-in .1)
 
+-- ---- where to look for the next `&` from: right after the last one, whatever stands there, so that the search waits for no reference
+pub seek-start : (t : List ℕ) → Clear t 38 0 0
+seek-start t = record { low = omega arith; high = omega arith; none = λ k l u e. omega arith }
+
+pub seek-next : {t : List ℕ} {seek i r : ℕ} → Clear t 38 seek i → i < length t → (getD t i 0 ≡ 38 → ⊥) → NextAt t 38 seek r → NextAt t 38 i r
+seek-next {t} {seek} {i} {r} c h n x =
+    record {
+      clear = record { low = go (leb i r) refl; high = x .clear .high; none = λ k l u e. x .clear .none k (omega (arith, c .low)) u e };
+      found = x .found;
+    }
+  where
+    go : (b : Bool) → leb i r ≡ b → i ≤ r
+    go true q = leb-true i r q
+    go false q = absurd (c .none r (x .clear .low) (leb-false i r q) (x .found (omega (arith, leb-false i r q))))
+
+pub seek-ref : (strict : Bool) {t : List ℕ} {i : ℕ} {r : Reference} {c n : ℕ} → i < length t → r ≡ reference strict (drop (i + 1) t) → r ≡ Reference.Char c n
+    → Clear t 38 (i + 1) (i + 1 + n)
+seek-ref strict {t} {i} {r} {c} {n} h q e =
+    let l = taken strict (drop (i + 1) t) (sym q ∙ e) in
+    let a = reference-no-amp strict (drop (i + 1) t) (sym q ∙ e) in
+    record {
+      low = omega arith;
+      high = omega (arith, l .within, length-drop (i + 1) t);
+      none = λ k g u x. let z : i + 1 + (k - (i + 1)) ≡ k = omega arith in a (k - (i + 1)) (omega arith) (rw (getD-drop (i + 1) t (k - (i + 1)) 0, z) x);
+    }
+
+pub seek-low : {t : List ℕ} {seek i r : ℕ} → Clear t 38 seek i → i < length t → (getD t i 0 ≡ 38 → ⊥) → NextAt t 38 seek r → i ≤ r
+seek-low c h n x = seek-next c h n x .clear .low
+
+pub ruleset seek-laws = (needs, seek-start, seek-next, seek-low, seek-ref)
+
 -- ---- validating: the loop keeps no bytes
 pub record ValidAt (t : List ℕ) (i : ℕ) : Type 0 where
   pub acc : List ℕ
@@ -74,7 +107,7 @@ module _ {t : List ℕ} {i : ℕ} (v : ValidAt t i) where
     pub valid-ref : {c n : ℕ} → r ≡ Reference.Char c n → ValidAt t (i + 1 + n)
     valid-ref e = record { acc = _; at = decode-ref (v .at) h amp q e }
 
-pub ruleset valid-laws = (needs, valid-start, valid-plain, valid-end, valid-bad, valid-ref, next-fits, next-less, run-less)
+pub ruleset valid-laws = (seek-laws, valid-start, valid-plain, valid-end, valid-bad, valid-ref, next-fits, next-less, run-less)
 
 -- ---- measuring: n bytes so far, never more than were read
 pub record MeasureAt (t : List ℕ) (n i : ℕ) : Type 0 where
@@ -125,4 +158,4 @@ module _ {t : List ℕ} {n i : ℕ} (m : MeasureAt t n i) where
     pub measure-fits : {c k d : ℕ} → r ≡ Reference.Char c k → EncodedLen c d → length t < 2 ^ 64 → Fits w64 (n + d)
     measure-fits e w g = record { fits = omega (arith, measure-ref e w .small, next-in (m .at) h q e .1) }
 
-pub ruleset measure-laws = (needs, measure-start, measure-plain, measure-run-fits, measure-end, measure-bad, measure-ref, measure-fits, next-fits, next-less, run-less)
+pub ruleset measure-laws = (seek-laws, measure-start, measure-plain, measure-run-fits, measure-end, measure-bad, measure-ref, measure-fits, next-fits, next-less, run-less)

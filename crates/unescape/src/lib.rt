@@ -2,123 +2,107 @@
 // What both answer is defined in `reference`; the crate rests on it, on `utf8` for the bytes of a character and on `slices` for runs of
 // plain bytes; specs/ has the laws of the loops.
 ghost use mathlib.Core.Path.{_≡_};
-ghost use Prim.Native.Nat.{_≤_};
-ghost use Prim.Native.Nat.{_+_};
-ghost use lib.ListN.{length, drop};
+ghost use mathlib.Core.Bool.{false};
+ghost use lib.Dec.{eqb};
+ghost use Prim.Native.Nat.{_+_, _-_, _≤_, _<_};
+ghost use lib.ListN.{length, getD, drop};
 ghost use Rattle.reference.specs.Number.{digit, digits};
-ghost use Rattle.reference.specs.Entity.{named, numeric, reader, only, xmlChar, allowed, charOf};
+ghost use Rattle.reference.specs.Entity.{numeric, reader, xmlChar, allowed};
 ghost use Rattle.reference.specs.Text.{reference, unescaped, validated, filled, Unescape};
+ghost use Rattle.lists.specs.Tests.{pick, within};
 ghost use Rattle.lists.specs.Find.{NextAt};
-ghost use Rattle.unescape.specs.Parse.{Spanned};
+ghost use Rattle.unescape.specs.Parse.{spelt, PastSign, onlyRef, begins, namedRef, packed, nameValue, Byte, Three};
 ghost use Rattle.unescape.specs.Loops.{sizeOf};
 ghost use Rattle.unescape.specs.Fill.{Room};
-use reference::Number;
 use reference::Reference;
 use reference::Unescaped;
 use reference::Validated;
 
-// The value of a digit, or 16.
+// A digit of a range, less what is before the range's digits; or the other value.
+fn digit_in(d: u64, low: u64, high: u64, less: u64, other: u64) -> u64
+    requires { ⌜ less ≤ low ⌝ }
+    ensures { λ r. ⌜ r ≡ pick (within low high d) (d - less) other ⌝ }
+{
+    if d < low {
+        return other;
+    }
+    if d <= high {
+        return d - less;
+    }
+    other
+}
+
+// The value of a digit, or 16: with no branch, since the digits of a text follow no rule.
 fn digit_of(b: u8) -> u64
     ensures { λ r. ⌜ r ≡ digit b ⌝ }
 {
     let d = b as u64;
-    if d < 48 {
-        16
-    } else if d <= 57 {
-        d - 48
-    } else if d < 65 {
-        16
-    } else if d <= 70 {
-        d - 55
-    } else if d < 97 {
-        16
-    } else if d <= 102 {
-        d - 87
-    } else {
-        16
-    }
+    let small = digit_in(d, 97, 102, 87, 16);
+    let letter = digit_in(d, 65, 70, 55, small);
+    digit_in(d, 48, 57, 48, letter)
 }
 
-// One or more digits of a base, and a number of 32 bits.
-fn parse(s: &[u8], base: u64) -> Number
-    requires { ⌜ (1 ≤ base) × (base ≤ 16) ⌝ }
-    ensures { λ r. ⌜ r ≡ digits base (now (s .entry)) ⌝ }
+// The digits of a base from a place on up to a `;`, of a reference that begins at another place.
+fn digits_at(text: &[u8], from: usize, start: usize, base: u64) -> Reference
+    requires { ⌜ (from ≤ start) × (start ≤ length (now text)) × (1 ≤ base) × (base ≤ 16) ⌝ }
+    ensures { λ r. ⌜ r ≡ spelt (digits base) (start - from) (drop start (now (text .entry))) ⌝ }
 {
-    if s.len() == 0 {
-        return Number::No;
-    }
     let mut acc: u64 = 0;
-    let mut i = 0;
-    while i < s.len() {
-        let d = digit_of(s[i]);
+    let mut i = start;
+    while i < text.len() {
+        let d = digit_of(text[i]);
         if d >= base {
-            return Number::No;
+            if text[i] != b';' {
+                return Reference::Bad;
+            }
+            if i == start {
+                return Reference::Bad;
+            }
+            return Reference::Char {
+                code: acc as u32,
+                len: i - from + 1,
+            };
         }
         acc = acc * base + d;
         if acc > 0xffff_ffff {
-            return Number::No;
+            return Reference::Bad;
         }
         i += 1;
     }
-    Number::Value(acc as u32)
+    Reference::Bad
 }
 
-// The character that a name stands for.
-fn named_char(e: &[u8]) -> Number
-    ensures { λ r. ⌜ r ≡ named (now (e .entry)) ⌝ }
-{
-    if slices::same(e, b"lt") {
-        return Number::Value(60);
-    }
-    if slices::same(e, b"gt") {
-        return Number::Value(62);
-    }
-    if slices::same(e, b"amp") {
-        return Number::Value(38);
-    }
-    if slices::same(e, b"quot") {
-        return Number::Value(34);
-    }
-    if slices::same(e, b"apos") {
-        return Number::Value(39);
-    }
-    Number::No
-}
-
-// The number that digits spell; strictly, with no `+` in front.
-fn read_number(strict: bool, base: u64, s: &[u8]) -> Number
-    requires { ⌜ (1 ≤ base) × (base ≤ 16) ⌝ }
-    ensures { λ r. ⌜ r ≡ reader strict base (now (s .entry)) ⌝ }
+// Past a `+`, if one may stand there.
+fn past_sign(strict: bool, text: &[u8], start: usize) -> usize
+    requires { ⌜ start ≤ length (now text) ⌝ }
+    ensures { λ r. ⌜ PastSign strict (now (text .entry)) start r ⌝ }
 {
     if strict {
-        return parse(s, base);
+        return start;
     }
-    if s.len() == 0 {
-        return parse(s, base);
+    if start == text.len() {
+        return start;
     }
-    if s[0] == b'+' {
-        return parse(&s[1..], base);
+    if text[start] == b'+' {
+        return start + 1;
     }
-    parse(s, base)
+    start
 }
 
-// The number of an entity that begins with `#`.
-fn numeric_of(strict: bool, e: &[u8]) -> Number
-    ensures { λ r. ⌜ r ≡ numeric (reader strict) (now (e .entry)) ⌝ }
+// The reference by number, from its `#` on.
+fn numeric_at(strict: bool, text: &[u8], from: usize) -> Reference
+    requires { ⌜ (from < length (now text)) × (getD (now text) from 0 ≡ 35) ⌝ }
+    ensures { λ r. ⌜ r ≡ spelt (numeric (reader strict)) 0 (drop from (now (text .entry))) ⌝ }
 {
-    if e.len() == 0 {
-        return Number::No;
+    if from + 1 == text.len() {
+        return Reference::Bad;
     }
-    if e[0] != b'#' {
-        return Number::No;
+    if text[from + 1] == b'x' {
+        let hex = past_sign(strict, text, from + 2);
+        return digits_at(text, from, hex, 16);
     }
-    if e.len() == 1 {
-        return read_number(strict, 10, &e[1..]);
-    }
-    if e[1] == b'x' {
-        return read_number(strict, 16, &e[2..]);
-    }
-    read_number(strict, 10, &e[1..])
+    let start = past_sign(strict, text, from + 1);
+    digits_at(text, from, start, 10)
 }
 
 // Whether XML allows a character.
@@ -162,47 +146,134 @@ fn is_allowed(strict: bool, n: u32) -> bool
     }
 }
 
-fn only_allowed(strict: bool, x: Number) -> Number
-    ensures { λ r. ⌜ r ≡ only (allowed strict) x ⌝ }
+// A reference, if its character is allowed.
+fn only_allowed(strict: bool, x: Reference) -> Reference
+    ensures { λ r. ⌜ r ≡ onlyRef (allowed strict) x ⌝ }
 {
     match x {
-        Number::Value(n) => {
-            if is_allowed(strict, n) {
-                Number::Value(n)
+        Reference::Char { code, len } => {
+            if is_allowed(strict, code) {
+                Reference::Char { code, len }
             } else {
-                Number::No
+                Reference::Bad
             }
         }
-        Number::No => Number::No,
+        Reference::Bad => Reference::Bad,
     }
 }
 
-// The character that an entity stands for.
-fn char_of(strict: bool, e: &[u8]) -> Number
-    ensures { λ r. ⌜ r ≡ charOf strict (now (e .entry)) ⌝ }
-{
-    match named_char(e) {
-        Number::Value(n) => Number::Value(n),
-        Number::No => only_allowed(strict, numeric_of(strict, e)),
-    }
-}
-
-// How many bytes stand before the first `;` or `&` from a place on.
-fn span_from(text: &[u8], from: usize) -> usize
+// Whether a name stands at a place.
+fn begins_at(text: &[u8], from: usize, name: &[u8]) -> bool
     requires { ⌜ from ≤ length (now text) ⌝ }
-    ensures { λ r. ⌜ Spanned (now (text .entry)) from r ⌝ }
+    ensures { λ r. ⌜ r ≡ begins (now (name .entry)) (drop from (now (text .entry))) ⌝ }
 {
-    let mut i = from;
-    while i < text.len() {
-        if text[i] == b';' {
-            return i - from;
-        }
-        if text[i] == b'&' {
-            return i - from;
-        }
-        i += 1;
+    if text.len() - from < name.len() {
+        return false;
     }
-    i - from
+    let mut k = 0;
+    while k < name.len() {
+        if text[from + k] != name[k] {
+            return false;
+        }
+        k += 1;
+    }
+    true
+}
+
+// The reference by name at one of the last places.
+fn named_last(text: &[u8], from: usize) -> Reference
+    requires { ⌜ from ≤ length (now text) ⌝ }
+    ensures { λ r. ⌜ r ≡ namedRef (drop from (now (text .entry))) ⌝ }
+{
+    if begins_at(text, from, b"lt;") {
+        return Reference::Char { code: 60, len: 3 };
+    }
+    if begins_at(text, from, b"gt;") {
+        return Reference::Char { code: 62, len: 3 };
+    }
+    if begins_at(text, from, b"amp;") {
+        return Reference::Char { code: 38, len: 4 };
+    }
+    if begins_at(text, from, b"quot;") {
+        return Reference::Char { code: 34, len: 5 };
+    }
+    if begins_at(text, from, b"apos;") {
+        return Reference::Char { code: 39, len: 5 };
+    }
+    Reference::Bad
+}
+
+// A byte as a number.
+fn wide(b: u8) -> u64
+    ensures { λ r. ⌜ Byte b r ⌝ }
+{
+    b as u64
+}
+
+// A value, if a number is another; or the other value.
+fn when(w: u64, name: u64, value: u64, other: u64) -> u64
+    ensures { λ r. ⌜ r ≡ pick (eqb w name) value other ⌝ }
+{
+    if w == name { value } else { other }
+}
+
+// The same, of two numbers.
+fn when_both(w: u64, name: u64, v: u64, end: u64, value: u64, other: u64) -> u64
+    ensures { λ r. ⌜ r ≡ pick (pick (eqb w name) (eqb v end) false) value other ⌝ }
+{
+    if w == name {
+        return when(v, end, value, other);
+    }
+    other
+}
+
+// The character and the length of a name as one number, or 0: with no branch, since the names of a text follow no rule.
+fn name_value(w: u64, b: u64, v: u64) -> u64
+    ensures { λ r. ⌜ r ≡ nameValue w b v ⌝ }
+{
+    // apo s; quo t; amp ; gt; lt;
+    let apos = when_both(w, 7303265, v, 15219, 1319, 0);
+    let quot = when_both(w, 7304561, v, 15220, 1314, apos);
+    let amp = when_both(w, 7368033, b, 59, 1062, quot);
+    let gt = when(w, 3896423, 830, amp);
+    when(w, 3896428, 828, gt)
+}
+
+// Three bytes as a number.
+fn three_at(text: &[u8], from: usize) -> u64
+    requires { ⌜ 5 ≤ length (now text) - from ⌝ }
+    ensures { λ r. ⌜ Three (now (text .entry)) from r ⌝ }
+{
+    wide(text[from]) + 256 * (wide(text[from + 1]) + 256 * wide(text[from + 2]))
+}
+
+// The reference by name at a place, as one number.
+fn name_at(text: &[u8], from: usize) -> u64
+    requires { ⌜ 5 ≤ length (now text) - from ⌝ }
+    ensures { λ r. ⌜ r ≡ packed (namedRef (drop from (now (text .entry)))) ⌝ }
+{
+    let w = three_at(text, from);
+    let b = wide(text[from + 3]);
+    let c = wide(text[from + 4]);
+    name_value(w, b, b + 256 * c)
+}
+
+// The reference by name at a place.
+fn named_at(text: &[u8], from: usize) -> Reference
+    requires { ⌜ from ≤ length (now text) ⌝ }
+    ensures { λ r. ⌜ r ≡ namedRef (drop from (now (text .entry))) ⌝ }
+{
+    if text.len() - from < 5 {
+        return named_last(text, from);
+    }
+    let r = name_at(text, from);
+    if r == 0 {
+        return Reference::Bad;
+    }
+    Reference::Char {
+        code: (r % 256) as u32,
+        len: (r / 256) as usize,
+    }
 }
 
 // The reference whose bytes after `&` stand from a place on.
@@ -210,33 +281,28 @@ fn reference_from(strict: bool, text: &[u8], from: usize) -> Reference
     requires { ⌜ from ≤ length (now text) ⌝ }
     ensures { λ r. ⌜ r ≡ reference strict (drop from (now (text .entry))) ⌝ }
 {
-    let n = span_from(text, from);
-    let end = from + n;
-    if end == text.len() {
+    if from == text.len() {
         return Reference::Bad;
     }
-    if text[end] != b';' {
-        return Reference::Bad;
+    if text[from] == b'#' {
+        return only_allowed(strict, numeric_at(strict, text, from));
     }
-    match char_of(strict, &text[from..end]) {
-        Number::Value(c) => Reference::Char {
-            code: c,
-            len: n + 1,
-        },
-        Number::No => Reference::Bad,
-    }
+    named_at(text, from)
 }
 
-// Whether each reference of a text is right.
+// Whether each reference of a text is right. The next `&` is looked for from right after the last one, so that the search waits for no
+// reference to be read.
 pub fn validate_references(text: &[u8]) -> Validated
     ensures { λ r. ⌜ r ≡ validated (now (text .entry)) ⌝ }
 {
     let mut i = 0;
+    let mut seek = 0;
     while i < text.len() {
         if text[i] == b'&' {
             let from = i + 1;
             match reference_from(true, text, from) {
                 Reference::Char { code: _, len } => {
+                    seek = from;
                     i = from + len;
                 }
                 Reference::Bad => {
@@ -244,7 +310,7 @@ pub fn validate_references(text: &[u8]) -> Validated
                 }
             }
         } else {
-            i = slices::find(text, i, b'&');
+            i = slices::find(text, seek, b'&');
         }
     }
     Validated::Valid
@@ -256,12 +322,14 @@ fn measure(text: &[u8]) -> Unescaped
 {
     let mut size = 0;
     let mut i = 0;
+    let mut seek = 0;
     while i < text.len() {
         if text[i] == b'&' {
             let from = i + 1;
             match reference_from(false, text, from) {
                 Reference::Char { code, len } => {
                     size += utf8::encoded_len(code);
+                    seek = from;
                     i = from + len;
                 }
                 Reference::Bad => {
@@ -269,7 +337,7 @@ fn measure(text: &[u8]) -> Unescaped
                 }
             }
         } else {
-            let next = slices::find(text, i, b'&');
+            let next = slices::find(text, seek, b'&');
             size += next - i;
             i = next;
         }
@@ -284,12 +352,14 @@ fn fill(text: &[u8], out: &mut [u8])
 {
     let mut n = 0;
     let mut i = 0;
+    let mut seek = 0;
     while i < text.len() {
         if text[i] == b'&' {
             let from = i + 1;
             match reference_from(false, text, from) {
                 Reference::Char { code, len } => {
                     n = utf8::put_char(out, n, code);
+                    seek = from;
                     i = from + len;
                 }
                 Reference::Bad => {
@@ -297,7 +367,7 @@ fn fill(text: &[u8], out: &mut [u8])
                 }
             }
         } else {
-            let next = slices::find(text, i, b'&');
+            let next = slices::find(text, seek, b'&');
             n = slices::put(out, n, &text[i..next]);
             i = next;
         }

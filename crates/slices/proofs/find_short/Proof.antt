@@ -1,7 +1,7 @@
+use Rattle.slices.specs.Scan.{later-laws}
+use Rattle.lists.specs.Find.{Clear}
 use Prim.Native.Nat.{_-_}
 use lib.ListN.{length}
-use Rattle.lists.specs.Find.{Clear}
-use Rattle.slices.specs.Scan.{scan-laws}
 use Rattle.slices.proofs.find_short.Statement.{statement}
 use Rattle.slices.proofs.find_short.Tie as tie
 
@@ -11,29 +11,35 @@ Inv-loop s from x i₀ i = Clear s x from i
 abbrev μ-loop : tie.MeasureT-loop
 μ-loop s from x i₀ i = length s - i
 
-past-blocks-requires : tie.Need-past-blocks-requires Inv-loop μ-loop
-past-blocks-requires c κs = search scan-laws
-
 loop-holds : tie.Need-loop-holds Inv-loop μ-loop
-loop-holds c = search scan-laws
+loop-holds c = search later-laws
 
-shared-slice-read-if1 : tie.Need-shared-slice-read-if1 Inv-loop μ-loop
-shared-slice-read-if1 c = search scan-laws
+sub-loop : tie.Need-sub-loop Inv-loop μ-loop
+sub-loop c = search later-laws
+
+first-in-block-requires : tie.Need-first-in-block-requires Inv-loop μ-loop
+first-in-block-requires c κs = search later-laws
+
+add-result : tie.Need-add-result Inv-loop μ-loop
+add-result c = search later-laws
 
 returns : tie.Need-returns Inv-loop μ-loop
-returns c = search scan-laws
+returns c = search later-laws
 
 add-i : tie.Need-add-i Inv-loop μ-loop
-add-i c = search scan-laws
+add-i c = search later-laws
 
 loop-less : tie.Need-loop-less Inv-loop μ-loop
-loop-less c = search scan-laws
+loop-less c = search later-laws
 
 loop-again : tie.Need-loop-again Inv-loop μ-loop
-loop-again c = search scan-laws
+loop-again c = search later-laws
+
+find-last-requires : tie.Need-find-last-requires Inv-loop μ-loop
+find-last-requires c κs = search later-laws
 
 returns-2 : tie.Need-returns-2 Inv-loop μ-loop
-returns-2 c = search scan-laws
+returns-2 c = search later-laws
 
 pub find-short-spec : {M : Type 1} → statement M
 find-short-spec =
@@ -41,11 +47,13 @@ find-short-spec =
     (tie.spec
     Inv-loop
     μ-loop
-    past-blocks-requires
     loop-holds
-    shared-slice-read-if1
+    sub-loop
+    first-in-block-requires
+    add-result
     returns
     add-i
     loop-less
     loop-again
+    find-last-requires
     returns-2)

@@ -1,3 +1,4 @@
+use Rattle.lists.specs.Find.{Clear}
 use Prim.Native.Nat.{_-_}
 use lib.ListN.{length}
 use Rattle.unescape.specs.Fill.{FillAt, fill-laws}
@@ -5,10 +6,10 @@ use Rattle.unescape.proofs.fill.Statement.{statement}
 use Rattle.unescape.proofs.fill.Tie as tie
 
 abbrev Inv-loop : tie.InvT-loop
-Inv-loop text out₀ n₀ i₀ out n i = FillAt text out₀ out n i
+Inv-loop text out₀ n₀ i₀ seek₀ out n i seek = FillAt text out₀ out n i × Clear text 38 seek i
 
 abbrev μ-loop : tie.MeasureT-loop
-μ-loop text out₀ n₀ i₀ out n i = length text - i
+μ-loop text out₀ n₀ i₀ seek₀ out n i seek = length text - i
 
 loop-holds : tie.Need-loop-holds Inv-loop μ-loop
 loop-holds c = search fill-laws

@@ -1,3 +1,4 @@
+use Rattle.lists.specs.Find.{Clear}
 use Prim.Native.Nat.{_-_}
 use lib.ListN.{length}
 use Rattle.unescape.specs.Loops.{MeasureAt, measure-laws}
@@ -5,10 +6,10 @@ use Rattle.unescape.proofs.measure.Statement.{statement}
 use Rattle.unescape.proofs.measure.Tie as tie
 
 abbrev Inv-loop : tie.InvT-loop
-Inv-loop text size₀ i₀ size i = MeasureAt text size i
+Inv-loop text size₀ i₀ seek₀ size i seek = MeasureAt text size i × Clear text 38 seek i
 
 abbrev μ-loop : tie.MeasureT-loop
-μ-loop text size₀ i₀ size i = length text - i
+μ-loop text size₀ i₀ seek₀ size i seek = length text - i
 
 loop-holds : tie.Need-loop-holds Inv-loop μ-loop
 loop-holds c = search measure-laws

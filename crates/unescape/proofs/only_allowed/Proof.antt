@@ -1,5 +1,5 @@
+use Rattle.unescape.specs.Parse.{only-laws}
 use borrow.Author.Needs.{needs}
-use Rattle.unescape.specs.Parse.{char-laws}
 use Rattle.unescape.proofs.only_allowed.Statement.{statement}
 use Rattle.unescape.proofs.only_allowed.Tie as tie
 
@@ -13,13 +13,13 @@ enum-told : tie.Need-enum-told
 enum-told c = search needs
 
 returns : tie.Need-returns
-returns c = search char-laws
+returns c = search only-laws
 
 returns-2 : tie.Need-returns-2
-returns-2 c = search char-laws
+returns-2 c = search only-laws
 
 returns-3 : tie.Need-returns-3
-returns-3 c = search char-laws
+returns-3 c = search only-laws
 
 pub only-allowed-spec : {M : Type 1} → statement M
 only-allowed-spec =

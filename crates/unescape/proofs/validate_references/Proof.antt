@@ -1,3 +1,4 @@
+use Rattle.lists.specs.Find.{Clear}
 use Prim.Native.Nat.{_-_}
 use lib.ListN.{length}
 use Rattle.unescape.specs.Loops.{ValidAt, valid-laws}
@@ -5,10 +6,10 @@ use Rattle.unescape.proofs.validate_references.Statement.{statement}
 use Rattle.unescape.proofs.validate_references.Tie as tie
 
 abbrev Inv-loop : tie.InvT-loop
-Inv-loop text i₀ i = ValidAt text i
+Inv-loop text i₀ seek₀ i seek = ValidAt text i × Clear text 38 seek i
 
 abbrev μ-loop : tie.MeasureT-loop
-μ-loop text i₀ i = length text - i
+μ-loop text i₀ seek₀ i seek = length text - i
 
 loop-holds : tie.Need-loop-holds Inv-loop μ-loop
 loop-holds c = search valid-laws

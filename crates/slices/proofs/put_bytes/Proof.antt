@@ -1,8 +1,8 @@
 use Prim.Native.Nat.{_-_}
 use lib.ListN.{length}
 use Rattle.slices.specs.Copy.{CopyAt, copy-laws}
-use Rattle.slices.proofs.put.Statement.{statement}
-use Rattle.slices.proofs.put.Tie as tie
+use Rattle.slices.proofs.put_bytes.Statement.{statement}
+use Rattle.slices.proofs.put_bytes.Tie as tie
 
 abbrev Inv-loop : tie.InvT-loop
 Inv-loop out₀ at s k₀ out k = CopyAt s out₀ out at k
@@ -40,8 +40,8 @@ same-length c = search copy-laws
 returns : tie.Need-returns Inv-loop μ-loop
 returns c = search copy-laws
 
-pub put-spec : {M : Type 1} → statement M
-put-spec =
+pub put-bytes-spec : {M : Type 1} → statement M
+put-bytes-spec =
     tie.close
     (tie.spec
     Inv-loop
