@@ -306,44 +306,28 @@ fn place_after(p: Place, kind: usize, own: usize) -> Place
     requires { ⌜ p .opened < 65536 ⌝ }
     ensures { λ r. ⌜ StepsTo (place (p .position) (p .in_tag) (p .opened) (p .rooted)) kind own (place (r .position) (r .in_tag) (r .opened) (r .rooted)) ⌝ }
 {
+    let mut q = p;
+    q.position = own;
     if kind == 1 {
-        return Place {
-            position: own,
-            in_tag: true,
-            opened: p.opened + 1,
-            rooted: true,
-        };
+        q.in_tag = true;
+        q.opened = p.opened + 1;
+        q.rooted = true;
+        return q;
     }
     if kind == 3 {
-        return Place {
-            position: own,
-            in_tag: false,
-            opened: p.opened,
-            rooted: p.rooted,
-        };
+        q.in_tag = false;
+        return q;
     }
     if kind == 4 {
-        return Place {
-            position: own,
-            in_tag: p.in_tag,
-            opened: less(p.opened),
-            rooted: p.rooted,
-        };
+        q.opened = less(p.opened);
+        return q;
     }
     if kind == 5 {
-        return Place {
-            position: own,
-            in_tag: false,
-            opened: less(p.opened),
-            rooted: p.rooted,
-        };
+        q.in_tag = false;
+        q.opened = less(p.opened);
+        return q;
     }
-    Place {
-        position: own,
-        in_tag: p.in_tag,
-        opened: p.opened,
-        rooted: p.rooted,
-    }
+    q
 }
 
 // ---- rows

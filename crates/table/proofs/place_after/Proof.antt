@@ -3,8 +3,8 @@ use borrow.Author.Needs.{needs}
 use Rattle.table.proofs.place_after.Statement.{statement}
 use Rattle.table.proofs.place_after.Tie as tie
 
-add-t5 : tie.Need-add-t5
-add-t5 c = search needs
+add-q : tie.Need-add-q
+add-q c = search needs
 
 returns : tie.Need-returns
 returns c = search step-laws
@@ -30,4 +30,4 @@ returns-5 c = search step-laws
 pub place-after-spec : {M : Type 1} → statement M
 place-after-spec =
     tie.close
-    (tie.spec add-t5 returns returns-2 less-requires returns-3 less-requires-2 returns-4 returns-5)
+    (tie.spec add-q returns returns-2 less-requires returns-3 less-requires-2 returns-4 returns-5)
