@@ -27,7 +27,7 @@ pub fn same(a: &[u8], b: &[u8]) -> bool
     true
 }
 
-// Whether a byte stands in a block. The loop has no way out, so that it compiles to vectors; so the count is a byte, and the block short.
+// Whether a byte may stand in a block: where this says no, it does not. The loop has no way out, so that it compiles to vectors; so the count is a byte, and the block short.
 fn block_has(s: &[u8], from: usize, width: usize, x: u8) -> bool
     requires { ⌜ (from + width ≤ length (now s)) × (width < 256) ⌝ }
     ensures { λ r. ⌜ Tested (now (s .entry)) x from (from + width) r ⌝ }
@@ -48,7 +48,7 @@ fn block_has(s: &[u8], from: usize, width: usize, x: u8) -> bool
     true
 }
 
-// The place of the first block that has a byte, or of the last bytes, too few for a block.
+// A place before which the byte does not stand: that of the first block that may have it, or of the last bytes, too few for a block.
 fn past_blocks(s: &[u8], from: usize, width: usize, x: u8) -> usize
     requires { ⌜ (from ≤ length (now s)) × (0 < width) × (width < 256) ⌝ }
     ensures { λ r. ⌜ Clear (now (s .entry)) x from r ⌝ }
@@ -83,7 +83,7 @@ fn wide(x: u8) -> usize
     x as usize
 }
 
-// The first place in a block where a byte stands, counted from the block's start, or 255.
+// The first place in a block where a byte stands, counted from the block's start, or some number that is no place of the block.
 fn first_in_block(s: &[u8], from: usize, width: usize, x: u8) -> usize
     requires { ⌜ (from + width ≤ length (now s)) × (width < 256) ⌝ }
     ensures { λ r. ⌜ FirstIn (now (s .entry)) x from width r ⌝ }

@@ -159,9 +159,6 @@ module _ {base : ℕ} {t : List ℕ} {from start acc i : ℕ} (at : DigitsAt bas
   pub digits-end : length t ≤ i → Reference.Bad ≡ spelt (digits base) (start - from) (drop start t)
   digits-end h = sym (at .rest ∙ spelt-end (more base acc (i - start)) (i - from) t i h)
 
-  pub digits-fits : i < length t → length t < 2 ^ 64 → Fits w64 (i - from + 1)
-  digits-fits h g = record { fits = omega arith }
-
 pub scaled : (acc base : ℕ) → acc < 2 ^ 32 → base ≤ 16 → acc * base < 2 ^ 36
 scaled acc base h hb = omega (arith, mul-le-mul-left acc hb)
 

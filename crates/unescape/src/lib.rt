@@ -227,11 +227,12 @@ fn when_both(w: u64, name: u64, v: u64, end: u64, value: u64, other: u64) -> u64
     other
 }
 
-// The character and the length of a name as one number, or 0: with no branch, since the names of a text follow no rule.
+// The character and the length of a name as one number, its code and 256 times the length, or 0: with no branch, since the names of a text
+// follow no rule. w is the first three bytes, b the fourth, v the fourth and the fifth, each as a number with its low byte first.
 fn name_value(w: u64, b: u64, v: u64) -> u64
     ensures { λ r. ⌜ r ≡ nameValue w b v ⌝ }
 {
-    // apo s; quo t; amp ; gt; lt;
+    // In this order: `apo` and `s;`, `quo` and `t;`, `amp` and `;`, `gt;`, `lt;`.
     let apos = when_both(w, 7303265, v, 15219, 1319, 0);
     let quot = when_both(w, 7304561, v, 15220, 1314, apos);
     let amp = when_both(w, 7368033, b, 59, 1062, quot);
@@ -399,6 +400,7 @@ fn replace(text: &[u8], out: &mut [u8]) -> Unescaped
             }
         }
         Unescaped::BadReference => Unescaped::BadReference,
+        // `measure` never answers this: it has no room to run out of.
         Unescaped::NoRoom => Unescaped::BadReference,
     }
 }
