@@ -2,6 +2,7 @@ pub mod Row
 pub mod Rules
 pub mod Piece
 pub mod Flat
+pub mod Moved
 pub mod Test
 pub mod Examples
 pub mod Spans
