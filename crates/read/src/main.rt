@@ -1,6 +1,13 @@
 // The command for a person: `read FILE` takes the file's bytes as the text, `read --text TEXT` the argument, and either says in words what the proved functions
-// answer: whether the text's references are valid, and the text that they stand for. It rests on `unescape`; that a file is read as it stands rests on the
-// system's calls, whose contracts are assumed.
+// answer: whether the text's references are valid, and the text that they stand for. `read --table TABLE FILE` says whether the XML body in the file is
+// well-formed by its token table, and where it is not. It rests on `unescape` and `falzheod`; that a file is read as it stands rests on the system's calls,
+// whose contracts are assumed.
+mod file;
+mod place;
+mod table;
+mod upload;
+
+use file::Content;
 use libc::STDOUT_FILENO;
 use reference::Unescaped;
 use reference::Validated;
@@ -68,37 +75,19 @@ fn show(text: &[u8]) {
     show_unescaped(text);
 }
 
-fn refuse_long(what: &[u8]) {
-    io::write_all(STDOUT_FILENO, what);
-    io::write_all(
-        STDOUT_FILENO,
-        b": longer than 65536 bytes, which is the most that is read\n",
-    );
-}
-
-// One more read, after the buffer is full or the file is at its end, tells a file that fits from one that is too long and from one that cannot be read.
-fn show_opened(fd: i32, path: &[u8]) {
-    let mut text = io::large_buffer();
-    let n = io::read_full(fd, &mut text);
-    let mut more = [0u8; 1];
-    let got = libc::read(fd, &mut more);
-    if got < 0 {
-        os::fail(path);
-    } else if got > 0 {
-        refuse_long(path);
-    } else {
-        show(&text[..n]);
-    }
-}
-
 fn show_file(path: &[u8]) {
-    let fd = os::open_read(path);
-    if fd < 0 {
-        os::fail(path);
-        return;
+    let mut text = io::large_buffer();
+    match file::read(path, &mut text) {
+        Content::Length(n) => {
+            if n <= text.len() {
+                show(&text[0..n]);
+            }
+        }
+        Content::TooLong => {
+            file::refuse_long(path);
+        }
+        Content::Unread => {}
     }
-    show_opened(fd, path);
-    libc::close(fd);
 }
 
 // The argument is there, so what can be wrong with it is its length.
@@ -106,17 +95,48 @@ fn show_second_argument() {
     let mut text = io::large_buffer();
     let n = os::arg(2, &mut text);
     if os::errno() != 0 {
-        refuse_long(b"TEXT");
+        file::refuse_long(b"TEXT");
         return;
     }
     show(&text[..n]);
 }
 
+fn show_upload() {
+    let mut table = io::buffer();
+    let n = os::arg(2, &mut table);
+    if os::errno() != 0 {
+        os::fail(b"TABLE");
+        return;
+    }
+    let mut path = io::buffer();
+    let m = os::arg(3, &mut path);
+    if os::errno() != 0 {
+        os::fail(b"FILE");
+        return;
+    }
+    upload::show(&table[..n], &path[..m]);
+}
+
 fn print_usage() {
     io::write_all(
         STDOUT_FILENO,
-        b"usage: read FILE\n       read --text TEXT\n",
+        b"usage: read FILE\n       read --text TEXT\n       read --table TABLE FILE\n",
     );
+}
+
+// The first argument is a file, or says what the others are.
+fn run(first: &[u8], count: usize) {
+    let is_text = check::same(first, b"--text");
+    let is_table = check::same(first, b"--table");
+    if is_text && count == 3 {
+        show_second_argument();
+    } else if is_table && count == 4 {
+        show_upload();
+    } else if !is_text && !is_table && count == 2 {
+        show_file(first);
+    } else {
+        print_usage();
+    }
 }
 
 fn main() {
@@ -131,12 +151,5 @@ fn main() {
         os::fail(b"FILE");
         return;
     }
-    let is_text = check::same(&first[..n], b"--text");
-    if is_text && count == 3 {
-        show_second_argument();
-    } else if !is_text && count == 2 {
-        show_file(&first[..n]);
-    } else {
-        print_usage();
-    }
+    run(&first[..n], count);
 }

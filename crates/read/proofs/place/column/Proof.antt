@@ -1,0 +1,48 @@
+-- `read::place::column` is safe and ends. Nothing has to hold from turn to turn; the measure is what is left of the bytes.
+-- Assumes nothing.
+use Prim.Native.Nat.{_-_}
+use lib.ListN.{length}
+use borrow.Author.Needs.{needs}
+use Rattle.read.proofs.place.column.Statement.{statement}
+use Rattle.read.proofs.place.column.Tie as tie
+
+abbrev Inv-loop : tie.InvT-loop
+Inv-loop before n₀ i₀ n i = Unit {0}
+
+abbrev μ-loop : tie.MeasureT-loop
+μ-loop before n₀ i₀ n i = length before - i
+
+loop-holds : tie.Need-loop-holds Inv-loop μ-loop
+loop-holds c = search needs
+
+shared-slice-read-column-after : tie.Need-shared-slice-read-column-after Inv-loop μ-loop
+shared-slice-read-column-after c = search needs
+
+column-after-requires : tie.Need-column-after-requires Inv-loop μ-loop
+column-after-requires c κs = search needs
+
+add-i : tie.Need-add-i Inv-loop μ-loop
+add-i c = search needs
+
+loop-less : tie.Need-loop-less Inv-loop μ-loop
+loop-less c = search needs
+
+loop-again : tie.Need-loop-again Inv-loop μ-loop
+loop-again c = search needs
+
+returns : tie.Need-returns Inv-loop μ-loop
+returns c = search needs
+
+pub column-spec : {M : Type 1} → statement M
+column-spec =
+    tie.close
+    (tie.spec
+    Inv-loop
+    μ-loop
+    loop-holds
+    shared-slice-read-column-after
+    column-after-requires
+    add-i
+    loop-less
+    loop-again
+    returns)
