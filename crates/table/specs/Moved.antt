@@ -6,14 +6,14 @@ use mathlib.Core.List.{List, [], _∷_, map}
 use mathlib.Core.Logic.{⊎-elim}
 use native.Mathlib.Nat.{eq-or-lt-of-le}
 use native.Mathlib.Omega.{arith}
-use borrow.Author.Tests.{eqb-true, eqb-false}
-use lib.Dec.{eqb}
+use borrow.Author.Tests.{leb-true, leb-false, eqb-true, eqb-false, ne-eqb}
+use lib.Dec.{leb, eqb}
 use lib.ListN.{length, take, drop, getD, length-take, length-drop}
 use lib.Seq.{drop-drop, take-take, getD-take, getD-drop}
-use Rattle.lists.specs.Tests.{pick, false-true}
+use Rattle.lists.specs.Tests.{pick, pick-same, false-true}
 use Rattle.table.specs.Row.{Row, Name, Tok, cut, nameOf, valueOf, tokAs, tokOf, toksOf}
 use Rattle.table.specs.Rules.{among, usesName, usesValue, Place, atFirst, after, KnownKind, ZeroFields, FilledSpan, FilledSpans, LocalStart, lastLt, beginOf, LastLt, EndsIn, Ending, TagOrder, RowRules, EachRow, none, row, lastPosition}
-use Rattle.table.specs.Piece.{movedSpan, moved}
+use Rattle.table.specs.Piece.{movedSpan, moved, closing, elementRows, pieceStart}
 use Rattle.table.specs.Flat.{last-high}
 
 -- ---- parts of a body
@@ -124,18 +124,18 @@ empty-moved : (s from len : ℕ) → (len ≡ 0 → from ≡ 0) → len ≡ 0 �
 empty-moved s from zero f e = f e
 empty-moved s from (suc len) f e = absurd (omega arith)
 
+moved-zero : {r : Row} (s : ℕ) → ZeroFields r → ZeroFields (moved s r)
+moved-zero {r} s z =
+    record {
+      prefix = z .prefix;
+      local = λ e. rw e (z .local e);
+      value = z .value;
+      emptyPrefix = empty-moved s (r .prefixStart) (r .prefixLen) (z .emptyPrefix);
+      emptyValue = empty-moved s (r .valueStart) (r .valueLen) (z .emptyValue);
+    }
+
 module _ (body : List ℕ) (s n d : ℕ) {p : Place} {r : Row} {rest : List Row} (o : RowRules body p r rest)
     (begun : s < p .position) (lt : getD body s 0 ≡ 60) (deep : d < p .opened) (u : r .position ≤ s + n) where
-  moved-zero : ZeroFields (moved s r)
-  moved-zero =
-      record {
-        prefix = o .zeroFields .prefix;
-        local = λ e. rw e (o .zeroFields .local e);
-        value = o .zeroFields .value;
-        emptyPrefix = empty-moved s (r .prefixStart) (r .prefixLen) (o .zeroFields .emptyPrefix);
-        emptyValue = empty-moved s (r .valueStart) (r .valueLen) (o .zeroFields .emptyValue);
-      }
-
   local-moved : (b : Bool) → usesName (r .kind) ≡ b → FilledSpan (p .position - s) (r .position - s) (pick b (r .localStart - s) (r .localStart)) (r .localLen)
   local-moved true e g = let x = o .filledSpans .local g in (omega arith, omega arith)
   local-moved false e g = absurd (omega (arith, o .zeroFields .local e .1))
@@ -199,7 +199,7 @@ module _ (body : List ℕ) (s n d : ℕ) {p : Place} {r : Row} {rest : List Row}
   moved-rules f =
       record {
         knownKind = o .knownKind;
-        zeroFields = moved-zero;
+        zeroFields = moved-zero s (o .zeroFields);
         positionRises = omega (arith, o .positionRises);
         filledSpans = moved-spans;
         localStart = moved-start;
@@ -211,3 +211,149 @@ module _ (body : List ℕ) (s n d : ℕ) {p : Place} {r : Row} {rest : List Row}
         errorLast = λ e. f (o .errorLast e);
         openLimit = λ e. omega (arith, o .openLimit e);
       }
+
+-- ---- the rows of an element
+-- one row of it: its closing row is the first after which nothing of it is open
+closing-step : (d : ℕ) (p : Place) (r : Row) (rest : List Row) → d < p .opened
+    → closing (p .opened - d) (r ∷ rest) ≡ suc (pick (eqb (after p r .opened - d) 0) 0 (closing (after p r .opened - d) rest))
+unfolding closing
+closing-step d p r rest h = go (eqb (r .kind) 1) (among (4 ∷ 5 ∷ []) (r .kind)) (eqb (p .opened - d) 1) refl
+  where
+    more : (m : ℕ) → 0 < m → (m ≡ 1 → ⊥) → m - 1 ≡ 0 → ⊥
+    more m l f q = f (omega arith)
+
+    go : (a b c : Bool) → eqb (p .opened - d) 1 ≡ c
+        → pick a (suc (closing (suc (p .opened - d)) rest)) (pick b (pick c 1 (suc (closing (p .opened - d - 1) rest))) (suc (closing (p .opened - d) rest)))
+        ≡ suc (pick (eqb (pick a (suc (p .opened)) (pick b (p .opened - 1) (p .opened)) - d) 0) 0 (closing (pick a (suc (p .opened)) (pick b (p .opened - 1) (p .opened)) - d) rest))
+    go true b c e =
+        let z : suc (p .opened) - d ≡ suc (p .opened - d) = omega arith in
+        rw (z, ne-eqb (suc (p .opened - d)) 0 (λ q. omega arith))
+    go false true true e =
+        let z : p .opened - 1 - d ≡ 0 = omega (arith, eqb-true (p .opened - d) 1 e) in
+        rw z
+    go false true false e =
+        let z : p .opened - 1 - d ≡ p .opened - d - 1 = omega arith in
+        rw (z, ne-eqb (p .opened - d - 1) 0 (more (p .opened - d) (omega arith) (eqb-false (p .opened - d) 1 e)))
+    go false false c e = rw (ne-eqb (p .opened - d) 0 (λ q. omega arith))
+
+placed-after : (s d : ℕ) (p : Place) (r : Row) → d < p .opened → after (placed s d p) (moved s r) ≡ placed s d (after p r)
+placed-after s d p r h =
+    λ i. record {
+      position = r .position - s;
+      inTag = pick (eqb (r .kind) 1) true (pick (among (3 ∷ 5 ∷ []) (r .kind)) false (p .inTag));
+      opened = open-is (eqb (r .kind) 1) (among (4 ∷ 5 ∷ []) (r .kind)) i;
+      rooted = pick-same (eqb (r .kind) 1) true i;
+    }
+  where
+    open-is : (a b : Bool) → pick a (suc (p .opened - d)) (pick b (p .opened - d - 1) (p .opened - d)) ≡ pick a (suc (p .opened)) (pick b (p .opened - 1) (p .opened)) - d
+    open-is true b = omega arith
+    open-is false true = omega arith
+    open-is false false = refl
+
+none-later : (s c : ℕ) (l : List Row) → length l ≡ 0 → length (map (moved s) (take c l)) ≡ 0
+none-later s zero l e = refl
+none-later s (suc c) [] e = refl
+none-later s (suc c) (r ∷ l) e = absurd (omega arith)
+
+last-taken : {body : List ℕ} {p : Place} {rows : List Row} → EachRow body p rows → (c : ℕ) → p .position ≤ lastPosition (p .position) (take c rows)
+last-taken t zero = omega arith
+last-taken none (suc c) = omega arith
+last-taken (row o t) (suc c) = let x = last-taken t c in omega (arith, o .positionRises)
+
+left-open : (x d : ℕ) → (x - d ≡ 0 → ⊥) → d < x
+left-open x d f = go (leb x d) refl
+  where
+    go : (b : Bool) → leb x d ≡ b → d < x
+    go true q = absurd (f (omega (arith, leb-true x d q)))
+    go false q = leb-false x d q
+
+-- the rows of an element after its start row, in the piece that begins at its `<`
+later-rows : (body : List ℕ) (s n d : ℕ) {p : Place} {rows : List Row} → EachRow body p rows → s < p .position → getD body s 0 ≡ 60 → d < p .opened
+    → lastPosition (p .position) (take (closing (p .opened - d) rows) rows) ≤ s + n
+    → EachRow (cut body s n) (placed s d p) (map (moved s) (take (closing (p .opened - d) rows) rows))
+unfolding closing
+later-rows body s n d none h g l u = none
+later-rows body s n d (row {p} {r} {rest} o t) h g l u = rw e (go (eqb (after p r .opened - d) 0) refl (rw e at u) (later-rows body s n d t (omega (arith, o .positionRises)) g))
+  where
+    e : closing (p .opened - d) (r ∷ rest) ≡ suc (pick (eqb (after p r .opened - d) 0) 0 (closing (after p r .opened - d) rest))
+    e = closing-step d p r rest l
+
+    go : (b : Bool) → eqb (after p r .opened - d) 0 ≡ b
+        → lastPosition (r .position) (take (pick b 0 (closing (after p r .opened - d) rest)) rest) ≤ s + n
+        → (d < after p r .opened → lastPosition (r .position) (take (closing (after p r .opened - d) rest) rest) ≤ s + n
+        → EachRow (cut body s n) (placed s d (after p r)) (map (moved s) (take (closing (after p r .opened - d) rest) rest)))
+        → EachRow (cut body s n) (placed s d p) (map (moved s) (r ∷ take (pick b 0 (closing (after p r .opened - d) rest)) rest))
+    go true q u ih = row {rest = []} (moved-rules body s n d o h g l u (λ e. refl)) none
+    go false q u ih =
+        let far = last-taken t (closing (after p r .opened - d) rest) in
+        row {rest = map (moved s) (take (closing (after p r .opened - d) rest) rest)} (moved-rules body s n d o h g l (omega arith) (none-later s (closing (after p r .opened - d) rest) rest))
+        (rw (placed-after s d p r l) (ih (left-open (after p r .opened) d (eqb-false (after p r .opened - d) 0 q)) u))
+
+-- ---- the start row, at the front of the piece
+module _ (body : List ℕ) (n : ℕ) {p : Place} {r : Row} {rest : List Row} (o : RowRules body p r rest) (one : r .kind ≡ 1) (u : r .position ≤ beginOf body r + n) where
+  begins : LastLt body p r
+  begins = o .tagBegins (rw one)
+
+  after-begin : (beginOf body r < r .localStart) × (r .localStart ≤ r .position)
+  after-begin = (begins .before, o .localStart (rw one) .1)
+
+  front-span : (from len : ℕ) → FilledSpan (p .position) (r .position) from len → (0 < len → beginOf body r < from) → FilledSpan 0 (r .position - beginOf body r) (movedSpan (beginOf body r) from len) len
+  front-span from zero f b g = absurd (omega arith)
+  front-span from (suc len) f b g = let x = f g in let y = b g in (omega arith, omega arith)
+
+  front-tag : LastLt (cut body (beginOf body r) n) atFirst (moved (beginOf body r) r)
+  front-tag =
+      let b = beginOf body r in
+      let x = after-begin in
+      let m : usesName (r .kind) ≡ true = rw one in
+      let same : beginOf (cut body b n) (moved b r) ≡ b - b = rw m (last-cut body b n (r .localStart) (omega arith) (omega (arith, x .1))) in
+      record {
+        is = rw same (get-cut body b n b (omega arith) (omega (arith, x .0, x .1)) ∙ begins .is);
+        before = rw (same, m) (omega (arith, x .0));
+        late = omega arith;
+        prefix = rw same (prefix-front (r .prefixStart) (r .prefixLen) (begins .prefix));
+      }
+    where
+      prefix-front : (from len : ℕ) → (0 < len → beginOf body r < from) → 0 < len → beginOf body r - beginOf body r < movedSpan (beginOf body r) from len
+      prefix-front from zero f g = absurd (omega arith)
+      prefix-front from (suc len) f g = let y = f g in omega arith
+
+  front-rules : {later : List Row} → RowRules (cut body (beginOf body r) n) atFirst (moved (beginOf body r) r) later
+  front-rules =
+      let x = after-begin in
+      record {
+        knownKind = o .knownKind;
+        zeroFields = moved-zero (beginOf body r) (o .zeroFields);
+        positionRises = omega arith;
+        filledSpans = record {
+          prefix = front-span (r .prefixStart) (r .prefixLen) (o .filledSpans .prefix) (begins .prefix);
+          local = λ g. let y = o .filledSpans .local g in rw one (omega arith, omega (arith, x .0));
+          value = λ g. absurd (omega (arith, o .zeroFields .value (rw one)));
+        };
+        localStart = λ e. rw one (omega arith, omega (arith, x .0, x .1));
+        tagBegins = λ e. front-tag;
+        ending = record { gt = λ e. false-true (rw one at e); slash = λ e. absurd (omega arith) };
+        tagOrder = record { inside = λ e. false-true e; outside = λ e. rw one };
+        needsOpen = λ e. false-true (rw one at e);
+        afterRoot = λ e z. false-true e;
+        errorLast = λ e. absurd (omega arith);
+        openLimit = λ e. omega arith;
+      }
+
+-- the rows of an element, counted from its first byte, obey the rules of rows with the piece as body
+pub element-rows : (body : List ℕ) (n : ℕ) {p : Place} {r : Row} {rest : List Row} → EachRow body p (r ∷ rest) → r .kind ≡ 1
+    → lastPosition (p .position) (r ∷ take (closing 1 rest) rest) ≤ beginOf body r + n
+    → EachRow (cut body (beginOf body r) n) atFirst (map (moved (beginOf body r)) (r ∷ take (closing 1 rest) rest))
+element-rows body n {p} {r} {rest} (row o t) one u =
+    let s = beginOf body r in
+    let x = after-begin body n o one (omega (arith, last-taken t (closing 1 rest))) in
+    let more : after p r .opened - p .opened ≡ 1 = rw one (omega arith) in
+    let deep : p .opened < after p r .opened = rw one (omega arith) in
+    let k : EachRow (cut body s n) (placed s (p .opened) (after p r)) (map (moved s) (take (closing 1 rest) rest)) =
+    rw (ap (λ (m : ℕ). closing m rest) more) at (later-rows body s n (p .opened) t (omega (arith, x .0, x .1)) (begins body n o one (omega (arith, last-taken t (closing 1 rest))) .is) deep (rw (ap (λ (m : ℕ). closing m rest) more) u)) in
+    row {rest = map (moved s) (take (closing 1 rest) rest)} (front-rules body n o one (omega (arith, last-taken t (closing 1 rest)))) (rw first-after k)
+  where
+    first-after : after atFirst (moved (beginOf body r) r) ≡ placed (beginOf body r) (p .opened) (after p r)
+    first-after =
+        let q : 1 ≡ suc (p .opened) - p .opened = omega arith in
+        rw one (λ i. record { position = r .position - beginOf body r; inTag = true; opened = q i; rooted = true })
