@@ -87,31 +87,34 @@ uint32_t falzheod_is_utf8(const uint8_t *text, size_t text_len);
 /* A value or a text with a reference that falzheod_validate_references refuses. */
 #define FALZHEOD_CAUSE_REFERENCE UINT32_C(5)
 
-/* Tests that a token table stands for a well-formed document: the strict drain.
+/* Tests that a token table obeys its rules and that its tokens are well-formed: the
+ * strict drain.
  *
  * `rows` has eight numbers for each token of `body`, and `rows_len` counts
  * numbers: kind, prefix start and length, local name start and length, value start
- * and length, and the position in the body behind the token. `end` is the final
+ * and length, and the position in the body right after the token. `end` is the final
  * position. Kinds: 1 start of a start tag, 2 attribute, 3 `>`, 4 end tag, 5 `/>`,
  * 6 text, 7 all others, 8 token error. Kinds 1 and 4 use prefix and local name, 2
  * all three spans, 6 the value; fields not used, and an empty prefix or value, are
- * 0 and 0.
+ * 0 and 0. A number that is none of these kinds breaks the rules.
  *
  * The rules. `rows_len` divides by 8; there are at most 8,192 rows, 65,536 bytes of
  * body and 256 elements open at once, each from its row of kind 1. A body that is
- * not UTF-8 has no rows. Positions never fall; none is behind `end`, nor `end`
- * behind the body. A filled span lies between the previous row's position (0 at
+ * not UTF-8 has no rows. Positions never fall; none is past `end`, nor `end`
+ * past the body. A filled span lies between the previous row's position (0 at
  * first) and its own row's, and so does the start of a local name that is empty. In
- * kinds 1 and 4 the last `<` before the local name stands at or behind the previous
+ * kinds 1 and 4 the last `<` before the local name stands at or after the previous
  * position, and before a filled prefix. The body has `>` right before the position
  * of kinds 3 and 4, `/>` before that of kind 5. After kind 1 come only rows of kind
  * 2, then 3 or 5, or 8, or the end of the table; kinds 2, 3 and 5 come nowhere
- * else. Kinds 4 and 6 need an open element. Behind the root only 7 and 8 come. Kind
+ * else. Kinds 4 and 6 need an open element. After the root only 7 and 8 come. Kind
  * 8 is last.
  *
  * Answers FALZHEOD_FINISHED, FALZHEOD_TABLE or FALZHEOD_ILL_FORMED, tested in this
  * order: the rules, then the rows one by one. A row is tested for repetition before
- * its references. No rows at all pass.
+ * its references. A table that obeys the rules and has no element (no rows, or rows
+ * of kind 7 alone) passes: FALZHEOD_FINISHED does not say that there is a root, and a
+ * body that is not UTF-8, which has no rows, passes so.
  *
  * `*row` and `*cause` become the number of the first failing row, from 0, and why;
  * the row of an unclosed element is the count of rows. Where the answer is not

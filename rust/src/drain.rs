@@ -5,7 +5,7 @@ use std::fmt;
 use std::mem::size_of;
 
 /// One row of a token table: a token's kind, its spans in the body and the
-/// position behind it. `include/falzheod.h` has the kinds and the rules.
+/// position right after it. `include/falzheod.h` has the kinds and the rules.
 #[derive(Clone, Copy, Debug, Default, PartialEq, Eq, Hash)]
 #[repr(C)]
 pub struct Row {
@@ -24,7 +24,7 @@ pub struct Row {
     pub value_start: u32,
     /// How many bytes the value has.
     pub value_len: u32,
-    /// The position in the body behind the token.
+    /// The position in the body right after the token.
     pub position: u32,
 }
 
@@ -85,12 +85,13 @@ impl fmt::Display for Cause {
     }
 }
 
-/// Tests that the rows, with the final position `end`, keep the rules of a token
-/// table of `body` and stand for a well-formed document.
+/// Tests that the rows, with the final position `end`, obey the rules of a token
+/// table of `body` and that their tokens are well-formed.
 ///
 /// The tests come in this order: the rules ([`Refusal::Table`]), then the rows one by
-/// one ([`Refusal::IllFormed`] with the first that fails). No rows at all pass. Any
-/// rows are taken, whoever made them; with the feature `xmlparser`,
+/// one ([`Refusal::IllFormed`] with the first that fails). A table that obeys the rules
+/// and has no element passes: `Ok` does not say that there is a root, and a body that is
+/// not UTF-8, which has no rows, passes so. Any rows are taken, whoever made them; with the feature `xmlparser`,
 /// `table::from_tokens` makes them from a body.
 ///
 /// ```

@@ -19,8 +19,9 @@ pub struct Table {
 /// error, and the body's length as final position. A body that is not UTF-8 has no
 /// rows and the final position 0.
 ///
-/// A body of more than 65,536 bytes is tokenized all the same, for the drain to
-/// refuse; its positions are cut to the largest `u32` where it has more bytes than that.
+/// It allocates 32 bytes for each token, the error among them as a row of kind 8,
+/// whatever the limits of the drain: a body of more than 65,536 bytes is tokenized all
+/// the same, for the drain to refuse; its positions are cut to the largest `u32` where it has more bytes than that.
 ///
 /// ```
 /// let body = b"<core id='7'>larch &amp; pine</core>";

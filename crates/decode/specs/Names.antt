@@ -3,14 +3,14 @@
 use Prim.Native.Nat.{ℕ, zero, suc, _+_, _-_, _≤_, _<_}
 use mathlib.Core.Path.{_≡_, refl, sym, _∙_, ap}
 use mathlib.Core.Bool.{Bool, true, false}
-use mathlib.Core.List.{List, [], _∷_}
+use mathlib.Core.List.{List, [], _∷_, map}
 use native.Mathlib.Omega.{arith}
 use borrow.Author.Needs.{needs}
 use borrow.Author.Tests.{lt-ltb, le-ltb, eqb-true, ne-eqb, eq-eqb}
 use lib.Dec.{ltb, eqb}
 use lib.ListN.{length, getD, take, drop}
 use Rattle.lists.specs.Tests.{pick, pick-same}
-use Rattle.lists.specs.Bytes.{sameb}
+use Rattle.lists.specs.Bytes.{ascii, sameb}
 use Rattle.lists.specs.Parts.{tail}
 use Rattle.lists.specs.Find.{Clear, NextAt}
 use Rattle.table.specs.Row.{Name}
@@ -29,6 +29,18 @@ nameMatches n pattern =
     pick (ltb c (length pattern))
     (pick (sameb (n .local) (drop (c + 1) pattern)) (sameb (n .prefix) (take c pattern)) false)
     (sameb pattern (n .local))
+
+-- ---- worked examples, as the Rust has them: of the name `p:b`, of `b` without a prefix, and of the empty local name
+pub match-examples :
+    map (nameMatches (named (ascii "p") (ascii "b"))) (map ascii ("b" ∷ "p:b" ∷ "q:b" ∷ ":b" ∷ "p:" ∷ "p" ∷ "p:b:c" ∷ ":" ∷ "" ∷ []))
+    ≡ true ∷ true ∷ false ∷ false ∷ false ∷ false ∷ false ∷ false ∷ false ∷ []
+unfolding nameMatches beforeColon sameb
+match-examples = refl
+
+pub match-plain-examples :
+    map (nameMatches (named [] (ascii "b"))) (map ascii ("b" ∷ ":b" ∷ "p:b" ∷ "b:" ∷ "" ∷ [])) ≡ true ∷ true ∷ false ∷ false ∷ false ∷ []
+unfolding nameMatches beforeColon sameb
+match-plain-examples = refl
 
 -- ---- laws of the code
 colon-is : (s : List ℕ) (r : ℕ) → r ≤ length s → ((k : ℕ) → k < r → getD s k 0 ≡ 58 → ⊥) → (r < length s → getD s r 0 ≡ 58) → beforeColon s ≡ r

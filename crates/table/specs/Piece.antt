@@ -1,6 +1,7 @@
 -- An element of a table, its rows, and rows counted from a piece's first byte (01, "Token table", the end of "Rules").
 use Prim.Native.Nat.{ℕ, zero, suc, _+_, _-_, _≤_, _<_}
 use mathlib.Core.Path.{_≡_}
+use mathlib.Core.Bool.{Bool, true, false}
 use mathlib.Core.List.{List, [], _∷_, map}
 use lib.Dec.{eqb}
 use lib.ListN.{length, take, drop}
@@ -28,7 +29,8 @@ moved s r =
       position = r .position - s;
     }
 
--- the number of rows up to and with the one that closes an element, of which n are open: "kind 4 or 5"
+-- "the row that closes it, kind 4 or 5": how many rows there are up to and with it, where n elements are open, the element itself among them
+-- (0 before its start row); all rows where none closes it
 unfoldable pub closing : ℕ → List Row → ℕ
 closing n [] = zero
 closing n (r ∷ rest) =
@@ -36,7 +38,15 @@ closing n (r ∷ rest) =
     (pick (among (4 ∷ 5 ∷ []) (r .kind)) (pick (eqb n 1) 1 (suc (closing (n - 1) rest)))
     (suc (closing n rest)))
 
--- "Its rows run from its start row to that closing row": of the element that starts in row k
+-- whether a row closes it
+unfoldable pub isClosed : ℕ → List Row → Bool
+isClosed n [] = false
+isClosed n (r ∷ rest) =
+    pick (eqb (r .kind) 1) (isClosed (suc n) rest)
+    (pick (among (4 ∷ 5 ∷ []) (r .kind)) (pick (eqb n 1) true (isClosed (n - 1) rest))
+    (isClosed n rest))
+
+-- "Its rows run from its start row to that closing row": of the element that starts in row k, a kind 1 row
 abbrev pub elementRows : List Row → ℕ → List Row
 elementRows rows k = take (closing 0 (drop k rows)) (drop k rows)
 
@@ -51,3 +61,16 @@ pieceBytes body rows = cut body (pieceStart body rows) (lastPosition 0 rows - pi
 -- "Counted from a piece's first byte they belong to the piece as body"
 abbrev pub pieceRows : List ℕ → List Row → List Row
 pieceRows body rows = map (moved (pieceStart body rows)) rows
+
+-- "with its length as final position"
+abbrev pub pieceFinal : List ℕ → List Row → ℕ
+pieceFinal body rows = length (pieceBytes body rows)
+
+-- "A piece's element is the one that begins where it does": the element that starts in row k begins at this place
+pub record ElementAt (body : List ℕ) (rows : List Row) (k place : ℕ) : Type 0 where
+  pub first : Row
+  pub rest : List Row
+  pub cut-at : drop k rows ≡ first ∷ rest
+  pub starts : first .kind ≡ 1
+  pub closes : isClosed 1 rest ≡ true
+  pub begins : beginOf body first ≡ place

@@ -1,4 +1,4 @@
--- The rules that a table obeys: one definition for each sentence of 01, "Token table", in the order of 01.
+-- The rules that a table obeys: one definition for each sentence of 01, "Token table".
 use Prim.Native.Nat.{ℕ, zero, suc, _+_, _-_, _%_, _≤_, _<_}
 use mathlib.Core.Path.{_≡_}
 use mathlib.Core.Bool.{Bool, true, false}

@@ -10,7 +10,8 @@ use Rattle.table.specs.Rules.{TableRules}
 use Rattle.xml.specs.declared.Cause.{Cause}
 use Rattle.xml.specs.declared.Drained.{Drained}
 use Rattle.xml.specs.Passed.{opens, openAfter, attributes, namesAfter, Fault, Faultless, FirstFault, at-row, at-end}
-use Rattle.xml.specs.Drain.{State, going, failed, step, walk, verdict, walked, drainedBy}
+use Rattle.table.specs.Test.{decTable}
+use Rattle.xml.specs.Drain.{State, going, failed, step, walk, verdict, walked, drainedBy, drained}
 use Rattle.xml.specs.Fault.{Cuts, same-cut, earlier, later, cuts, faultless-none, faultless-more, one-fault, Stepped, goes-on, stops, stepped}
 
 -- ---- what the walk over toks comes to
@@ -129,3 +130,13 @@ module _ (body table : List ℕ) (final : ℕ) where
       let w = walk-ill-formed-is (toksOf body (rowsOf table)) row cause in
       (λ e. (p, w .0 e), λ h. w .1 (h .1))
   drain-ill-formed-is (no f) row cause = (λ e. table-not-ill e, λ h. absurd (f (h .0)))
+
+-- theorem 3, of the drain: it answers 9 exactly with the first failing row and its cause, and 1 exactly where a rule is broken
+pub drained-ill-formed-is : (body table : List ℕ) (final row : ℕ) (cause : Cause)
+    → (drained body table final ≡ Drained.IllFormed row cause) ↔ (TableRules body table final × FirstFault (toksOf body (rowsOf table)) row cause)
+unfolding drained
+drained-ill-formed-is body table final row cause = drain-ill-formed-is body table final (decTable body table final) row cause
+
+pub drained-table-is : (body table : List ℕ) (final : ℕ) → (drained body table final ≡ Drained.Table) ↔ (TableRules body table final → ⊥)
+unfolding drained
+drained-table-is body table final = drain-table-is body table final (decTable body table final)

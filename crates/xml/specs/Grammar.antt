@@ -1,7 +1,8 @@
 -- Documents by W3C XML 1.0 (fifth edition) and by nothing else: productions 1, 22, 27 and 39 to 44 over the tokens of a table.
 -- Each type relates a list and what is left of it: `Element l r` says that l begins with an element, and r is what follows it.
--- What stands between the tokens, characters written literally, and how a Name is split at its colon are the tokenizer's: two names are one where the
--- tokenizer gives them the same prefix and local name, so `:b` and `b` are.
+-- Left to the tokenizer: what stands between the tokens, characters written literally, which of CDSect, PI, Comment and declaration a kind 7 row is and
+-- so whether it may stand where it does, and how a Name is split at its colon: two names are one where the tokenizer gives them the same prefix and local
+-- name, so `:b` and `b` are. Entities that the document declares are left out: a Reference is one of reference/specs/Xml.antt.
 use Prim.Native.Nat.{ℕ}
 use mathlib.Core.List.{List, [], _∷_, List·Memᴰ}
 use Rattle.reference.specs.Xml.{EachReference}

@@ -11,7 +11,8 @@ use Rattle.table.specs.Rules.{TableRules}
 use Rattle.xml.specs.declared.Cause.{Cause}
 use Rattle.xml.specs.declared.Drained.{Drained}
 use Rattle.xml.specs.Passed.{opens, attributes, WellFormed, Passed, Fault, token-error, mismatched-end, repeated-attribute, bad-attribute, bad-text, Faultless, at-row, at-end}
-use Rattle.xml.specs.Drain.{sameName, seen, walked, drainedBy}
+use Rattle.table.specs.Test.{decTable}
+use Rattle.xml.specs.Drain.{sameName, seen, walked, drainedBy, drained}
 use Rattle.xml.specs.Tests.{same-name, seen-member, not-member, not-named, not-both}
 use Rattle.xml.specs.First.{Answer, clean, faulty, answer, not-ill, passes-not-table}
 
@@ -85,3 +86,8 @@ drain-passes-is body table final (yes p) =
     let w = walk-passes-is (toksOf body (rowsOf table)) in
     (λ e. record { rules = p; wellFormed = w .0 e }, λ h. w .1 (h .wellFormed))
 drain-passes-is body table final (no f) = (λ e. passes-not-table (sym e), λ h. absurd (f (h .rules)))
+
+-- theorem 2, of the drain: it passes exactly where 01's list holds
+pub drained-passes-is : (body table : List ℕ) (final : ℕ) → (drained body table final ≡ Drained.Passes) ↔ Passed body table final
+unfolding drained
+drained-passes-is body table final = drain-passes-is body table final (decTable body table final)

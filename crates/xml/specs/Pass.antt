@@ -15,7 +15,8 @@ use Rattle.table.specs.Rules.{TableRules}
 use Rattle.xml.specs.declared.Cause.{Cause}
 use Rattle.xml.specs.declared.Drained.{Drained}
 use Rattle.xml.specs.Grammar.{Attributes, no-attribute, attribute, Element, empty-element, full-element, Content, no-content, chars, other, child, Miscs, no-misc, one-misc, Document, document}
-use Rattle.xml.specs.Drain.{sameName, seen, State, going, failed, withValue, withAttribute, step, walk, verdict, walked, drainedBy}
+use Rattle.table.specs.Test.{decTable}
+use Rattle.xml.specs.Drain.{sameName, seen, State, going, failed, withValue, withAttribute, step, walk, verdict, walked, drainedBy, drained}
 use Rattle.xml.specs.Tests.{same-name, name-same, not-seen, not-member}
 use Rattle.xml.specs.Order.{Phase, before, inTag, within, behind, back, ruled, not-broken, table-ruled}
 use Rattle.xml.specs.First.{not-ill, passes-not-table}
@@ -284,3 +285,8 @@ pub drain-document-is : (body table : List ℕ) (final : ℕ) (d : Dec (TableRul
     ↔ (TableRules body table final × (Document (toksOf body (rowsOf table)) ⊎ Miscs (toksOf body (rowsOf table)) []))
 drain-document-is body table final (yes p) = let w = walk-document-is p in (λ e. (p, w .0 e), λ h. w .1 (h .1))
 drain-document-is body table final (no f) = (λ e. passes-not-table (sym e), λ h. absurd (f (h .0)))
+
+-- theorem 1, of the drain: it passes exactly where the rules hold and the tokens are a document, or have no element at all
+pub drained-document-is : (body table : List ℕ) (final : ℕ) → (drained body table final ≡ Drained.Passes) ↔ (TableRules body table final × (Document (toksOf body (rowsOf table)) ⊎ Miscs (toksOf body (rowsOf table)) []))
+unfolding drained
+drained-document-is body table final = drain-document-is body table final (decTable body table final)
