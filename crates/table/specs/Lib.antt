@@ -3,6 +3,7 @@ pub mod Rules
 pub mod Piece
 pub mod Flat
 pub mod Moved
+pub mod Element
 pub mod Test
 pub mod Examples
 pub mod Spans

@@ -255,7 +255,7 @@ none-later s zero l e = refl
 none-later s (suc c) [] e = refl
 none-later s (suc c) (r ∷ l) e = absurd (omega arith)
 
-last-taken : {body : List ℕ} {p : Place} {rows : List Row} → EachRow body p rows → (c : ℕ) → p .position ≤ lastPosition (p .position) (take c rows)
+pub last-taken : {body : List ℕ} {p : Place} {rows : List Row} → EachRow body p rows → (c : ℕ) → p .position ≤ lastPosition (p .position) (take c rows)
 last-taken t zero = omega arith
 last-taken none (suc c) = omega arith
 last-taken (row o t) (suc c) = let x = last-taken t c in omega (arith, o .positionRises)
