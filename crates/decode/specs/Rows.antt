@@ -8,10 +8,14 @@ use native.Mathlib.Omega.{arith}
 use borrow.Author.Needs.{needs}
 use mir.Val.{Fits}
 use mir.Syntax.{w64}
-use lib.ListN.{length, getD, take, drop}
+use lib.ListN.{length, getD, take, drop, length-take}
+use lib.Seq.{getD-take, getD-drop}
+use Rattle.lists.specs.Parts.{getD-in}
+use Rattle.lists.specs.Find.{Clear, NextAt}
 use Rattle.lists.specs.Tests.{pick}
 use Rattle.lists.specs.Bytes.{sameb}
 use Rattle.reference.specs.Text.{validated}
+use Rattle.reference.specs.Result.{plain-valid}
 use Rattle.reference.specs.declared.Validated.{Validated}
 use Rattle.table.specs.Row.{Row, Name, cut, nameOf, valueOf}
 use Rattle.table.specs.Flat.{rowAt, SpansIn}
@@ -129,4 +133,32 @@ module _ (v : List ℕ) {x : List ℕ} {r : Validated} (p : x ≡ v) (e : r ≡ 
   pub value-bad : r ≡ Validated.BadReference → Fault.Is Cause.BadReference ≡ valueFault v
   value-bad q = rw (← p, ← e, q)
 
-pub ruleset value-laws = (needs, value-span, value-good, value-bad)
+pub ruleset reference-laws = (needs, value-span, value-good, value-bad)
+
+-- ---- a part without `&`
+pub plain-none : (body : List ℕ) → Clear body 38 0 0
+plain-none body = record { low = omega arith; high = omega arith; none = λ k l h e. absurd (omega arith) }
+
+pub plain-next : {body : List ℕ} {from to : ℕ} → NextAt body 38 from to → Clear body 38 from to
+plain-next x = x .clear
+
+module _ {body t : List ℕ} (q : Readable body t) {k : ℕ} (h : InTable t k) where
+  pub value-start : {from : ℕ} → from ≡ getD t (k * 8 + 5) 0 → from ≤ length body
+  value-start e = omega (arith, q .each k (h .row) .value)
+
+  pub value-fits : {from len : ℕ} → from ≡ getD t (k * 8 + 5) 0 → len ≡ getD t (k * 8 + 6) 0 → length body < 2 ^ 64 → Fits w64 (from + len)
+  value-fits e f g = record { fits = omega (arith, q .each k (h .row) .value) }
+
+-- a value in it has none
+plain-cut : {body : List ℕ} {low high : ℕ} → Clear body 38 low high → (from len : ℕ) → low ≤ from → from + len ≤ high → (k : ℕ) → getD (cut body from len) k 0 ≡ 38 → ⊥
+plain-cut {body} x from len l h k e =
+    let g : k < len = omega (arith, getD-in (cut body from len) k 37 e, length-take len (drop from body)) in
+    x .none (from + k) (omega arith) (omega arith) (sym (getD-take len (drop from body) k 0 g ∙ getD-drop from body k 0) ∙ e)
+
+pub value-plain : (body t : List ℕ) (k : ℕ) {low high from len : ℕ} → Clear body 38 low high → from ≡ getD t (k * 8 + 5) 0 → len ≡ getD t (k * 8 + 6) 0
+    → low ≤ from → from + len ≤ high → Fault.Nothing ≡ valueFault (valueAt body t k)
+value-plain body t k x e f l h =
+    let z = plain-valid (valueAt body t k) (plain-cut x (getD t (k * 8 + 5) 0) (getD t (k * 8 + 6) 0) (omega arith) (omega arith)) in
+    rw z
+
+pub ruleset value-laws = (needs, plain-none, plain-next, value-start, value-fits, value-plain)

@@ -26,7 +26,7 @@ use Rattle.xml.specs.Passed.{openAfter, namesAfter}
 use Rattle.xml.specs.declared.Cause.{Cause}
 use Rattle.xml.specs.declared.Drained.{Drained}
 use Rattle.decode.specs.declared.Fault.{Fault}
-use Rattle.decode.specs.Rows.{InTable, Readable, nameAt, valueAt, back, namesBack, asFault, valueFault}
+use Rattle.decode.specs.Rows.{InTable, Readable, nameAt, valueAt, back, namesBack, asFault, valueFault, plain-none}
 
 -- what is wrong with a token: top is the name of the innermost open element, names are the attribute names of the start tag so far
 abbrev pub faultOf : Name → List Name → Tok → Fault
@@ -550,7 +550,7 @@ close-room w h f i = let e = sym f ∙ i in let x = here w h .needsOpen (rw e) i
 pub slash-room : {body t : List ℕ} {n : ℕ} {opened : List ℕ} {depth tag k kind : ℕ} → WalkAt body t n opened depth tag k → k < n → kind ≡ getD t (k * 8 + 0) 0 → kind ≡ 5 → 1 ≤ depth
 slash-room w h f i = w .tagOpen (in-tag-end (here w h) (sym f ∙ i))
 
-pub ruleset walk-laws = (needs, walk-start, row-in, top-in, row-placed, walk-fault, walk-open, walk-close, walk-slash, close-room, slash-room, walk-on, walk-passes, walk-unclosed, open-room)
+pub ruleset walk-laws = (needs, walk-start, row-in, top-in, row-placed, walk-fault, walk-open, walk-close, walk-slash, close-room, slash-room, walk-on, walk-passes, walk-unclosed, open-room, plain-none)
 
 -- ---- a table that obeys the rules can be walked
 pub walkable : {body t : List ℕ} {final : ℕ} → TableRules body t final → Walkable body t

@@ -3,6 +3,7 @@
 ghost use mathlib.Core.Path.{_≡_};
 ghost use Prim.Native.Nat.{_+_, _*_, _≤_, _<_};
 ghost use lib.ListN.{length, getD};
+ghost use Rattle.lists.specs.Find.{Clear};
 ghost use Rattle.table.specs.Row.{cut, rowsOf, toksOf};
 ghost use Rattle.xml.specs.Drain.{sameName, seen, walked, drained};
 ghost use Rattle.decode.specs.Walk.{Placed, faultOf, tokAt, topOf, Walkable};
@@ -75,8 +76,8 @@ fn is_repeated(body: &[u8], rows: &[u32], tag: usize, k: usize) -> bool
     false
 }
 
-// What is wrong with the value of a row.
-fn value_fault(body: &[u8], rows: &[u32], k: usize) -> Fault
+// What is wrong with the references in the value of a row.
+fn reference_fault(body: &[u8], rows: &[u32], k: usize) -> Fault
     requires { ⌜ Readable (now body) (now rows) ⌝ }
     requires { ⌜ InTable (now rows) k ⌝ }
     ensures { λ r. ⌜ r ≡ valueFault (valueAt (now (body .entry)) (now (rows .entry)) k) ⌝ }
@@ -87,11 +88,51 @@ fn value_fault(body: &[u8], rows: &[u32], k: usize) -> Fault
     }
 }
 
+// A part of the body where no `&` stands.
+struct Plain {
+    from: usize,
+    to: usize,
+}
+
+// The part to look at for the value of row k: the one at hand, or, if the value begins after it, the bytes from there up to the next `&`.
+fn plain_for(body: &[u8], rows: &[u32], k: usize, plain: Plain) -> Plain
+    requires { ⌜ Readable (now body) (now rows) ⌝ }
+    requires { ⌜ InTable (now rows) k ⌝ }
+    requires { ⌜ Clear (now body) 38 (plain .from) (plain .to) ⌝ }
+    ensures { λ r. ⌜ Clear (now (body .entry)) 38 (r .from) (r .to) ⌝ }
+{
+    let from = field(rows, k, 5);
+    if plain.to < from {
+        let to = slices::find(body, from, b'&');
+        return Plain { from, to };
+    }
+    plain
+}
+
+// What is wrong with the value of a row: nothing, if it lies in a part without `&`.
+fn value_fault(body: &[u8], rows: &[u32], k: usize, plain: Plain) -> Fault
+    requires { ⌜ Readable (now body) (now rows) ⌝ }
+    requires { ⌜ InTable (now rows) k ⌝ }
+    requires { ⌜ Clear (now body) 38 (plain .from) (plain .to) ⌝ }
+    ensures { λ r. ⌜ r ≡ valueFault (valueAt (now (body .entry)) (now (rows .entry)) k) ⌝ }
+{
+    let from = field(rows, k, 5);
+    let to = from + field(rows, k, 6);
+    if from < plain.from {
+        return reference_fault(body, rows, k);
+    }
+    if plain.to < to {
+        return reference_fault(body, rows, k);
+    }
+    Fault::Nothing
+}
+
 // What is wrong with row k, of this kind, in or after the start tag of row `tag`, where the innermost open element starts in row `top`.
-fn row_fault(body: &[u8], rows: &[u32], k: usize, tag: usize, top: usize) -> Fault
+fn row_fault(body: &[u8], rows: &[u32], k: usize, tag: usize, top: usize, plain: Plain) -> Fault
     requires { ⌜ Readable (now body) (now rows) ⌝ }
     requires { ⌜ InTable (now rows) k × InTable (now rows) top ⌝ }
     requires { ⌜ Placed (now rows) tag k ⌝ }
+    requires { ⌜ Clear (now body) 38 (plain .from) (plain .to) ⌝ }
     ensures { λ r. ⌜ r ≡ faultOf (nameAt (now (body .entry)) (now (rows .entry)) top) (namesBack (now (body .entry)) (now (rows .entry)) tag k) (tokAt (now (body .entry)) (now (rows .entry)) k) ⌝ }
 {
     let kind = field(rows, k, 0);
@@ -99,7 +140,7 @@ fn row_fault(body: &[u8], rows: &[u32], k: usize, tag: usize, top: usize) -> Fau
         if is_repeated(body, rows, tag, k) {
             return Fault::Is(Cause::RepeatedAttribute);
         }
-        return value_fault(body, rows, k);
+        return value_fault(body, rows, k, plain);
     }
     if kind == 4 {
         if same_name(body, rows, k, top) {
@@ -108,7 +149,7 @@ fn row_fault(body: &[u8], rows: &[u32], k: usize, tag: usize, top: usize) -> Fau
         return Fault::Is(Cause::MismatchedEnd);
     }
     if kind == 6 {
-        return value_fault(body, rows, k);
+        return value_fault(body, rows, k, plain);
     }
     if kind == 8 {
         return Fault::Is(Cause::TokenError);
@@ -137,9 +178,11 @@ fn walk(body: &[u8], rows: &[u32]) -> Drained
     let mut depth = 0;
     let mut tag = 0;
     let mut k = 0;
+    let mut plain = Plain { from: 0, to: 0 };
     while k < n {
         let top = top_of(&opened, depth);
-        match row_fault(body, rows, k, tag, top) {
+        plain = plain_for(body, rows, k, plain);
+        match row_fault(body, rows, k, tag, top, plain) {
             Fault::Is(cause) => {
                 return Drained::IllFormed { row: k, cause };
             }
