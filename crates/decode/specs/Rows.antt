@@ -12,7 +12,7 @@ use lib.ListN.{length, getD, take, drop, length-take}
 use lib.Seq.{getD-take, getD-drop}
 use Rattle.lists.specs.Parts.{getD-in}
 use Rattle.lists.specs.Find.{Clear, NextAt}
-use Rattle.lists.specs.Tests.{pick}
+use Rattle.lists.specs.Tests.{pick, false-true}
 use Rattle.lists.specs.Bytes.{sameb}
 use Rattle.reference.specs.Text.{validated}
 use Rattle.reference.specs.Result.{plain-valid}
@@ -126,14 +126,38 @@ asFault Validated.BadReference = Fault.Is Cause.BadReference
 abbrev pub valueFault : List ℕ → Fault
 valueFault v = asFault (validated v)
 
+abbrev pub isValid : Validated → Bool
+isValid Validated.Valid = true
+isValid Validated.BadReference = false
+
+abbrev pub valuePasses : List ℕ → Bool
+valuePasses v = isValid (validated v)
+
 module _ (v : List ℕ) {x : List ℕ} {r : Validated} (p : x ≡ v) (e : r ≡ validated x) where
-  pub value-good : r ≡ Validated.Valid → Fault.Nothing ≡ valueFault v
+  pub value-good : r ≡ Validated.Valid → true ≡ valuePasses v
   value-good q = rw (← p, ← e, q)
 
-  pub value-bad : r ≡ Validated.BadReference → Fault.Is Cause.BadReference ≡ valueFault v
+  pub value-bad : r ≡ Validated.BadReference → false ≡ valuePasses v
   value-bad q = rw (← p, ← e, q)
 
 pub ruleset reference-laws = (needs, value-span, value-good, value-bad)
+
+module _ (v : List ℕ) {u : Bool} (e : u ≡ valuePasses v) where
+  pub value-none : u ≡ true → Fault.Nothing ≡ valueFault v
+  value-none q = go (validated v) (sym e ∙ q)
+    where
+      go : (r : Validated) → isValid r ≡ true → Fault.Nothing ≡ asFault r
+      go Validated.Valid h = refl
+      go Validated.BadReference h = false-true h
+
+  pub value-reference : u ≡ false → Fault.Is Cause.BadReference ≡ valueFault v
+  value-reference q = go (validated v) (sym e ∙ q)
+    where
+      go : (r : Validated) → isValid r ≡ false → Fault.Is Cause.BadReference ≡ asFault r
+      go Validated.Valid h = false-true (sym h)
+      go Validated.BadReference h = refl
+
+pub ruleset value-laws = (needs, value-none, value-reference)
 
 -- ---- a part without `&`
 pub plain-none : (body : List ℕ) → Clear body 38 0 0
@@ -156,9 +180,9 @@ plain-cut {body} x from len l h k e =
     x .none (from + k) (omega arith) (omega arith) (sym (getD-take len (drop from body) k 0 g ∙ getD-drop from body k 0) ∙ e)
 
 pub value-plain : (body t : List ℕ) (k : ℕ) {low high from len : ℕ} → Clear body 38 low high → from ≡ getD t (k * 8 + 5) 0 → len ≡ getD t (k * 8 + 6) 0
-    → low ≤ from → from + len ≤ high → Fault.Nothing ≡ valueFault (valueAt body t k)
+    → low ≤ from → from + len ≤ high → true ≡ valuePasses (valueAt body t k)
 value-plain body t k x e f l h =
     let z = plain-valid (valueAt body t k) (plain-cut x (getD t (k * 8 + 5) 0) (getD t (k * 8 + 6) 0) (omega arith) (omega arith)) in
     rw z
 
-pub ruleset value-laws = (needs, plain-none, plain-next, value-start, value-fits, value-plain)
+pub ruleset plain-laws = (needs, plain-none, plain-next, value-start, value-fits, value-plain)

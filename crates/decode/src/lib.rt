@@ -8,7 +8,7 @@ ghost use Rattle.table.specs.Row.{cut, rowsOf, toksOf};
 ghost use Rattle.xml.specs.Drain.{sameName, seen, walked, drained};
 ghost use Rattle.decode.specs.Walk.{Placed, faultOf, tokAt, topOf, Walkable};
 ghost use Rattle.decode.specs.Names.{nameMatches, named};
-ghost use Rattle.decode.specs.Rows.{Readable, InTable, SpanAt, nameAt, namesBack, valueFault, valueAt};
+ghost use Rattle.decode.specs.Rows.{Readable, InTable, SpanAt, nameAt, namesBack, valuePasses, valueFault, valueAt};
 use reference::Validated;
 use table::field;
 use xml::Cause;
@@ -76,15 +76,15 @@ fn is_repeated(body: &[u8], rows: &[u32], tag: usize, k: usize) -> bool
     false
 }
 
-// What is wrong with the references in the value of a row.
-fn reference_fault(body: &[u8], rows: &[u32], k: usize) -> Fault
+// Whether each reference in the value of a row is right.
+fn references_pass(body: &[u8], rows: &[u32], k: usize) -> bool
     requires { ⌜ Readable (now body) (now rows) ⌝ }
     requires { ⌜ InTable (now rows) k ⌝ }
-    ensures { λ r. ⌜ r ≡ valueFault (valueAt (now (body .entry)) (now (rows .entry)) k) ⌝ }
+    ensures { λ r. ⌜ r ≡ valuePasses (valueAt (now (body .entry)) (now (rows .entry)) k) ⌝ }
 {
     match unescape::validate_references(span(body, rows, k, 5)) {
-        Validated::Valid => Fault::Nothing,
-        Validated::BadReference => Fault::Is(Cause::BadReference),
+        Validated::Valid => true,
+        Validated::BadReference => false,
     }
 }
 
@@ -109,22 +109,35 @@ fn plain_for(body: &[u8], rows: &[u32], k: usize, plain: Plain) -> Plain
     plain
 }
 
-// What is wrong with the value of a row: nothing, if it lies in a part without `&`.
+// Whether the value of a row passes: it does, if it lies in a part without `&`.
+fn value_passes(body: &[u8], rows: &[u32], k: usize, plain: Plain) -> bool
+    requires { ⌜ Readable (now body) (now rows) ⌝ }
+    requires { ⌜ InTable (now rows) k ⌝ }
+    requires { ⌜ Clear (now body) 38 (plain .from) (plain .to) ⌝ }
+    ensures { λ r. ⌜ r ≡ valuePasses (valueAt (now (body .entry)) (now (rows .entry)) k) ⌝ }
+{
+    let from = field(rows, k, 5);
+    let to = from + field(rows, k, 6);
+    if from < plain.from {
+        return references_pass(body, rows, k);
+    }
+    if plain.to < to {
+        return references_pass(body, rows, k);
+    }
+    true
+}
+
+// What is wrong with the value of a row.
 fn value_fault(body: &[u8], rows: &[u32], k: usize, plain: Plain) -> Fault
     requires { ⌜ Readable (now body) (now rows) ⌝ }
     requires { ⌜ InTable (now rows) k ⌝ }
     requires { ⌜ Clear (now body) 38 (plain .from) (plain .to) ⌝ }
     ensures { λ r. ⌜ r ≡ valueFault (valueAt (now (body .entry)) (now (rows .entry)) k) ⌝ }
 {
-    let from = field(rows, k, 5);
-    let to = from + field(rows, k, 6);
-    if from < plain.from {
-        return reference_fault(body, rows, k);
+    if value_passes(body, rows, k, plain) {
+        return Fault::Nothing;
     }
-    if plain.to < to {
-        return reference_fault(body, rows, k);
-    }
-    Fault::Nothing
+    Fault::Is(Cause::BadReference)
 }
 
 // What is wrong with row k, of this kind, in or after the start tag of row `tag`, where the innermost open element starts in row `top`.

@@ -1,4 +1,4 @@
-use Rattle.decode.specs.Rows.{value-laws}
+use Rattle.decode.specs.Rows.{plain-laws}
 use borrow.Author.Needs.{needs}
 use Rattle.decode.proofs.plain_for.Statement.{statement}
 use Rattle.decode.proofs.plain_for.Tie as tie
@@ -7,7 +7,7 @@ field-requires : tie.Need-field-requires
 field-requires c κs = search needs
 
 find-requires : tie.Need-find-requires
-find-requires c κs = search value-laws
+find-requires c κs = search plain-laws
 
 returns : tie.Need-returns
 returns c = search needs

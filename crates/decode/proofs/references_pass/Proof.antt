@@ -1,7 +1,7 @@
 use Rattle.decode.specs.Rows.{reference-laws}
 use borrow.Author.Needs.{needs}
-use Rattle.decode.proofs.reference_fault.Statement.{statement}
-use Rattle.decode.proofs.reference_fault.Tie as tie
+use Rattle.decode.proofs.references_pass.Statement.{statement}
+use Rattle.decode.proofs.references_pass.Tie as tie
 
 span-requires : tie.Need-span-requires
 span-requires c κs = search reference-laws
@@ -21,7 +21,7 @@ returns c = search reference-laws
 returns-2 : tie.Need-returns-2
 returns-2 c = search reference-laws
 
-pub reference-fault-spec : {M : Type 1} → statement M
-reference-fault-spec =
+pub references-pass-spec : {M : Type 1} → statement M
+references-pass-spec =
     tie.close
     (tie.spec span-requires validate-references-requires enum-told enum-told-2 returns returns-2)
