@@ -12,7 +12,7 @@ use lib.ListN.{length, getD, take, drop, length-take}
 use lib.Seq.{getD-take, getD-drop}
 use Rattle.lists.specs.Parts.{getD-in}
 use Rattle.lists.specs.Find.{Clear, NextAt}
-use Rattle.lists.specs.Tests.{pick, false-true}
+use Rattle.lists.specs.Tests.{pick}
 use Rattle.lists.specs.Bytes.{sameb}
 use Rattle.reference.specs.Text.{validated}
 use Rattle.reference.specs.Result.{plain-valid}
@@ -142,22 +142,24 @@ module _ (v : List ℕ) {x : List ℕ} {r : Validated} (p : x ≡ v) (e : r ≡ 
 
 pub ruleset reference-laws = (needs, value-span, value-good, value-bad)
 
-module _ (v : List ℕ) {u : Bool} (e : u ≡ valuePasses v) where
-  pub value-none : u ≡ true → Fault.Nothing ≡ valueFault v
-  value-none q = go (validated v) (sym e ∙ q)
-    where
-      go : (r : Validated) → isValid r ≡ true → Fault.Nothing ≡ asFault r
-      go Validated.Valid h = refl
-      go Validated.BadReference h = false-true h
+abbrev pub faultIf : Bool → Fault
+faultIf true = Fault.Nothing
+faultIf false = Fault.Is Cause.BadReference
 
-  pub value-reference : u ≡ false → Fault.Is Cause.BadReference ≡ valueFault v
-  value-reference q = go (validated v) (sym e ∙ q)
-    where
-      go : (r : Validated) → isValid r ≡ false → Fault.Is Cause.BadReference ≡ asFault r
-      go Validated.Valid h = false-true (sym h)
-      go Validated.BadReference h = refl
+pub fault-if : (v : List ℕ) → faultIf (valuePasses v) ≡ valueFault v
+fault-if v = go (validated v)
+  where
+    go : (r : Validated) → faultIf (isValid r) ≡ asFault r
+    go Validated.Valid = refl
+    go Validated.BadReference = refl
 
-pub ruleset value-laws = (needs, value-none, value-reference)
+pub passes-none : (u : Bool) → u ≡ true → Fault.Nothing ≡ faultIf u
+passes-none u q = rw q
+
+pub passes-not : (u : Bool) → u ≡ false → Fault.Is Cause.BadReference ≡ faultIf u
+passes-not u q = rw q
+
+pub ruleset value-laws = (needs, passes-none, passes-not)
 
 -- ---- a part without `&`
 pub plain-none : (body : List ℕ) → Clear body 38 0 0

@@ -26,7 +26,7 @@ use Rattle.xml.specs.Passed.{openAfter, namesAfter}
 use Rattle.xml.specs.declared.Cause.{Cause}
 use Rattle.xml.specs.declared.Drained.{Drained}
 use Rattle.decode.specs.declared.Fault.{Fault}
-use Rattle.decode.specs.Rows.{InTable, Readable, nameAt, valueAt, back, namesBack, asFault, valueFault, plain-none}
+use Rattle.decode.specs.Rows.{InTable, Readable, nameAt, valueAt, back, namesBack, asFault, valueFault, valuePasses, faultIf, fault-if, plain-none}
 
 -- what is wrong with a token: top is the name of the innermost open element, names are the attribute names of the start tag so far
 abbrev pub faultOf : Name → List Name → Tok → Fault
@@ -54,9 +54,9 @@ module _ (body t : List ℕ) (top : Name) (names : List Name) (k : ℕ) {kind : 
   unfolding tokAs
   fault-repeated h q g = rw (← e, h, ← q, g)
 
-  pub fault-value : {u : Bool} {f : Fault} → kind ≡ 2 → u ≡ seen (nameAt body t k) names → u ≡ false → f ≡ valueFault (valueAt body t k) → f ≡ faultOf top names (tokAt body t k)
+  pub fault-value : {u v : Bool} {f : Fault} → kind ≡ 2 → u ≡ seen (nameAt body t k) names → u ≡ false → v ≡ valuePasses (valueAt body t k) → f ≡ faultIf v → f ≡ faultOf top names (tokAt body t k)
   unfolding tokAs
-  fault-value h q g p = rw (← e, h, ← q, g) p
+  fault-value h q g o p = rw (← e, h, ← q, g, ← fault-if (valueAt body t k), ← o) p
 
   pub fault-matched : {u : Bool} → kind ≡ 4 → u ≡ sameName (nameAt body t k) top → u ≡ true → Fault.Nothing ≡ faultOf top names (tokAt body t k)
   unfolding tokAs
@@ -66,9 +66,9 @@ module _ (body t : List ℕ) (top : Name) (names : List Name) (k : ℕ) {kind : 
   unfolding tokAs
   fault-mismatched h q g = rw (← e, h, ← q, g)
 
-  pub fault-text : {f : Fault} → kind ≡ 6 → f ≡ valueFault (valueAt body t k) → f ≡ faultOf top names (tokAt body t k)
+  pub fault-text : {v : Bool} {f : Fault} → kind ≡ 6 → v ≡ valuePasses (valueAt body t k) → f ≡ faultIf v → f ≡ faultOf top names (tokAt body t k)
   unfolding tokAs
-  fault-text h p = rw (← e, h) p
+  fault-text h o p = rw (← e, h, ← fault-if (valueAt body t k), ← o) p
 
   pub fault-token : kind ≡ 8 → Fault.Is Cause.TokenError ≡ faultOf top names (tokAt body t k)
   unfolding tokAs

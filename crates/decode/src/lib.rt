@@ -8,7 +8,7 @@ ghost use Rattle.table.specs.Row.{cut, rowsOf, toksOf};
 ghost use Rattle.xml.specs.Drain.{sameName, seen, walked, drained};
 ghost use Rattle.decode.specs.Walk.{Placed, faultOf, tokAt, topOf, Walkable};
 ghost use Rattle.decode.specs.Names.{nameMatches, named};
-ghost use Rattle.decode.specs.Rows.{Readable, InTable, SpanAt, nameAt, namesBack, valuePasses, valueFault, valueAt};
+ghost use Rattle.decode.specs.Rows.{Readable, InTable, SpanAt, nameAt, namesBack, valuePasses, faultIf, valueAt};
 use reference::Validated;
 use table::field;
 use xml::Cause;
@@ -127,14 +127,11 @@ fn value_passes(body: &[u8], rows: &[u32], k: usize, plain: Plain) -> bool
     true
 }
 
-// What is wrong with the value of a row.
-fn value_fault(body: &[u8], rows: &[u32], k: usize, plain: Plain) -> Fault
-    requires { ⌜ Readable (now body) (now rows) ⌝ }
-    requires { ⌜ InTable (now rows) k ⌝ }
-    requires { ⌜ Clear (now body) 38 (plain .from) (plain .to) ⌝ }
-    ensures { λ r. ⌜ r ≡ valueFault (valueAt (now (body .entry)) (now (rows .entry)) k) ⌝ }
+// What is wrong with a value.
+fn value_fault(passes: bool) -> Fault
+    ensures { λ r. ⌜ r ≡ faultIf passes ⌝ }
 {
-    if value_passes(body, rows, k, plain) {
+    if passes {
         return Fault::Nothing;
     }
     Fault::Is(Cause::BadReference)
@@ -153,7 +150,7 @@ fn row_fault(body: &[u8], rows: &[u32], k: usize, tag: usize, top: usize, plain:
         if is_repeated(body, rows, tag, k) {
             return Fault::Is(Cause::RepeatedAttribute);
         }
-        return value_fault(body, rows, k, plain);
+        return value_fault(value_passes(body, rows, k, plain));
     }
     if kind == 4 {
         if same_name(body, rows, k, top) {
@@ -162,7 +159,7 @@ fn row_fault(body: &[u8], rows: &[u32], k: usize, tag: usize, top: usize, plain:
         return Fault::Is(Cause::MismatchedEnd);
     }
     if kind == 6 {
-        return value_fault(body, rows, k, plain);
+        return value_fault(value_passes(body, rows, k, plain));
     }
     if kind == 8 {
         return Fault::Is(Cause::TokenError);

@@ -12,6 +12,9 @@ is-repeated-requires c κs = search fault-laws
 returns : tie.Need-returns
 returns c = search fault-laws
 
+value-passes-requires : tie.Need-value-passes-requires
+value-passes-requires c κs = search needs
+
 value-fault-requires : tie.Need-value-fault-requires
 value-fault-requires c κs = search needs
 
@@ -26,6 +29,9 @@ returns-3 c = search fault-laws
 
 returns-4 : tie.Need-returns-4
 returns-4 c = search fault-laws
+
+value-passes-requires-2 : tie.Need-value-passes-requires-2
+value-passes-requires-2 c κs = search needs
 
 value-fault-requires-2 : tie.Need-value-fault-requires-2
 value-fault-requires-2 c κs = search needs
@@ -46,11 +52,13 @@ row-fault-spec =
     field-requires
     is-repeated-requires
     returns
+    value-passes-requires
     value-fault-requires
     returns-2
     same-name-requires
     returns-3
     returns-4
+    value-passes-requires-2
     value-fault-requires-2
     returns-5
     returns-6
