@@ -12,7 +12,7 @@ use lib.ListN.{length, getD, take, drop, length-take}
 use lib.Seq.{getD-take, getD-drop}
 use Rattle.lists.specs.Parts.{getD-in}
 use Rattle.lists.specs.Find.{Clear, NextAt}
-use Rattle.lists.specs.Tests.{pick}
+use Rattle.lists.specs.Tests.{pick, false-true}
 use Rattle.lists.specs.Bytes.{sameb}
 use Rattle.reference.specs.Text.{validated}
 use Rattle.reference.specs.Result.{plain-valid}
@@ -172,19 +172,27 @@ module _ {body t : List ℕ} (q : Readable body t) {k : ℕ} (h : InTable t k) w
   pub value-start : {from : ℕ} → from ≡ getD t (k * 8 + 5) 0 → from ≤ length body
   value-start e = omega (arith, q .each k (h .row) .value)
 
-  pub value-fits : {from len : ℕ} → from ≡ getD t (k * 8 + 5) 0 → len ≡ getD t (k * 8 + 6) 0 → length body < 2 ^ 64 → Fits w64 (from + len)
-  value-fits e f g = record { fits = omega (arith, q .each k (h .row) .value) }
-
 -- a value in it has none
 plain-cut : {body : List ℕ} {low high : ℕ} → Clear body 38 low high → (from len : ℕ) → low ≤ from → from + len ≤ high → (k : ℕ) → getD (cut body from len) k 0 ≡ 38 → ⊥
 plain-cut {body} x from len l h k e =
     let g : k < len = omega (arith, getD-in (cut body from len) k 37 e, length-take len (drop from body)) in
     x .none (from + k) (omega arith) (omega arith) (sym (getD-take len (drop from body) k 0 g ∙ getD-drop from body k 0) ∙ e)
 
-pub value-plain : (body t : List ℕ) (k : ℕ) {low high from len : ℕ} → Clear body 38 low high → from ≡ getD t (k * 8 + 5) 0 → len ≡ getD t (k * 8 + 6) 0
-    → low ≤ from → from + len ≤ high → true ≡ valuePasses (valueAt body t k)
-value-plain body t k x e f l h =
-    let z = plain-valid (valueAt body t k) (plain-cut x (getD t (k * 8 + 5) 0) (getD t (k * 8 + 6) 0) (omega arith) (omega arith)) in
+-- where a test says so, the value of row k lies between two places
+pub record LiesIn (t : List ℕ) (k low high : ℕ) (r : Bool) : Type 0 where
+  pub says : r ≡ true → (low ≤ getD t (k * 8 + 5) 0) × (getD t (k * 8 + 5) 0 + getD t (k * 8 + 6) 0 ≤ high)
+
+pub lies-not : (t : List ℕ) (k low high : ℕ) → LiesIn t k low high false
+lies-not t k low high = record { says = λ e. false-true e }
+
+pub lies : (t : List ℕ) (k : ℕ) {low high from len : ℕ} → from ≡ getD t (k * 8 + 5) 0 → len ≡ getD t (k * 8 + 6) 0 → low ≤ from → from ≤ high → len ≤ high - from
+    → LiesIn t k low high true
+lies t k e f l m h = record { says = λ q. (omega arith, omega arith) }
+
+pub value-plain : {body t : List ℕ} {k low high : ℕ} {r : Bool} → Clear body 38 low high → LiesIn t k low high r → r ≡ true → Fault.Nothing ≡ valueFault (valueAt body t k)
+value-plain {body} {t} {k} x i q =
+    let h = i .says q in
+    let z = plain-valid (valueAt body t k) (plain-cut x (getD t (k * 8 + 5) 0) (getD t (k * 8 + 6) 0) (h .0) (h .1)) in
     rw z
 
-pub ruleset plain-laws = (needs, plain-none, plain-next, value-start, value-fits, value-plain)
+pub ruleset plain-laws = (needs, plain-none, plain-next, value-start, lies-not, lies)

@@ -8,7 +8,7 @@ ghost use Rattle.table.specs.Row.{cut, rowsOf, toksOf};
 ghost use Rattle.xml.specs.Drain.{sameName, seen, walked, drained};
 ghost use Rattle.decode.specs.Walk.{Placed, faultOf, tokAt, topOf, Walkable};
 ghost use Rattle.decode.specs.Names.{nameMatches, named};
-ghost use Rattle.decode.specs.Rows.{Readable, InTable, SpanAt, nameAt, namesBack, valuePasses, faultIf, valueAt};
+ghost use Rattle.decode.specs.Rows.{Readable, InTable, SpanAt, nameAt, namesBack, valuePasses, faultIf, valueAt, LiesIn};
 use reference::Validated;
 use table::field;
 use xml::Cause;
@@ -109,25 +109,25 @@ fn plain_for(body: &[u8], rows: &[u32], k: usize, plain: Plain) -> Plain
     plain
 }
 
-// Whether the value of a row passes: it does, if it lies in a part without `&`.
-fn value_passes(body: &[u8], rows: &[u32], k: usize, plain: Plain) -> bool
-    requires { ⌜ Readable (now body) (now rows) ⌝ }
+// Whether the value of row k lies in a part.
+fn lies_in(rows: &[u32], k: usize, plain: Plain) -> bool
     requires { ⌜ InTable (now rows) k ⌝ }
-    requires { ⌜ Clear (now body) 38 (plain .from) (plain .to) ⌝ }
-    ensures { λ r. ⌜ r ≡ valuePasses (valueAt (now (body .entry)) (now (rows .entry)) k) ⌝ }
+    ensures { λ r. ⌜ LiesIn (now (rows .entry)) k (plain .from) (plain .to) r ⌝ }
 {
     let from = field(rows, k, 5);
-    let to = from + field(rows, k, 6);
     if from < plain.from {
-        return references_pass(body, rows, k);
+        return false;
     }
-    if plain.to < to {
-        return references_pass(body, rows, k);
+    if plain.to < from {
+        return false;
+    }
+    if plain.to - from < field(rows, k, 6) {
+        return false;
     }
     true
 }
 
-// What is wrong with a value.
+// What is wrong with a value that passes or does not.
 fn value_fault(passes: bool) -> Fault
     ensures { λ r. ⌜ r ≡ faultIf passes ⌝ }
 {
@@ -150,7 +150,10 @@ fn row_fault(body: &[u8], rows: &[u32], k: usize, tag: usize, top: usize, plain:
         if is_repeated(body, rows, tag, k) {
             return Fault::Is(Cause::RepeatedAttribute);
         }
-        return value_fault(value_passes(body, rows, k, plain));
+        if lies_in(rows, k, plain) {
+            return Fault::Nothing;
+        }
+        return value_fault(references_pass(body, rows, k));
     }
     if kind == 4 {
         if same_name(body, rows, k, top) {
@@ -159,7 +162,10 @@ fn row_fault(body: &[u8], rows: &[u32], k: usize, tag: usize, top: usize, plain:
         return Fault::Is(Cause::MismatchedEnd);
     }
     if kind == 6 {
-        return value_fault(value_passes(body, rows, k, plain));
+        if lies_in(rows, k, plain) {
+            return Fault::Nothing;
+        }
+        return value_fault(references_pass(body, rows, k));
     }
     if kind == 8 {
         return Fault::Is(Cause::TokenError);
