@@ -8,10 +8,14 @@ use native.Mathlib.Omega.{arith}
 use borrow.Author.Needs.{needs}
 use mir.Val.{Fits}
 use mir.Syntax.{w64}
-use lib.ListN.{length, getD, take, drop}
-use Rattle.lists.specs.Tests.{pick}
+use lib.ListN.{length, getD, take, drop, length-take}
+use lib.Seq.{getD-take, getD-drop}
+use Rattle.lists.specs.Parts.{getD-in}
+use Rattle.lists.specs.Find.{Clear, NextAt}
+use Rattle.lists.specs.Tests.{pick, false-true}
 use Rattle.lists.specs.Bytes.{sameb}
 use Rattle.reference.specs.Text.{validated}
+use Rattle.reference.specs.Result.{plain-valid}
 use Rattle.reference.specs.declared.Validated.{Validated}
 use Rattle.table.specs.Row.{Row, Name, cut, nameOf, valueOf}
 use Rattle.table.specs.Flat.{rowAt, SpansIn}
@@ -122,11 +126,73 @@ asFault Validated.BadReference = Fault.Is Cause.BadReference
 abbrev pub valueFault : List ℕ → Fault
 valueFault v = asFault (validated v)
 
+abbrev pub isValid : Validated → Bool
+isValid Validated.Valid = true
+isValid Validated.BadReference = false
+
+abbrev pub valuePasses : List ℕ → Bool
+valuePasses v = isValid (validated v)
+
 module _ (v : List ℕ) {x : List ℕ} {r : Validated} (p : x ≡ v) (e : r ≡ validated x) where
-  pub value-good : r ≡ Validated.Valid → Fault.Nothing ≡ valueFault v
+  pub value-good : r ≡ Validated.Valid → true ≡ valuePasses v
   value-good q = rw (← p, ← e, q)
 
-  pub value-bad : r ≡ Validated.BadReference → Fault.Is Cause.BadReference ≡ valueFault v
+  pub value-bad : r ≡ Validated.BadReference → false ≡ valuePasses v
   value-bad q = rw (← p, ← e, q)
 
-pub ruleset value-laws = (needs, value-span, value-good, value-bad)
+pub ruleset reference-laws = (needs, value-span, value-good, value-bad)
+
+abbrev pub faultIf : Bool → Fault
+faultIf true = Fault.Nothing
+faultIf false = Fault.Is Cause.BadReference
+
+pub fault-if : (v : List ℕ) → faultIf (valuePasses v) ≡ valueFault v
+fault-if v = go (validated v)
+  where
+    go : (r : Validated) → faultIf (isValid r) ≡ asFault r
+    go Validated.Valid = refl
+    go Validated.BadReference = refl
+
+pub passes-none : (u : Bool) → u ≡ true → Fault.Nothing ≡ faultIf u
+passes-none u q = rw q
+
+pub passes-not : (u : Bool) → u ≡ false → Fault.Is Cause.BadReference ≡ faultIf u
+passes-not u q = rw q
+
+pub ruleset value-laws = (needs, passes-none, passes-not)
+
+-- ---- a part without `&`
+pub plain-none : (body : List ℕ) → Clear body 38 0 0
+plain-none body = record { low = omega arith; high = omega arith; none = λ k l h e. absurd (omega arith) }
+
+pub plain-next : {body : List ℕ} {from to : ℕ} → NextAt body 38 from to → Clear body 38 from to
+plain-next x = x .clear
+
+module _ {body t : List ℕ} (q : Readable body t) {k : ℕ} (h : InTable t k) where
+  pub value-start : {from : ℕ} → from ≡ getD t (k * 8 + 5) 0 → from ≤ length body
+  value-start e = omega (arith, q .each k (h .row) .value)
+
+-- a value in it has none
+plain-cut : {body : List ℕ} {low high : ℕ} → Clear body 38 low high → (from len : ℕ) → low ≤ from → from + len ≤ high → (k : ℕ) → getD (cut body from len) k 0 ≡ 38 → ⊥
+plain-cut {body} x from len l h k e =
+    let g : k < len = omega (arith, getD-in (cut body from len) k 37 e, length-take len (drop from body)) in
+    x .none (from + k) (omega arith) (omega arith) (sym (getD-take len (drop from body) k 0 g ∙ getD-drop from body k 0) ∙ e)
+
+-- where a test says so, the value of row k lies between two places
+pub record LiesIn (t : List ℕ) (k low high : ℕ) (r : Bool) : Type 0 where
+  pub says : r ≡ true → (low ≤ getD t (k * 8 + 5) 0) × (getD t (k * 8 + 5) 0 + getD t (k * 8 + 6) 0 ≤ high)
+
+pub lies-not : (t : List ℕ) (k low high : ℕ) → LiesIn t k low high false
+lies-not t k low high = record { says = λ e. false-true e }
+
+pub lies : (t : List ℕ) (k : ℕ) {low high from len : ℕ} → from ≡ getD t (k * 8 + 5) 0 → len ≡ getD t (k * 8 + 6) 0 → low ≤ from → from ≤ high → len ≤ high - from
+    → LiesIn t k low high true
+lies t k e f l m h = record { says = λ q. (omega arith, omega arith) }
+
+pub value-plain : {body t : List ℕ} {k low high : ℕ} {r : Bool} → Clear body 38 low high → LiesIn t k low high r → r ≡ true → Fault.Nothing ≡ valueFault (valueAt body t k)
+value-plain {body} {t} {k} x i q =
+    let h = i .says q in
+    let z = plain-valid (valueAt body t k) (plain-cut x (getD t (k * 8 + 5) 0) (getD t (k * 8 + 6) 0) (h .0) (h .1)) in
+    rw z
+
+pub ruleset plain-laws = (needs, plain-none, plain-next, value-start, lies-not, lies)

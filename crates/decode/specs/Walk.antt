@@ -15,6 +15,7 @@ use lib.ListN.{length, getD, set, length-set}
 use lib.Seq.{getD-set-same, getD-set-other}
 use Rattle.lists.specs.Tests.{pick, false-true}
 use Rattle.lists.specs.Decide.{isYes}
+use Rattle.lists.specs.Find.{Clear}
 use Rattle.reference.specs.Text.{validated}
 use Rattle.reference.specs.declared.Validated.{Validated}
 use Rattle.table.specs.Row.{Row, Name, Tok, start, attr, gt, close, slash, text, misc, bad, nameOf, valueOf, tokAs, tokOf, toksOf, rowsOf}
@@ -26,7 +27,7 @@ use Rattle.xml.specs.Passed.{openAfter, namesAfter}
 use Rattle.xml.specs.declared.Cause.{Cause}
 use Rattle.xml.specs.declared.Drained.{Drained}
 use Rattle.decode.specs.declared.Fault.{Fault}
-use Rattle.decode.specs.Rows.{InTable, Readable, nameAt, valueAt, back, namesBack, asFault, valueFault}
+use Rattle.decode.specs.Rows.{InTable, Readable, nameAt, valueAt, back, namesBack, asFault, valueFault, valuePasses, faultIf, fault-if, plain-none, LiesIn, value-plain}
 
 -- what is wrong with a token: top is the name of the innermost open element, names are the attribute names of the start tag so far
 abbrev pub faultOf : Name → List Name → Tok → Fault
@@ -54,9 +55,14 @@ module _ (body t : List ℕ) (top : Name) (names : List Name) (k : ℕ) {kind : 
   unfolding tokAs
   fault-repeated h q g = rw (← e, h, ← q, g)
 
-  pub fault-value : {u : Bool} {f : Fault} → kind ≡ 2 → u ≡ seen (nameAt body t k) names → u ≡ false → f ≡ valueFault (valueAt body t k) → f ≡ faultOf top names (tokAt body t k)
+  pub fault-value : {u v : Bool} {f : Fault} → kind ≡ 2 → u ≡ seen (nameAt body t k) names → u ≡ false → v ≡ valuePasses (valueAt body t k) → f ≡ faultIf v → f ≡ faultOf top names (tokAt body t k)
   unfolding tokAs
-  fault-value h q g p = rw (← e, h, ← q, g) p
+  fault-value h q g o p = rw (← e, h, ← q, g, ← fault-if (valueAt body t k), ← o) p
+
+  pub fault-plain : {u v : Bool} {low high : ℕ} → kind ≡ 2 → u ≡ seen (nameAt body t k) names → u ≡ false → Clear body 38 low high → LiesIn t k low high v → v ≡ true
+      → Fault.Nothing ≡ faultOf top names (tokAt body t k)
+  unfolding tokAs
+  fault-plain h q g c l o = rw (← e, h, ← q, g) (value-plain c l o)
 
   pub fault-matched : {u : Bool} → kind ≡ 4 → u ≡ sameName (nameAt body t k) top → u ≡ true → Fault.Nothing ≡ faultOf top names (tokAt body t k)
   unfolding tokAs
@@ -66,9 +72,13 @@ module _ (body t : List ℕ) (top : Name) (names : List Name) (k : ℕ) {kind : 
   unfolding tokAs
   fault-mismatched h q g = rw (← e, h, ← q, g)
 
-  pub fault-text : {f : Fault} → kind ≡ 6 → f ≡ valueFault (valueAt body t k) → f ≡ faultOf top names (tokAt body t k)
+  pub fault-text : {v : Bool} {f : Fault} → kind ≡ 6 → v ≡ valuePasses (valueAt body t k) → f ≡ faultIf v → f ≡ faultOf top names (tokAt body t k)
   unfolding tokAs
-  fault-text h p = rw (← e, h) p
+  fault-text h o p = rw (← e, h, ← fault-if (valueAt body t k), ← o) p
+
+  pub text-plain : {v : Bool} {low high : ℕ} → kind ≡ 6 → Clear body 38 low high → LiesIn t k low high v → v ≡ true → Fault.Nothing ≡ faultOf top names (tokAt body t k)
+  unfolding tokAs
+  text-plain h c l o = rw (← e, h) (value-plain c l o)
 
   pub fault-token : kind ≡ 8 → Fault.Is Cause.TokenError ≡ faultOf top names (tokAt body t k)
   unfolding tokAs
@@ -93,7 +103,7 @@ module _ (body t : List ℕ) (top : Name) (names : List Name) (k : ℕ) {kind : 
 pub placed-after : {t : List ℕ} {tag k kind : ℕ} → Placed t tag k → kind ≡ getD t (k * 8 + 0) 0 → kind ≡ 2 → tag < k
 placed-after p e h = p .inTag (sym e ∙ h)
 
-pub ruleset fault-laws = (needs, placed-after, fault-repeated, fault-value, fault-matched, fault-mismatched, fault-text, fault-token, fault-none)
+pub ruleset fault-laws = (needs, placed-after, fault-repeated, fault-value, fault-plain, fault-matched, fault-mismatched, fault-text, text-plain, fault-token, fault-none)
 
 -- ---- the open elements, by the rows in which they start
 abbrev pub topOf : List ℕ → ℕ → ℕ
@@ -550,7 +560,7 @@ close-room w h f i = let e = sym f ∙ i in let x = here w h .needsOpen (rw e) i
 pub slash-room : {body t : List ℕ} {n : ℕ} {opened : List ℕ} {depth tag k kind : ℕ} → WalkAt body t n opened depth tag k → k < n → kind ≡ getD t (k * 8 + 0) 0 → kind ≡ 5 → 1 ≤ depth
 slash-room w h f i = w .tagOpen (in-tag-end (here w h) (sym f ∙ i))
 
-pub ruleset walk-laws = (needs, walk-start, row-in, top-in, row-placed, walk-fault, walk-open, walk-close, walk-slash, close-room, slash-room, walk-on, walk-passes, walk-unclosed, open-room)
+pub ruleset walk-laws = (needs, walk-start, row-in, top-in, row-placed, walk-fault, walk-open, walk-close, walk-slash, close-room, slash-room, walk-on, walk-passes, walk-unclosed, open-room, plain-none)
 
 -- ---- a table that obeys the rules can be walked
 pub walkable : {body t : List ℕ} {final : ℕ} → TableRules body t final → Walkable body t

@@ -3,11 +3,12 @@
 ghost use mathlib.Core.Path.{_≡_};
 ghost use Prim.Native.Nat.{_+_, _*_, _≤_, _<_};
 ghost use lib.ListN.{length, getD};
+ghost use Rattle.lists.specs.Find.{Clear};
 ghost use Rattle.table.specs.Row.{cut, rowsOf, toksOf};
 ghost use Rattle.xml.specs.Drain.{sameName, seen, walked, drained};
 ghost use Rattle.decode.specs.Walk.{Placed, faultOf, tokAt, topOf, Walkable};
 ghost use Rattle.decode.specs.Names.{nameMatches, named};
-ghost use Rattle.decode.specs.Rows.{Readable, InTable, SpanAt, nameAt, namesBack, valueFault, valueAt};
+ghost use Rattle.decode.specs.Rows.{Readable, InTable, SpanAt, nameAt, namesBack, valuePasses, faultIf, valueAt, LiesIn};
 use reference::Validated;
 use table::field;
 use xml::Cause;
@@ -75,23 +76,73 @@ fn is_repeated(body: &[u8], rows: &[u32], tag: usize, k: usize) -> bool
     false
 }
 
-// What is wrong with the value of a row.
-fn value_fault(body: &[u8], rows: &[u32], k: usize) -> Fault
+// Whether each reference in the value of a row is right.
+fn references_pass(body: &[u8], rows: &[u32], k: usize) -> bool
     requires { ⌜ Readable (now body) (now rows) ⌝ }
     requires { ⌜ InTable (now rows) k ⌝ }
-    ensures { λ r. ⌜ r ≡ valueFault (valueAt (now (body .entry)) (now (rows .entry)) k) ⌝ }
+    ensures { λ r. ⌜ r ≡ valuePasses (valueAt (now (body .entry)) (now (rows .entry)) k) ⌝ }
 {
     match unescape::validate_references(span(body, rows, k, 5)) {
-        Validated::Valid => Fault::Nothing,
-        Validated::BadReference => Fault::Is(Cause::BadReference),
+        Validated::Valid => true,
+        Validated::BadReference => false,
     }
 }
 
+// A part of the body where no `&` stands.
+struct Plain {
+    from: usize,
+    to: usize,
+}
+
+// The part to look at for the value of row k: the one at hand, or, if the value begins after it, the bytes from there up to the next `&`.
+fn plain_for(body: &[u8], rows: &[u32], k: usize, plain: Plain) -> Plain
+    requires { ⌜ Readable (now body) (now rows) ⌝ }
+    requires { ⌜ InTable (now rows) k ⌝ }
+    requires { ⌜ Clear (now body) 38 (plain .from) (plain .to) ⌝ }
+    ensures { λ r. ⌜ Clear (now (body .entry)) 38 (r .from) (r .to) ⌝ }
+{
+    let from = field(rows, k, 5);
+    if plain.to < from {
+        let to = slices::find(body, from, b'&');
+        return Plain { from, to };
+    }
+    plain
+}
+
+// Whether the value of row k lies in a part.
+fn lies_in(rows: &[u32], k: usize, plain: Plain) -> bool
+    requires { ⌜ InTable (now rows) k ⌝ }
+    ensures { λ r. ⌜ LiesIn (now (rows .entry)) k (plain .from) (plain .to) r ⌝ }
+{
+    let from = field(rows, k, 5);
+    if from < plain.from {
+        return false;
+    }
+    if plain.to < from {
+        return false;
+    }
+    if plain.to - from < field(rows, k, 6) {
+        return false;
+    }
+    true
+}
+
+// What is wrong with a value that passes or does not.
+fn value_fault(passes: bool) -> Fault
+    ensures { λ r. ⌜ r ≡ faultIf passes ⌝ }
+{
+    if passes {
+        return Fault::Nothing;
+    }
+    Fault::Is(Cause::BadReference)
+}
+
 // What is wrong with row k, of this kind, in or after the start tag of row `tag`, where the innermost open element starts in row `top`.
-fn row_fault(body: &[u8], rows: &[u32], k: usize, tag: usize, top: usize) -> Fault
+fn row_fault(body: &[u8], rows: &[u32], k: usize, tag: usize, top: usize, plain: Plain) -> Fault
     requires { ⌜ Readable (now body) (now rows) ⌝ }
     requires { ⌜ InTable (now rows) k × InTable (now rows) top ⌝ }
     requires { ⌜ Placed (now rows) tag k ⌝ }
+    requires { ⌜ Clear (now body) 38 (plain .from) (plain .to) ⌝ }
     ensures { λ r. ⌜ r ≡ faultOf (nameAt (now (body .entry)) (now (rows .entry)) top) (namesBack (now (body .entry)) (now (rows .entry)) tag k) (tokAt (now (body .entry)) (now (rows .entry)) k) ⌝ }
 {
     let kind = field(rows, k, 0);
@@ -99,7 +150,10 @@ fn row_fault(body: &[u8], rows: &[u32], k: usize, tag: usize, top: usize) -> Fau
         if is_repeated(body, rows, tag, k) {
             return Fault::Is(Cause::RepeatedAttribute);
         }
-        return value_fault(body, rows, k);
+        if lies_in(rows, k, plain) {
+            return Fault::Nothing;
+        }
+        return value_fault(references_pass(body, rows, k));
     }
     if kind == 4 {
         if same_name(body, rows, k, top) {
@@ -108,7 +162,10 @@ fn row_fault(body: &[u8], rows: &[u32], k: usize, tag: usize, top: usize) -> Fau
         return Fault::Is(Cause::MismatchedEnd);
     }
     if kind == 6 {
-        return value_fault(body, rows, k);
+        if lies_in(rows, k, plain) {
+            return Fault::Nothing;
+        }
+        return value_fault(references_pass(body, rows, k));
     }
     if kind == 8 {
         return Fault::Is(Cause::TokenError);
@@ -137,9 +194,11 @@ fn walk(body: &[u8], rows: &[u32]) -> Drained
     let mut depth = 0;
     let mut tag = 0;
     let mut k = 0;
+    let mut plain = Plain { from: 0, to: 0 };
     while k < n {
         let top = top_of(&opened, depth);
-        match row_fault(body, rows, k, tag, top) {
+        plain = plain_for(body, rows, k, plain);
+        match row_fault(body, rows, k, tag, top, plain) {
             Fault::Is(cause) => {
                 return Drained::IllFormed { row: k, cause };
             }

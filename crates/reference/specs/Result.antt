@@ -12,11 +12,12 @@ use Rattle.utf8.specs.Table.{Range, _to_, inRange, After, due, never, after, ta
 use Rattle.utf8.specs.Encode.{scalar, encode}
 use Rattle.utf8.specs.Cut.{high, after-high, ascii-none, walk-ascii, walk-drop-after}
 use Rattle.utf8.specs.Chars.{utf8-encode}
-use Rattle.reference.specs.Text.{reference, Out, before, decode, unescaped}
+use Rattle.reference.specs.Text.{reference, Out, before, decode, references, verdict, validated, unescaped}
 use Rattle.reference.specs.Text.Out.{bytes, bad}
 use Rattle.reference.specs.Taken.{Taken, taken}
 use Rattle.reference.specs.Lenient.{before-is}
 use Rattle.reference.specs.declared.Reference.{Reference}
+use Rattle.reference.specs.declared.Validated.{Validated}
 
 -- ---- a text without `&` is unescaped to itself
 unescaped-plain : (strict : Bool) (at : ℕ) (s : List ℕ) → ((k : ℕ) → getD s k 0 ≡ 38 → ⊥) → decode strict at 0 s ≡ bytes s
@@ -27,6 +28,10 @@ unescaped-plain strict at (b ∷ s) p = rw (decode, ne-eqb b 38 (p 0)) (ap (befo
 pub plain-unescapes : (t : List ℕ) → ((k : ℕ) → getD t k 0 ≡ 38 → ⊥) → unescaped t ≡ bytes t
 unfolding unescaped
 plain-unescapes t p = unescaped-plain false 0 t p
+
+pub plain-valid : (t : List ℕ) → ((k : ℕ) → getD t k 0 ≡ 38 → ⊥) → validated t ≡ Validated.Valid
+unfolding validated references verdict
+plain-valid t p = rw (unescaped-plain true 0 t p)
 
 -- ---- the result is never longer than the text
 AtMost : ℕ → List ℕ → Type 0

@@ -3,25 +3,11 @@ use borrow.Author.Needs.{needs}
 use Rattle.decode.proofs.value_fault.Statement.{statement}
 use Rattle.decode.proofs.value_fault.Tie as tie
 
-span-requires : tie.Need-span-requires
-span-requires c κs = search value-laws
-
-validate-references-requires : tie.Need-validate-references-requires
-validate-references-requires c κs = search needs
-
-enum-told : tie.Need-enum-told
-enum-told c = search needs
-
-enum-told-2 : tie.Need-enum-told-2
-enum-told-2 c = search needs
-
 returns : tie.Need-returns
-returns c = search value-laws
+returns c = search needs
 
 returns-2 : tie.Need-returns-2
 returns-2 c = search value-laws
 
 pub value-fault-spec : {M : Type 1} → statement M
-value-fault-spec =
-    tie.close
-    (tie.spec span-requires validate-references-requires enum-told enum-told-2 returns returns-2)
+value-fault-spec = tie.close (tie.spec returns returns-2)

@@ -1,14 +1,15 @@
 use borrow.Author.Needs.{needs}
 use Prim.Native.Nat.{_-_}
-use Rattle.decode.specs.Walk.{WalkAt, walk-laws, walk-close, walk-slash, walk-on}
+use Rattle.lists.specs.Find.{Clear}
+use Rattle.decode.specs.Walk.{WalkAt, walk-laws, walk-fault, walk-open, walk-close, walk-slash, walk-on}
 use Rattle.decode.proofs.walk.Statement.{statement}
 use Rattle.decode.proofs.walk.Tie as tie
 
 abbrev Inv-loop : tie.InvT-loop
-Inv-loop body rows n opened₀ depth₀ tag₀ k₀ opened depth tag k = WalkAt body rows n opened depth tag k
+Inv-loop body rows n opened₀ depth₀ tag₀ k₀ plain₀ opened depth tag k plain = WalkAt body rows n opened depth tag k × Clear body 38 (plain .from) (plain .to)
 
 abbrev μ-loop : tie.MeasureT-loop
-μ-loop body rows n opened₀ depth₀ tag₀ k₀ opened depth tag k = n - k
+μ-loop body rows n opened₀ depth₀ tag₀ k₀ plain₀ opened depth tag k plain = n - k
 
 loop-holds : tie.Need-loop-holds Inv-loop μ-loop
 loop-holds c = search walk-laws
@@ -16,14 +17,19 @@ loop-holds c = search walk-laws
 top-of-requires : tie.Need-top-of-requires Inv-loop μ-loop
 top-of-requires c κs = search walk-laws
 
+plain-for-requires : tie.Need-plain-for-requires Inv-loop μ-loop
+plain-for-requires c κs = search walk-laws
+
 row-fault-requires : tie.Need-row-fault-requires Inv-loop μ-loop
-row-fault-requires c κs = search walk-laws
+row-fault-requires c κs =
+    (search needs, ((search walk-laws, search walk-laws), (search walk-laws, search needs)))
 
 enum-known-cause : tie.Need-enum-known-cause Inv-loop μ-loop
 enum-known-cause c = search walk-laws
 
 returns : tie.Need-returns Inv-loop μ-loop
-returns c = search walk-laws
+returns c =
+    walk-fault (c .before .before .before .before .before .before .before .before .loop .inv .0) (c .before .before .before .before .before .before .before .loop-test .taken) (c .before .before .before .before .before .top-of .ensures) (c .before .before .before .row-fault .ensures) (search needs)
 
 enum-told : tie.Need-enum-told Inv-loop μ-loop
 enum-told c = search walk-laws
@@ -47,7 +53,8 @@ loop-less : tie.Need-loop-less Inv-loop μ-loop
 loop-less c = search walk-laws
 
 loop-again : tie.Need-loop-again Inv-loop μ-loop
-loop-again c = search walk-laws
+loop-again c =
+    (walk-open (c .before .before .before .before .before .before .before .before .before .loop .inv .0) (c .before .before .before .before .before .before .before .before .loop-test .taken) (c .before .before .before .before .before .before .top-of .ensures) (c .before .before .before .before .row-fault .ensures) (c .before .field .ensures) (search needs) (c .if1 .taken), c .before .before .before .before .before .plain-for .ensures)
 
 sub-depth : tie.Need-sub-depth Inv-loop μ-loop
 sub-depth c = search walk-laws
@@ -60,8 +67,7 @@ loop-less-2 c = search walk-laws
 
 loop-again-2 : tie.Need-loop-again-2 Inv-loop μ-loop
 loop-again-2 c =
-    walk-close (c .before .before .before .before .before .before .before .before .before .loop .inv) (c .before .before .before .before .before .before .before .before .loop-test .taken) (c .before .before .before .before .before .before .top-of .ensures) (c .before .before .before .before .before .row-fault .ensures) (c .before .before .field .ensures) (search needs)
-    (c .if2 .taken)
+    (walk-close (c .before .before .before .before .before .before .before .before .before .before .loop .inv .0) (c .before .before .before .before .before .before .before .before .before .loop-test .taken) (c .before .before .before .before .before .before .before .top-of .ensures) (c .before .before .before .before .before .row-fault .ensures) (c .before .before .field .ensures) (search needs) (c .if2 .taken), c .before .before .before .before .before .before .plain-for .ensures)
 
 sub-depth-2 : tie.Need-sub-depth-2 Inv-loop μ-loop
 sub-depth-2 c = search walk-laws
@@ -74,8 +80,7 @@ loop-less-3 c = search walk-laws
 
 loop-again-3 : tie.Need-loop-again-3 Inv-loop μ-loop
 loop-again-3 c =
-    walk-slash (c .before .before .before .before .before .before .before .before .before .before .loop .inv) (c .before .before .before .before .before .before .before .before .before .loop-test .taken) (c .before .before .before .before .before .before .before .top-of .ensures) (c .before .before .before .before .before .before .row-fault .ensures) (c .before .before .before .field .ensures) (search needs)
-    (c .if3 .taken)
+    (walk-slash (c .before .before .before .before .before .before .before .before .before .before .before .loop .inv .0) (c .before .before .before .before .before .before .before .before .before .before .loop-test .taken) (c .before .before .before .before .before .before .before .before .top-of .ensures) (c .before .before .before .before .before .before .row-fault .ensures) (c .before .before .before .field .ensures) (search needs) (c .if3 .taken), c .before .before .before .before .before .before .before .plain-for .ensures)
 
 add-k-4 : tie.Need-add-k-4 Inv-loop μ-loop
 add-k-4 c = search walk-laws
@@ -85,8 +90,7 @@ loop-less-4 c = search walk-laws
 
 loop-again-4 : tie.Need-loop-again-4 Inv-loop μ-loop
 loop-again-4 c =
-    walk-on (c .before .before .before .before .before .before .before .before .before .before .loop .inv) (c .before .before .before .before .before .before .before .before .before .loop-test .taken) (c .before .before .before .before .before .before .before .top-of .ensures) (c .before .before .before .before .before .before .row-fault .ensures) (c .before .before .before .field .ensures) (search needs)
-    (c .before .before .if1 .left) (c .before .if2 .left) (c .if3 .left)
+    (walk-on (c .before .before .before .before .before .before .before .before .before .before .before .loop .inv .0) (c .before .before .before .before .before .before .before .before .before .before .loop-test .taken) (c .before .before .before .before .before .before .before .before .top-of .ensures) (c .before .before .before .before .before .before .row-fault .ensures) (c .before .before .before .field .ensures) (search needs) (c .before .before .if1 .left) (c .before .if2 .left) (c .if3 .left), c .before .before .before .before .before .before .before .plain-for .ensures)
 
 returns-2 : tie.Need-returns-2 Inv-loop μ-loop
 returns-2 c = search walk-laws
@@ -102,6 +106,7 @@ walk-spec =
     μ-loop
     loop-holds
     top-of-requires
+    plain-for-requires
     row-fault-requires
     enum-known-cause
     returns

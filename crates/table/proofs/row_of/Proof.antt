@@ -1,13 +1,10 @@
 use Rattle.table.specs.Pass.{row-laws}
 use borrow.Author.Needs.{needs}
-use Rattle.table.proofs.row.Statement.{statement}
-use Rattle.table.proofs.row.Tie as tie
+use Rattle.table.proofs.row_of.Statement.{statement}
+use Rattle.table.proofs.row_of.Tie as tie
 
 field-requires : tie.Need-field-requires
 field-requires c κs = search needs
-
-field-requires-2 : tie.Need-field-requires-2
-field-requires-2 c κs = search needs
 
 returns : tie.Need-returns
 returns c = search row-laws
@@ -33,12 +30,11 @@ order-requires c κs = search needs
 returns-5 : tie.Need-returns-5
 returns-5 c = search row-laws
 
-pub row-spec : {M : Type 1} → statement M
-row-spec =
+pub row-of-spec : {M : Type 1} → statement M
+row-of-spec =
     tie.close
     (tie.spec
     field-requires
-    field-requires-2
     returns
     returns-2
     spans-requires
