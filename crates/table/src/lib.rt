@@ -254,10 +254,10 @@ fn open_order(kind: usize, opened: usize, rooted: bool) -> bool
         }
         return true;
     }
-    if kind == 1 {
-        return opened < 256;
+    if kind != 1 {
+        return true;
     }
-    true
+    opened < 256
 }
 
 // What the rows before have come to: the last position, whether a start tag is not ended, how many elements are open, whether the root has
