@@ -1,7 +1,7 @@
 //! The check of one table: the static library's drain beside what is expected.
 
 use crate::rules::{self, Answer, Lent, Rule};
-use falzheod::sys;
+use falzheod::{sys, Row};
 use oracle::hex::hex;
 
 /// What stands in memory around a body and around rows. A library that looks past
@@ -160,18 +160,7 @@ fn is_past_a_limit(body: &[u8], rows: &[[u32; 8]]) -> bool {
 /// The wrapper makes the same table, with the tokenizer as it is packaged.
 fn wrapper_differs(body: &[u8], table: &oracle::table::Table) -> Option<String> {
     let made = falzheod::table::from_tokens(body);
-    let rows = made.rows.iter().map(|row| {
-        [
-            row.kind,
-            row.prefix_start,
-            row.prefix_len,
-            row.local_start,
-            row.local_len,
-            row.value_start,
-            row.value_len,
-            row.position,
-        ]
-    });
+    let rows = made.rows.iter().map(Row::numbers);
     let alike = made.end == table.end && rows.eq(table.rows.iter().copied());
     (!alike).then(|| "the wrapper's table is not the Rust's".to_string())
 }

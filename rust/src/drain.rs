@@ -31,6 +31,22 @@ pub struct Row {
 /// The numbers of a row in the library's tables.
 const NUMBERS: usize = 8;
 
+impl Row {
+    /// The eight numbers of the row, in the order of its fields.
+    pub fn numbers(&self) -> [u32; NUMBERS] {
+        [
+            self.kind,
+            self.prefix_start,
+            self.prefix_len,
+            self.local_start,
+            self.local_len,
+            self.value_start,
+            self.value_len,
+            self.position,
+        ]
+    }
+}
+
 // the library reads a row as eight numbers in a line
 const _: () = assert!(size_of::<Row>() == NUMBERS * size_of::<u32>());
 

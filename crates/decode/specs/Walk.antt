@@ -20,7 +20,8 @@ use Rattle.reference.specs.Text.{validated}
 use Rattle.reference.specs.declared.Validated.{Validated}
 use Rattle.table.specs.Row.{Row, Name, Tok, start, attr, gt, close, slash, text, misc, bad, nameOf, valueOf, tokAs, tokOf, toksOf, rowsOf}
 use Rattle.table.specs.Rules.{among, Place, atFirst, after, RowRules, EachRow, none, row, TableRules}
-use Rattle.table.specs.Test.{decTable}
+use Rattle.table.specs.Test.{decTable, first}
+use Rattle.table.specs.Pass.{obeyed}
 use Rattle.table.specs.Flat.{rowAt, rowsFrom, length-rows, rows-same, rows-whole, unroll, rolled-out, spans-in}
 use Rattle.xml.specs.Drain.{sameName, seen, drainedBy, drained, State, going, failed, withValue, withAttribute, closed, popped, step, walk, verdict, walked}
 use Rattle.xml.specs.Passed.{openAfter, namesAfter}
@@ -226,20 +227,13 @@ walk-failed j k c (t ∷ l) = refl
 
 -- ---- the rules at a row, by its kind
 module _ {body : List ℕ} {p : Place} {r : Row} {rest : List Row} (o : RowRules body p r rest) where
-  -- the names that were seen matter to an attribute alone, and that stands in a tag
-  in-tag : r .kind ≡ 2 → p .inTag ≡ true
+  -- kinds 2, 3 and 5 stand in a start tag
+  in-tag : among (2 ∷ 3 ∷ 5 ∷ []) (r .kind) ≡ true → p .inTag ≡ true
   in-tag e = go (p .inTag) refl
     where
       go : (b : Bool) → p .inTag ≡ b → p .inTag ≡ true
       go true h = h
-      go false h = false-true (sym (rw e at (o .tagOrder .outside h)))
-
-  in-tag-end : r .kind ≡ 5 → p .inTag ≡ true
-  in-tag-end e = go (p .inTag) refl
-    where
-      go : (b : Bool) → p .inTag ≡ b → p .inTag ≡ true
-      go true h = h
-      go false h = false-true (sym (rw e at (o .tagOrder .outside h)))
+      go false h = false-true (sym (o .tagOrder .outside h) ∙ e)
 
 fault-names : (top : Name) (a b : List Name) (kind : ℕ) (n : Name) (v : List ℕ) → (kind ≡ 2 → a ≡ b) → faultOf top a (tokAs kind n v) ≡ faultOf top b (tokAs kind n v)
 unfolding tokAs
@@ -286,12 +280,6 @@ pub record WalkAt (body t : List ℕ) (n : ℕ) (opened : List ℕ) (depth tag k
   pub tagNames : place .inTag ≡ true → names ≡ namesBack body t tag k
   pub rest : walk k (going (stackOf body t opened depth) names) (toksOf body (rowsFrom t k (n - k))) ≡ walk 0 (going [] []) (toksOf body (rowsOf t))
 
-first-rules : {body : List ℕ} {p : Place} {r : Row} {l : List Row} → EachRow body p (r ∷ l) → RowRules body p r l
-first-rules (row o e) = o
-
-later-rules : {body : List ℕ} {p : Place} {r : Row} {l : List Row} → EachRow body p (r ∷ l) → EachRow body (after p r) l
-later-rules (row o e) = e
-
 pub walk-start : {body t : List ℕ} (opened : List ℕ) → Walkable body t → length opened ≡ 256 → WalkAt body t (length t / 8) opened 0 0 0
 walk-start {body} {t} opened w s =
     let n = length t / 8 in
@@ -321,10 +309,10 @@ module _ {body t : List ℕ} {n : ℕ} {opened : List ℕ} {depth tag k : ℕ} (
   later = rowsFrom t (k + 1) (n - (k + 1))
 
   here : RowRules body (w .place) (rowAt t k) (rowsFrom t (k + 1) (n - (k + 1)))
-  here = first-rules (rw (unroll t k n h) at (w .each))
+  here = first (rw (unroll t k n h) at (w .each)) .0
 
   after-here : EachRow body (after (w .place) (rowAt t k)) (rowsFrom t (k + 1) (n - (k + 1)))
-  after-here = later-rules (rw (unroll t k n h) at (w .each))
+  after-here = first (rw (unroll t k n h) at (w .each)) .1
 
   pub top-in : {top : ℕ} → top ≡ topOf opened depth → InTable t top
   top-in {top} e = rw e (go depth (w .rowsIn))
@@ -338,7 +326,7 @@ module _ {body t : List ℕ} {n : ℕ} {opened : List ℕ} {depth tag k : ℕ} (
       record {
         least = here .knownKind .0;
         most = here .knownKind .1;
-        inTag = λ e. w .tagRow (in-tag here e);
+        inTag = λ e. w .tagRow (in-tag here (rw e));
       }
 
   -- one step of the walk
@@ -360,7 +348,7 @@ module _ {body t : List ℕ} {n : ℕ} {opened : List ℕ} {depth tag k : ℕ} (
   module _ {top : ℕ} {r : Fault} (e : top ≡ topOf opened depth) (q : r ≡ faultOf (nameAt body t top) (namesBack body t tag k) (tokAt body t k)) where
     fault-is : faultOf (nameAt body t top) (w .names) (tokAt body t k) ≡ r
     fault-is =
-        fault-names (nameAt body t top) (w .names) (namesBack body t tag k) (getD t (k * 8 + 0) 0) (nameAt body t k) (valueAt body t k) (λ g. w .tagNames (in-tag here g))
+        fault-names (nameAt body t top) (w .names) (namesBack body t tag k) (getD t (k * 8 + 0) 0) (nameAt body t k) (valueAt body t k) (λ g. w .tagNames (in-tag here (rw g)))
         ∙ sym q
 
     toppedHere : Topped (nameAt body t top) (stackOf body t opened depth) (tokAt body t k)
@@ -424,7 +412,7 @@ module _ {body t : List ℕ} {n : ℕ} {opened : List ℕ} {depth tag k : ℕ} (
           }
 
       open-before : (getD t (k * 8 + 0) 0 ≡ 4 → 0 < depth) × (getD t (k * 8 + 0) 0 ≡ 5 → 0 < depth)
-      open-before = (λ i. omega (arith, w .deep, here .needsOpen (rw i)), λ i. w .tagOpen (in-tag-end here i))
+      open-before = (λ i. omega (arith, w .deep, here .needsOpen (rw i)), λ i. w .tagOpen (in-tag here (rw i)))
 
       popped-stack : (d : ℕ) → 0 < d → popped (stackOf body t opened d) ≡ stackOf body t opened (d - 1)
       popped-stack zero l = absurd (omega arith)
@@ -485,11 +473,12 @@ module _ {body t : List ℕ} {n : ℕ} {opened : List ℕ} {depth tag k : ℕ} (
       by-attribute : getD t (k * 8 + 0) 0 ≡ 2 → WalkAt body t n opened depth tag (k + 1)
       unfolding tokAs
       by-attribute i =
-          let y = w .tagRow (in-tag here i) in
+          let inside = in-tag here (rw i) in
+          let y = w .tagRow inside in
           let z : k + 1 - (tag + 1) ≡ suc (k - (tag + 1)) = omega arith in
           let l : k + 1 - 1 ≡ k = omega arith in
-          let more : nameAt body t k ∷ w .names ≡ namesBack body t tag (k + 1) = rw (z, l) (ap (λ (m : List Name). nameAt body t k ∷ m) (w .tagNames (in-tag here i))) in
-          other-walk (nameAt body t k ∷ w .names) (rw i (w .deep)) (λ x. in-tag here i) (λ x. more) (rw (i, tokAs)) (rw (i, tokAs))
+          let more : nameAt body t k ∷ w .names ≡ namesBack body t tag (k + 1) = rw (z, l) (ap (λ (m : List Name). nameAt body t k ∷ m) (w .tagNames inside)) in
+          other-walk (nameAt body t k ∷ w .names) (rw i (w .deep)) (λ x. inside) (λ x. more) (rw (i, tokAs)) (rw (i, tokAs))
 
       by-gt : getD t (k * 8 + 0) 0 ≡ 3 → WalkAt body t n opened depth tag (k + 1)
       unfolding tokAs
@@ -558,7 +547,7 @@ pub close-room : {body t : List ℕ} {n : ℕ} {opened : List ℕ} {depth tag k 
 close-room w h f i = let e = sym f ∙ i in let x = here w h .needsOpen (rw e) in omega (arith, w .deep)
 
 pub slash-room : {body t : List ℕ} {n : ℕ} {opened : List ℕ} {depth tag k kind : ℕ} → WalkAt body t n opened depth tag k → k < n → kind ≡ getD t (k * 8 + 0) 0 → kind ≡ 5 → 1 ≤ depth
-slash-room w h f i = w .tagOpen (in-tag-end (here w h) (sym f ∙ i))
+slash-room w h f i = let e = sym f ∙ i in w .tagOpen (in-tag (here w h) (rw e))
 
 pub ruleset walk-laws = (needs, walk-start, row-in, top-in, row-placed, walk-fault, walk-open, walk-close, walk-slash, close-room, slash-room, walk-on, walk-passes, walk-unclosed, open-room, plain-none)
 
@@ -568,11 +557,7 @@ walkable {body} {t} r = record { whole = r .whole; each = r .rules .each; readab
 
 module _ (body t : List ℕ) (final : ℕ) {u : Bool} (e : u ≡ isYes (decTable body t final)) where
   pub drain-walk : u ≡ true → Walkable body t
-  drain-walk h = walkable (go (decTable body t final) (sym e ∙ h))
-    where
-      go : (d : Dec (TableRules body t final)) → isYes d ≡ true → TableRules body t final
-      go (yes r) q = r
-      go (no n) q = false-true q
+  drain-walk h = walkable (obeyed body t final e h)
 
   pub drain-walked : {r : Drained} → u ≡ true → r ≡ walked (toksOf body (rowsOf t)) → r ≡ drained body t final
   unfolding drained

@@ -22,10 +22,6 @@ overwrite-more old acc new h =
     let room : length acc + length new ≤ length (acc ++ drop (length acc) old) = omega (arith, n, length-append acc (drop (length acc) old), length-drop (length acc) old) in
     rw (sets-eq new (acc ++ drop (length acc) old) (length acc) room, take-append-seam, drop-append-add, drop-drop, n)
 
-pub overwrite-length : (old acc : List ℕ) → length acc ≤ length old → length (overwritten old acc) ≡ length old
-unfolding overwritten
-overwrite-length old acc h = omega (arith, length-append acc (drop (length acc) old), length-drop (length acc) old)
-
 -- the elements of s stand in new from at on, r is the place after them, and all else is as in old
 pub record Stored (old new : List ℕ) (at : ℕ) (s : List ℕ) (r : ℕ) : Type 0 where
   pub next : r ≡ at + length s

@@ -45,13 +45,6 @@ pub or-is : (t u : Bool) → pick t true u ≡ true → (t ≡ true) ⊎ (u ≡ 
 or-is true u e = inl refl
 or-is false u e = inr e
 
-pub or-left : {t : Bool} (u : Bool) → t ≡ true → pick t true u ≡ true
-or-left u e = rw e
-
-pub or-right : (t : Bool) {u : Bool} → u ≡ true → pick t true u ≡ true
-or-right true e = refl
-or-right false e = e
-
 pub within-is : (from to x : ℕ) → within from to x ≡ true → (from ≤ x) × (x ≤ to)
 within-is from to x = go (leb from x) refl
   where

@@ -8,7 +8,7 @@ use borrow.Author.Tests.{leb-true, leb-false}
 use lib.Dec.{leb}
 use lib.ListN.{length}
 use Rattle.lists.specs.Tests.{pick}
-use Rattle.lists.specs.Overwrite.{overwritten, overwrite-length}
+use Rattle.lists.specs.Overwrite.{overwritten}
 use Rattle.reference.specs.Text.{Out, answer, filled, unescaped}
 use Rattle.reference.specs.Text.Out.{bytes, bad}
 use Rattle.reference.specs.Result.{unescaped-shorter}
@@ -30,25 +30,15 @@ length-fits (bytes l) room {n} e = go (leb (length l) room) refl e
     go true h e = let q : length l ≡ n = cc in (l, refl, sym q, omega (arith, leb-true (length l) room h))
     go false h e = let z : _≡_ {A = ℕ} 0 1 = cc in absurd (omega arith)
 
--- a refusal with 7 leaves the buffer as it was
-pub bad-keeps : (o : Out) (old : List ℕ) → answer o (length old) ≡ Unescaped.BadReference → filled o old ≡ old
+-- a refusal leaves the buffer as it was: any answer that is no length
+pub refusal-keeps : (o : Out) (old : List ℕ) → ((n : ℕ) → answer o (length old) ≡ Unescaped.Length n → ⊥) → filled o old ≡ old
 unfolding answer filled
-bad-keeps (bad at) old e = refl
-bad-keeps (bytes l) old e = go (leb (length l) (length old)) e
+refusal-keeps (bad at) old f = refl
+refusal-keeps (bytes l) old f = go (leb (length l) (length old)) f
   where
-    go : (t : Bool) → pick t (Unescaped.Length (length l)) Unescaped.NoRoom ≡ Unescaped.BadReference → pick t (overwritten old l) old ≡ old
-    go true e = let z : _≡_ {A = ℕ} 0 1 = cc in absurd (omega arith)
-    go false e = refl
-
--- and so does one with 10
-pub none-keeps : (o : Out) (old : List ℕ) → answer o (length old) ≡ Unescaped.NoRoom → filled o old ≡ old
-unfolding answer filled
-none-keeps (bad at) old e = refl
-none-keeps (bytes l) old e = go (leb (length l) (length old)) e
-  where
-    go : (t : Bool) → pick t (Unescaped.Length (length l)) Unescaped.NoRoom ≡ Unescaped.NoRoom → pick t (overwritten old l) old ≡ old
-    go true e = let z : _≡_ {A = ℕ} 0 1 = cc in absurd (omega arith)
-    go false e = refl
+    go : (t : Bool) → ((n : ℕ) → pick t (Unescaped.Length (length l)) Unescaped.NoRoom ≡ Unescaped.Length n → ⊥) → pick t (overwritten old l) old ≡ old
+    go true f = absurd (f (length l) refl)
+    go false f = refl
 
 -- a buffer as long as the text is always room enough
 pub room-enough : (t : List ℕ) (room : ℕ) → length t ≤ room → answer (unescaped t) room ≡ Unescaped.NoRoom → ⊥

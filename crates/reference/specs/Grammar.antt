@@ -11,7 +11,7 @@ use borrow.Author.Tests.{leb-true, leb-false, ltb-true, ltb-false, eqb-true, eqb
 use lib.Dec.{ltb, leb, eqb}
 use lib.ListN.{length, getD, drop, take, length-append, take-append-drop}
 use lib.Seq.{take-suc}
-use Rattle.lists.specs.Tests.{pick, pick-same, pick-cases, within, false-true, or-is, or-left, or-right, within-is, is-within}
+use Rattle.lists.specs.Tests.{pick, pick-same, pick-cases, within, false-true, or-is, within-is, is-within}
 use Rattle.lists.specs.Bytes.{ascii, sameb}
 use Rattle.lists.specs.Parts.{getD-in}
 use Rattle.utf8.specs.Encode.{encode}

@@ -11,12 +11,13 @@ use lib.Dec.{leb}
 use lib.ListN.{length, getD, drop, take, length-append}
 use lib.Seq.{sets, sets-eq, length-sets, take-all}
 use Rattle.lists.specs.Tests.{pick}
-use Rattle.lists.specs.Parts.{part}
+use Rattle.lists.specs.Parts.{part, getD-in}
 use Rattle.lists.specs.Find.{Clear, NextAt}
 use Rattle.lists.specs.Overwrite.{overwritten, overwrite-none, overwrite-more, Stored}
 use Rattle.utf8.specs.Encode.{scalar, encode}
 use Rattle.reference.specs.Text.{reference, Out, before, decode, answer, filled, unescaped, Unescape}
 use Rattle.reference.specs.Text.Out.{bytes, bad}
+use Rattle.reference.specs.Result.{plain-unescapes}
 use Rattle.reference.specs.Taken.{Taken, taken}
 use Rattle.reference.specs.Walk.{DecodeAt, decode-start, decode-plain, decode-end, decode-bad, decode-ref}
 use Rattle.unescape.specs.Loops.{seek-laws, sizeOf, next-fits, next-less, run-less}
@@ -150,10 +151,7 @@ whole x e = rw (← e) x
 
 module _ {t : List ℕ} (x : NextAt t 38 0 (length t)) where
   plain-is : unescaped t ≡ bytes t
-  unfolding unescaped
-  plain-is =
-      let k : take (length t - 0) t ≡ t = take-all (length t - 0) t (omega arith) in
-      decode-end (decode-plain (decode-start false t) (x .clear)) (omega arith) ∙ ap bytes k
+  plain-is = plain-unescapes t (λ k e. x .clear .none k (omega arith) (getD-in t k 37 e) e)
 
   pub plain-length : {old new : List ℕ} {k : ℕ} → length t ≤ length old → Stored old new 0 t k → Unescape t old new (Unescaped.Length k)
   unfolding answer filled overwritten

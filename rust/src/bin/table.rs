@@ -56,20 +56,7 @@ fn read(file: &Path) -> Result<Vec<u8>, String> {
 
 fn bytes(table: &Table) -> Vec<u8> {
     std::iter::once(table.end)
-        .chain(table.rows.iter().flat_map(numbers))
+        .chain(table.rows.iter().flat_map(Row::numbers))
         .flat_map(u32::to_le_bytes)
         .collect()
-}
-
-fn numbers(row: &Row) -> [u32; 8] {
-    [
-        row.kind,
-        row.prefix_start,
-        row.prefix_len,
-        row.local_start,
-        row.local_len,
-        row.value_start,
-        row.value_len,
-        row.position,
-    ]
 }
