@@ -1,4 +1,4 @@
-// The port of src/decode.rs: comparing names and the strict drain. What they answer is defined in `xml` (the drain) and in specs/Names.antt;
+// The port of src/decode.rs: comparing names and the strict drain. What they answer is defined in `xml` (the drain) and in `document` (names);
 // the crate rests on `table` for the rows and their rules, on `unescape` for references and on `slices`.
 ghost use mathlib.Core.Path.{_≡_};
 ghost use Prim.Native.Nat.{_+_, _*_, _≤_, _<_};
@@ -7,7 +7,7 @@ ghost use Rattle.lists.specs.Find.{Clear};
 ghost use Rattle.table.specs.Row.{cut, rowsOf, toksOf};
 ghost use Rattle.xml.specs.Drain.{sameName, seen, walked, drained};
 ghost use Rattle.decode.specs.Walk.{Placed, faultOf, tokAt, topOf, Walkable};
-ghost use Rattle.decode.specs.Names.{nameMatches, named};
+ghost use Rattle.document.specs.Names.{nameMatches, named};
 ghost use Rattle.decode.specs.Rows.{Readable, InTable, SpanAt, nameAt, namesBack, valuePasses, faultIf, valueAt, LiesIn};
 use reference::Validated;
 use table::field;
@@ -19,9 +19,6 @@ pub enum Fault {
     Nothing,
     Is(Cause),
 }
-
-// The depth of an element: 0 is the root's.
-pub struct Depth(pub usize);
 
 // Whether a name, given by its prefix and its local name, is what a pattern asks for: `local`, or `prefix:local`.
 pub fn matches(prefix: &[u8], local: &[u8], pattern: &[u8]) -> bool

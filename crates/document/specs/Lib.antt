@@ -1,0 +1,5 @@
+pub mod Names
+pub mod View
+pub mod Reader
+pub mod Scope
+pub mod Text

@@ -1,0 +1,66 @@
+-- The text of an element: its first text (`try_data`), and all the texts directly in it.
+use Prim.Native.Nat.{ℕ, zero, suc}
+use mathlib.Core.Bool.{Bool, true, false}
+use mathlib.Core.List.{List, [], _∷_, _++_}
+use mathlib.Core.Option.{Option, none, some}
+use Rattle.lists.specs.Tests.{pick}
+use Rattle.refusal.specs.declared.Refusal.{Refusal}
+use Rattle.refusal.specs.Answer.{Answer, gives, refuses, onward}
+use Rattle.reference.specs.Text.{Out, unescaped}
+use Rattle.reference.specs.Text as text
+use Rattle.table.specs.Row.{Name, Tok, start, attr, gt, close, slash, text, misc, bad}
+use Rattle.document.specs.declared.Depth.{Depth}
+use Rattle.document.specs.Reader.{depthAfter, Scope, isEnd, shallower}
+use Rattle.document.specs.Scope.{Child, scopeOf}
+
+-- a text unescaped, or 7
+abbrev pub unescapedText : Out → Answer (List ℕ)
+unescapedText (text.bytes l) = gives l
+unescapedText (text.bad at) = refuses Refusal.BadReference
+
+-- where the rows run out: the failure that the reader meets there, or the text is empty
+abbrev pub atEnd : Option Refusal → Answer (List ℕ)
+atEnd none = gives []
+atEnd (some r) = refuses r
+
+-- ---- "`try_data` gives the first Text token unescaped, \"\" if none, and fails at an inner start tag. It skips CDATA and stops after that first Text."
+-- what a token that leaves depth d says of the text; `more` is what those after it say
+abbrev pub textTurn : Scope → Depth → Tok → Answer (List ℕ) → Answer (List ℕ)
+textTurn s d (start n) more = refuses Refusal.ElementInText
+textTurn s d (attr m v) more = more
+textTurn s d gt more = more
+textTurn s d (close m) more = pick (isEnd s d m) (gives []) more
+textTurn s d slash more = more
+textTurn s d (text v) more = unescapedText (unescaped v)
+textTurn s d misc more = more
+textTurn s d bad more = more
+
+unfoldable pub firstText : Option Refusal → Scope → Depth → List Tok → Answer (List ℕ)
+firstText failure s d [] = atEnd failure
+firstText failure s d (t ∷ l) = textTurn s (depthAfter t d) t (firstText failure s (depthAfter t d) l)
+
+-- the first text of an element; one that ended in `/>` has the empty text
+unfoldable pub textOf : Option Refusal → Child → Answer (List ℕ)
+unfolding firstText
+textOf failure c =
+    let inside = firstText failure (scopeOf (c .start)) (c .inner .depth) (c .inner .rest) in
+    pick (c .start .closed) (gives []) inside
+
+-- ---- "It joins all Text rows directly in the root, unescaped, and passes over every other row"; 6 at "any element inside the root"
+abbrev pub joinTurn : Scope → Depth → Tok → Answer (List ℕ) → Answer (List ℕ)
+joinTurn s d (start n) more = refuses Refusal.ElementInText
+joinTurn s d (attr m v) more = more
+joinTurn s d gt more = more
+joinTurn s d (close m) more = pick (isEnd s d m) (gives []) more
+joinTurn s d slash more = more
+joinTurn s d (text v) more = onward (unescapedText (unescaped v)) (λ (front : List ℕ). onward more (λ (rest : List ℕ). gives (front ++ rest)))
+joinTurn s d misc more = more
+joinTurn s d bad more = more
+
+unfoldable pub joined : Scope → Depth → List Tok → Answer (List ℕ)
+joined s d [] = gives []
+joined s d (t ∷ l) = joinTurn s (depthAfter t d) t (joined s (depthAfter t d) l)
+
+unfoldable pub wholeOf : Child → Answer (List ℕ)
+unfolding joined
+wholeOf c = let inside = joined (scopeOf (c .start)) (c .inner .depth) (c .inner .rest) in pick (c .start .closed) (gives []) inside

@@ -1,0 +1,6 @@
+pub mod Output
+pub mod Opening
+pub mod Structure
+pub mod Collection
+pub mod Scalar
+pub mod Find

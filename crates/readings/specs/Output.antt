@@ -1,0 +1,104 @@
+-- What a reading writes: entries and texts (01, "Sheets and entries"), in the room that was lent.
+use Prim.Native.Nat.{ℕ, _+_}
+use mathlib.Core.Bool.{Bool, true, false}
+use mathlib.Core.List.{List, [], _∷_, _++_}
+use lib.Dec.{ltb, leb}
+use lib.ListN.{length}
+use Rattle.lists.specs.Tests.{pick}
+use Rattle.refusal.specs.declared.Refusal.{Refusal}
+use Rattle.refusal.specs.Numbers.{number}
+use Rattle.document.specs.Scope.{Piece}
+
+-- "An entry is six 32-bit numbers: kind, member index (0 for items and map entries), key start and length (0, 0 outside maps), start, length."
+pub record Entry : Type 0 where
+  pub kind : ℕ
+  pub member : ℕ
+  pub keyStart : ℕ
+  pub keyLen : ℕ
+  pub start : ℕ
+  pub len : ℕ
+
+-- "Kinds: 1 text in the text buffer; 2 piece of the body; 3 gathered group in the text buffer ..; 4 failed text, start being its number 6 to 9,
+-- length 0"
+abbrev pub textKind : ℕ
+textKind = 1
+
+abbrev pub pieceKind : ℕ
+pieceKind = 2
+
+abbrev pub groupKind : ℕ
+groupKind = 3
+
+abbrev pub failedKind : ℕ
+failedKind = 4
+
+-- how many entries, and how many text bytes, there is room for
+pub record Room : Type 0 where
+  pub entries : ℕ
+  pub bytes : ℕ
+
+-- the entries and the text bytes written so far: "Texts and groups follow one another in the text buffer from 0 without gaps."
+pub record Output : Type 0 where
+  pub entries : List Entry
+  pub texts : List ℕ
+
+abbrev pub nothing : Output
+nothing = record { entries = []; texts = [] }
+
+-- a reading that finished, or that was refused: "A refusal keeps the entries and texts already written, counted" (demand 1)
+pub data Reading : Type 0 where
+  finished : Output → Reading
+  refused : Refusal → Output → Reading
+
+abbrev pub output : Reading → Output
+output (finished out) = out
+output (refused r out) = out
+
+abbrev pub andThen : Reading → (Output → Reading) → Reading
+andThen (finished out) f = f out
+andThen (refused r out) f = refused r out
+
+-- one after another, to the first refusal
+unfoldable pub each : {A : Type 0} → (A → Output → Reading) → List A → Output → Reading
+each f [] out = finished out
+each f (x ∷ l) out = andThen (f x out) (each f l)
+
+-- ---- "An entry and its text are written only if both fit; else 10."
+abbrev pub fits : Room → List ℕ → Output → Bool
+fits room bytes out = pick (ltb (length (out .entries)) (room .entries)) (leb (length (out .texts) + length bytes) (room .bytes)) false
+
+-- the entry, made with the place where its bytes begin in the text buffer, and its bytes
+abbrev pub write : Room → (ℕ → Entry) → List ℕ → Output → Reading
+write room entry bytes out =
+    pick (fits room bytes out)
+    (finished (record { entries = out .entries ++ entry (length (out .texts)) ∷ []; texts = out .texts ++ bytes }))
+    (refused Refusal.NoRoom out)
+
+-- an entry outside maps
+abbrev pub plain : ℕ → ℕ → ℕ → ℕ → Entry
+plain kind member start len = record { kind = kind; member = member; keyStart = 0; keyLen = 0; start = start; len = len }
+
+abbrev pub writeText : Room → ℕ → List ℕ → Output → Reading
+writeText room member bytes = write room (λ at. plain textKind member at (length bytes)) bytes
+
+abbrev pub writePiece : Room → ℕ → Piece → Output → Reading
+writePiece room member piece = write room (λ at. plain pieceKind member (piece .start) (piece .len)) []
+
+abbrev pub writeGroup : Room → ℕ → List ℕ → Output → Reading
+writeGroup room member bytes = write room (λ at. plain groupKind member at (length bytes)) bytes
+
+abbrev pub writeFailed : Room → ℕ → Refusal → Output → Reading
+writeFailed room member refusal = write room (λ at. plain failedKind member (number refusal) 0) []
+
+-- a map entry: "A map writes the key before the value."
+abbrev pub writeKeyText : Room → List ℕ → List ℕ → Output → Reading
+writeKeyText room key bytes =
+    write room
+    (λ at. record { kind = textKind; member = 0; keyStart = at; keyLen = length key; start = at + length key; len = length bytes })
+    (key ++ bytes)
+
+abbrev pub writeKeyPiece : Room → List ℕ → Piece → Output → Reading
+writeKeyPiece room key piece =
+    write room
+    (λ at. record { kind = pieceKind; member = 0; keyStart = at; keyLen = length key; start = piece .start; len = piece .len })
+    key

@@ -1,0 +1,98 @@
+-- 01, "Scalar": `read_boolean`, `read_integer` and `read_string`, from a body and from a text of an entry; and "Whole text".
+use Prim.Native.Nat.{ℕ, zero, suc, _^_, _-_}
+use mathlib.Core.Bool.{Bool, true, false}
+use mathlib.Core.List.{List, [], _∷_}
+use mathlib.Core.Option.{Option, none, some}
+use lib.Dec.{eqb, leb}
+use lib.IntN.{ℤ, pos, negsuc}
+use lib.ListN.{length}
+use Rattle.lists.specs.Tests.{pick}
+use Rattle.lists.specs.Bytes.{ascii, sameb}
+use Rattle.refusal.specs.declared.Refusal.{Refusal}
+use Rattle.refusal.specs.Answer.{Answer, gives, refuses, onward}
+use Rattle.reference.specs.Number.{number}
+use Rattle.reference.specs.declared.Number.{Number}
+use Rattle.reference.specs.declared.Number.the-variants.{Value, No}
+use Rattle.table.specs.Row.{rowsOf, toksOf}
+use Rattle.xml.specs.declared.Drained.{Drained}
+use Rattle.xml.specs.Drain.{drained}
+use Rattle.document.specs.Scope.{Child, rootOf}
+use Rattle.document.specs.Text.{textOf, wholeOf}
+use Rattle.sheet.specs.declared.ShapeDepth.{ShapeDepth}
+use Rattle.sheet.specs.Settings.{Settings, isStrict}
+use Rattle.readings.specs.Opening.{Opened, opened, present}
+
+-- ---- from a text: "A text taken from an entry is read by the same rules, with 10, 11 or 12 alone."
+-- `true` or `false`, byte for byte
+unfoldable pub booleanOf : List ℕ → Answer Bool
+unfolding sameb
+booleanOf text = pick (sameb text (ascii "true")) (gives true) (pick (sameb text (ascii "false")) (gives false) (refuses Refusal.NotBoolean))
+
+-- "one or more digits"
+abbrev pub digitsOf : List ℕ → Number
+digitsOf [] = No
+digitsOf (b ∷ s) = number 10 0 (b ∷ s)
+
+abbrev pub minus : ℕ → ℤ
+minus zero = pos zero
+minus (suc n) = negsuc n
+
+-- "range of 32 bits"
+abbrev pub positive : Number → Answer ℤ
+positive No = refuses Refusal.NotInteger
+positive (Value n) = pick (leb n (2 ^ 31 - 1)) (gives (pos n)) (refuses Refusal.NotInteger)
+
+abbrev pub negative : Number → Answer ℤ
+negative No = refuses Refusal.NotInteger
+negative (Value n) = pick (leb n (2 ^ 31)) (gives (minus n)) (refuses Refusal.NotInteger)
+
+-- "Integers: optional sign, one or more digits, range of 32 bits, nothing trimmed."
+unfoldable pub integerOf : List ℕ → Answer ℤ
+unfolding number
+integerOf [] = refuses Refusal.NotInteger
+integerOf (b ∷ s) =
+    pick (eqb b 43) (positive (digitsOf s))
+    (pick (eqb b 45) (negative (digitsOf s))
+    (positive (digitsOf (b ∷ s))))
+
+-- "10 for a string": the text, where there is room for it
+unfoldable pub stringIn : ℕ → List ℕ → Answer (List ℕ)
+stringIn room text = pick (leb (length text) room) (gives text) (refuses Refusal.NoRoom)
+
+-- ---- from a body
+-- "9 after the rest"
+abbrev pub unlessIllFormed : {A : Type 0} → Bool → A → Answer A
+unlessIllFormed true a = refuses Refusal.IllFormed
+unlessIllFormed false a = gives a
+
+-- `take_text`: "1, 4; 6 to 9 as met; 9 after the rest"
+unfoldable pub scalarText : List ℕ → List ℕ → ℕ → Settings → ShapeDepth → Answer (List ℕ)
+unfolding opened textOf
+scalarText body table final settings depth =
+    onward (opened (isStrict settings depth) body table final) (λ (o : Opened).
+    onward (textOf (o .seen .failure) (o .root)) (unlessIllFormed (o .seen .illFormed)))
+
+-- "then 11 or 12", "10 for a string"
+unfoldable pub booleanReading : List ℕ → List ℕ → ℕ → Settings → ShapeDepth → Answer Bool
+unfolding scalarText booleanOf
+booleanReading body table final settings depth = onward (scalarText body table final settings depth) booleanOf
+
+unfoldable pub integerReading : List ℕ → List ℕ → ℕ → Settings → ShapeDepth → Answer ℤ
+unfolding scalarText integerOf
+integerReading body table final settings depth = onward (scalarText body table final settings depth) integerOf
+
+unfoldable pub stringReading : List ℕ → List ℕ → ℕ → Settings → ShapeDepth → ℕ → Answer (List ℕ)
+unfolding scalarText stringIn
+stringReading body table final settings depth room = onward (scalarText body table final settings depth) (stringIn room)
+
+-- ---- "Whole text (added, no Rust reference). 1, 9, 4, 6 (any element inside the root), 10, nothing written then."
+abbrev pub passing : {A : Type 0} → Drained → Answer A → Answer A
+passing Drained.Passes a = a
+passing Drained.Table a = refuses Refusal.Table
+passing (Drained.IllFormed row cause) a = refuses Refusal.IllFormed
+
+unfoldable pub wholeText : List ℕ → List ℕ → ℕ → ℕ → Answer (List ℕ)
+unfolding drained rootOf wholeOf stringIn
+wholeText body table final room =
+    passing (drained body table final)
+    (onward (present Refusal.NoRoot (rootOf (toksOf body (rowsOf table)))) (λ (c : Child). onward (wholeOf c) (stringIn room)))

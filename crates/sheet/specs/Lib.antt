@@ -1,0 +1,4 @@
+pub mod Settings
+pub mod Front
+pub mod Sheet
+pub mod Names
