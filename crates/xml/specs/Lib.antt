@@ -7,4 +7,6 @@ pub mod First
 pub mod Means
 pub mod Order
 pub mod Pass
+pub mod Past
+pub mod Again
 pub mod Examples
