@@ -9,4 +9,5 @@ pub mod Order
 pub mod Pass
 pub mod Past
 pub mod Again
+pub mod Closing
 pub mod Examples
