@@ -37,7 +37,7 @@ cut-cut body s n from len h i =
     ∙ ap (λ (x : ℕ). cut body x len) e₂
 
 -- a byte of a part
-get-cut : (body : List ℕ) (s n i : ℕ) → s ≤ i → i < s + n → getD (cut body s n) (i - s) 0 ≡ getD body i 0
+pub get-cut : (body : List ℕ) (s n i : ℕ) → s ≤ i → i < s + n → getD (cut body s n) (i - s) 0 ≡ getD body i 0
 get-cut body s n i h j =
     let e : s + (i - s) ≡ i = omega arith in
     getD-take n (drop s body) (i - s) 0 (omega arith) ∙ getD-drop s body (i - s) 0 ∙ ap (λ (x : ℕ). getD body x 0) e

@@ -1,7 +1,7 @@
 -- A part of the grammar does not depend on what follows it: the same rows with another rest are the same part.
-use Prim.Native.Nat.{ℕ, zero, suc, _+_}
+use Prim.Native.Nat.{ℕ, suc, _+_}
 use mathlib.Core.Path.{_≡_, refl}
-use mathlib.Core.List.{List, [], _∷_, _++_}
+use mathlib.Core.List.{List, _∷_, _++_}
 use native.Mathlib.Omega.{arith}
 use lib.ListN.{length}
 use Rattle.table.specs.Row.{Name, Tok, start, attr, gt, close, slash, text, misc}

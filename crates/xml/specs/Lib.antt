@@ -10,4 +10,5 @@ pub mod Pass
 pub mod Past
 pub mod Again
 pub mod Closing
+pub mod Piece
 pub mod Examples

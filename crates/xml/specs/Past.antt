@@ -6,7 +6,7 @@ use native.Mathlib.Numerals.{add-one}
 use native.Mathlib.Omega.{arith}
 use lib.ListN.{length, drop}
 use lib.Seq.{drop-drop}
-use Rattle.table.specs.Row.{Name, Tok, start, attr, gt, close, slash, text, misc}
+use Rattle.table.specs.Row.{Name, Tok, start, gt}
 use Rattle.xml.specs.Grammar.{Attributes, no-attribute, attribute, Element, empty-element, full-element, Content, no-content, chars, other, child, Miscs, no-misc, one-misc}
 
 unfoldable pub pastAttributes : {s : List Name} {l r : List Tok} → Attributes s l r → ℕ → ℕ
