@@ -1,4 +1,5 @@
--- An element of a table as a table of its own: its rows, counted from its first byte, with the piece as body and its length as final position, obey the rules.
+-- An element of a table as a table of its own: its rows, counted from its first byte, with the piece as body and its length as final position, obey the rules
+-- and stand for the same tokens.
 use Prim.Native.Nat.{ℕ, zero, suc, _+_, _-_, _≤_, _<_}
 use mathlib.Core.Path.{_≡_, refl, sym, ap, _∙_}
 use mathlib.Core.Bool.{Bool, true, false}
@@ -71,17 +72,18 @@ closed-ends {body} n (row {p} {r} {rest} o t) e = go (eqb (r .kind) 1) (among (4
     go false true false q e ih = ih (n - 1) e
     go false false c q e ih = ih n e
 
--- ---- the theorem
-element-is : (rows : List Row) (k : ℕ) {first : Row} {rest : List Row} → drop k rows ≡ first ∷ rest → first .kind ≡ 1 → elementRows rows k ≡ first ∷ take (closing 1 rest) rest
+-- ---- the theorems
+-- the rows of an element: its start row first
+pub element-is : (rows : List Row) (k : ℕ) {first : Row} {rest : List Row} → drop k rows ≡ first ∷ rest → first .kind ≡ 1 → elementRows rows k ≡ first ∷ take (closing 1 rest) rest
 unfolding closing
 element-is rows k {first} {rest} e one = rw (e, one)
 
--- where an element begins and ends in the body, and with which bytes
-record Bounds (body : List ℕ) (from end : ℕ) : Type 0 where
-  rises : from < end
-  within : end ≤ length body
-  lt : getD body from 0 ≡ 60
-  gt : getD body (end - 1) 0 ≡ 62
+-- where an element begins and ends in the body, and with which bytes: `<` and `>`
+pub record Bounds (body : List ℕ) (from end : ℕ) : Type 0 where
+  pub rises : from < end
+  pub within : end ≤ length body
+  pub lt : getD body from 0 ≡ 60
+  pub gt : getD body (end - 1) 0 ≡ 62
 
 bounds : {body : List ℕ} {p : Place} {r : Row} {rest : List Row} → EachRow body p (r ∷ rest) → r .kind ≡ 1 → isClosed 1 rest ≡ true → lastPosition (r .position) rest ≤ length body
     → Bounds body (beginOf body r) (lastPosition (r .position) (take (closing 1 rest) rest))
@@ -95,40 +97,80 @@ bounds {rest = rest} (row o t) one e u =
       gt = closed-ends 1 t e;
     }
 
--- the table of an element: its rows, its bytes and its final position obey the rules
-pub piece-rules : {body : List ℕ} {rows : List Row} {final k place : ℕ} → Rules body rows final → ElementAt body rows k place
-    → Rules (pieceBytes body (elementRows rows k)) (pieceRows body (elementRows rows k)) (pieceFinal body (elementRows rows k))
-piece-rules {body} {rows} {final} {k} g a =
-    rw (element-is rows k (a .cut-at) (a .starts))
-    (record {
-      fewRows = omega (arith, length-taken s (closing 1 (a .rest)) (a .rest), ap length (a .cut-at), length-dropped k rows, g .fewRows);
-      fewBytes = omega (arith, long, g .fewBytes, b .within);
-      utf8 = λ h. utf8-part body s l (b .rises) (b .within) (rw (b .lt) (lit< tt)) (rw (b .gt) (lit< tt)) (g .utf8 some);
-      ends = omega (arith, long, rw zero-is at (last-moved s s (a .first ∷ take (closing 1 (a .rest)) (a .rest))));
-      within = omega arith;
-      each = element-rows body (l - s) (each .1) (a .starts) (omega (arith, b .rises));
-    })
-  where
-    each : (p : Place) × EachRow body p (a .first ∷ a .rest)
-    each = let x = each-drop k (g .each) in (x .0, rw (a .cut-at) at (x .1))
+-- a start row obeys the rules of rows from its own `<` on
+from-begin : {body : List ℕ} {p : Place} {r : Row} {rest : List Row} → RowRules body p r rest → r .kind ≡ 1
+    → RowRules body (record { position = beginOf body r; inTag = p .inTag; opened = p .opened; rooted = p .rooted }) r rest
+from-begin {body} {p} {r} o one =
+    let b = o .tagBegins (rw one) in
+    let x = o .localStart (rw one) in
+    record {
+      knownKind = o .knownKind;
+      zeroFields = o .zeroFields;
+      positionRises = omega (arith, b .before, x .1);
+      filledSpans = record {
+        prefix = λ h. (omega (arith, b .prefix h), o .filledSpans .prefix h .1);
+        local = λ h. (omega (arith, b .before), o .filledSpans .local h .1);
+        value = λ h. absurd (omega (arith, o .zeroFields .value (rw one)));
+      };
+      localStart = λ e. (omega (arith, b .before), x .1);
+      tagBegins = λ e. record { is = b .is; before = b .before; late = omega arith; prefix = b .prefix };
+      ending = o .ending;
+      tagOrder = record { inside = o .tagOrder .inside; outside = o .tagOrder .outside };
+      needsOpen = o .needsOpen;
+      afterRoot = o .afterRoot;
+      errorLast = o .errorLast;
+      openLimit = o .openLimit;
+    }
 
-    far : lastPosition (a .first .position) (a .rest) ≤ length body
-    far = omega (arith, rw (a .cut-at) at (last-drop k (g .each) 0 (omega arith)), g .ends, g .within)
+-- the rows of an element stand for the same tokens over any piece that begins with it and holds it
+element-toks : (body : List ℕ) (n c : ℕ) {p : Place} {r : Row} {rest : List Row} → EachRow body p (r ∷ rest) → r .kind ≡ 1
+    → lastPosition (r .position) (take c rest) ≤ beginOf body r + n
+    → toksOf (cut body (beginOf body r) n) (map (moved (beginOf body r)) (r ∷ take c rest)) ≡ toksOf body (r ∷ take c rest)
+element-toks body n c {r = r} (row o t) one u = moved-toks body (beginOf body r) n (suc c) (row (from-begin o one) t) (omega arith) u
 
-    s : ℕ
-    s = beginOf body (a .first)
+-- an element of a table that obeys the rules
+module _ {body : List ℕ} {rows : List Row} {final k place : ℕ} (g : Rules body rows final) (a : ElementAt body rows k place) where
+  each : (p : Place) × EachRow body p (a .first ∷ a .rest)
+  each = let x = each-drop k (g .each) in (x .0, rw (a .cut-at) at (x .1))
 
-    l : ℕ
-    l = lastPosition (a .first .position) (take (closing 1 (a .rest)) (a .rest))
+  far : lastPosition (a .first .position) (a .rest) ≤ length body
+  far = omega (arith, rw (a .cut-at) at (last-drop k (g .each) 0 (omega arith)), g .ends, g .within)
 
-    b : Bounds body s l
-    b = bounds (each .1) (a .starts) (a .closes) far
+  abbrev begin : ℕ
+  begin = beginOf body (a .first)
 
-    long : length (cut body s (l - s)) ≡ l - s
-    long = length-cut body s (l - s) (omega (arith, b .rises, b .within))
+  abbrev end : ℕ
+  end = lastPosition (a .first .position) (take (closing 1 (a .rest)) (a .rest))
 
-    zero-is : s - s ≡ 0
-    zero-is = omega arith
+  bytes : Bounds body begin end
+  bytes = bounds (each .1) (a .starts) (a .closes) far
 
-    some : 0 < length rows
-    some = omega (arith, ap length (a .cut-at), length-dropped k rows)
+  -- it runs from a `<` to a `>` of the body
+  pub piece-bounds : Bounds body place (lastPosition 0 (elementRows rows k))
+  piece-bounds = rw (element-is rows k (a .cut-at) (a .starts), ← a .begins) bytes
+
+  -- its table: its rows, its bytes and its final position obey the rules
+  pub piece-rules : Rules (pieceBytes body (elementRows rows k)) (pieceRows body (elementRows rows k)) (pieceFinal body (elementRows rows k))
+  piece-rules =
+      rw (element-is rows k (a .cut-at) (a .starts))
+      (record {
+        fewRows = omega (arith, length-taken begin (closing 1 (a .rest)) (a .rest), ap length (a .cut-at), length-dropped k rows, g .fewRows);
+        fewBytes = omega (arith, long, g .fewBytes, bytes .within);
+        utf8 = λ h. utf8-part body begin end (bytes .rises) (bytes .within) (rw (bytes .lt) (lit< tt)) (rw (bytes .gt) (lit< tt)) (g .utf8 some);
+        ends = omega (arith, long, rw zero-is at (last-moved begin begin (a .first ∷ take (closing 1 (a .rest)) (a .rest))));
+        within = omega arith;
+        each = element-rows body (end - begin) (each .1) (a .starts) (omega (arith, bytes .rises));
+      })
+    where
+      long : length (cut body begin (end - begin)) ≡ end - begin
+      long = length-cut body begin (end - begin) (omega (arith, bytes .rises, bytes .within))
+
+      zero-is : begin - begin ≡ 0
+      zero-is = omega arith
+
+      some : 0 < length rows
+      some = omega (arith, ap length (a .cut-at), length-dropped k rows)
+
+  -- its rows, counted from its first byte, stand for the same tokens over the piece
+  pub piece-toks : toksOf (pieceBytes body (elementRows rows k)) (pieceRows body (elementRows rows k)) ≡ toksOf body (elementRows rows k)
+  piece-toks = rw (element-is rows k (a .cut-at) (a .starts)) (element-toks body (end - begin) (closing 1 (a .rest)) (each .1) (a .starts) (omega (arith, bytes .rises)))

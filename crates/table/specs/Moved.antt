@@ -14,7 +14,6 @@ use Rattle.lists.specs.Tests.{pick, pick-same, false-true}
 use Rattle.table.specs.Row.{Row, Name, Tok, cut, nameOf, valueOf, tokAs, tokOf, toksOf}
 use Rattle.table.specs.Rules.{among, usesName, usesValue, Place, atFirst, after, KnownKind, ZeroFields, FilledSpan, FilledSpans, LocalStart, lastLt, beginOf, LastLt, EndsIn, Ending, TagOrder, RowRules, EachRow, none, row, lastPosition}
 use Rattle.table.specs.Piece.{movedSpan, moved, closing, elementRows, pieceStart}
-use Rattle.table.specs.Flat.{last-high}
 
 -- ---- parts of a body
 -- dropping some of a front
@@ -38,7 +37,7 @@ cut-cut body s n from len h i =
     ∙ ap (λ (x : ℕ). cut body x len) e₂
 
 -- a byte of a part
-get-cut : (body : List ℕ) (s n i : ℕ) → s ≤ i → i < s + n → getD (cut body s n) (i - s) 0 ≡ getD body i 0
+pub get-cut : (body : List ℕ) (s n i : ℕ) → s ≤ i → i < s + n → getD (cut body s n) (i - s) 0 ≡ getD body i 0
 get-cut body s n i h j =
     let e : s + (i - s) ≡ i = omega arith in
     getD-take n (drop s body) (i - s) 0 (omega arith) ∙ getD-drop s body (i - s) 0 ∙ ap (λ (x : ℕ). getD body x 0) e
@@ -100,12 +99,19 @@ module _ (body : List ℕ) (s n : ℕ) {p : Place} {r : Row} {rest : List Row} (
       })
       (cut-moved body s n (p .position) (r .position) (r .valueStart) (r .valueLen) h u (o .filledSpans .value))
 
--- the tokens of a piece are those of the table
-pub moved-toks : (body : List ℕ) (s n : ℕ) {p : Place} {rows : List Row} → EachRow body p rows → s ≤ p .position → lastPosition (p .position) rows ≤ s + n
-    → toksOf (cut body s n) (map (moved s) rows) ≡ toksOf body rows
-moved-toks body s n none h u = refl
-moved-toks body s n (row o t) h u =
-    rw (moved-tok body s n o h (omega (arith, last-high t)), moved-toks body s n t (omega (arith, o .positionRises)) u)
+-- positions never fall in a front of the rows
+pub last-taken : {body : List ℕ} {p : Place} {rows : List Row} → EachRow body p rows → (c : ℕ) → p .position ≤ lastPosition (p .position) (take c rows)
+last-taken t zero = omega arith
+last-taken none (suc c) = omega arith
+last-taken (row o t) (suc c) = let x = last-taken t c in omega (arith, o .positionRises)
+
+-- the first c rows, in a piece that holds them, stand for the same tokens as in the body
+pub moved-toks : (body : List ℕ) (s n c : ℕ) {p : Place} {rows : List Row} → EachRow body p rows → s ≤ p .position → lastPosition (p .position) (take c rows) ≤ s + n
+    → toksOf (cut body s n) (map (moved s) (take c rows)) ≡ toksOf body (take c rows)
+moved-toks body s n zero t h u = refl
+moved-toks body s n (suc c) none h u = refl
+moved-toks body s n (suc c) (row o t) h u =
+    rw (moved-tok body s n o h (omega (arith, last-taken t c)), moved-toks body s n c t (omega (arith, o .positionRises)) u)
 
 -- ---- the rules of a row that is moved
 -- where it stands in a piece that begins at s, in an element around which d are open
@@ -254,11 +260,6 @@ none-later : (s c : ℕ) (l : List Row) → length l ≡ 0 → length (map (move
 none-later s zero l e = refl
 none-later s (suc c) [] e = refl
 none-later s (suc c) (r ∷ l) e = absurd (omega arith)
-
-pub last-taken : {body : List ℕ} {p : Place} {rows : List Row} → EachRow body p rows → (c : ℕ) → p .position ≤ lastPosition (p .position) (take c rows)
-last-taken t zero = omega arith
-last-taken none (suc c) = omega arith
-last-taken (row o t) (suc c) = let x = last-taken t c in omega (arith, o .positionRises)
 
 left-open : (x d : ℕ) → (x - d ≡ 0 → ⊥) → d < x
 left-open x d f = go (leb x d) refl

@@ -7,4 +7,8 @@ pub mod First
 pub mod Means
 pub mod Order
 pub mod Pass
+pub mod Past
+pub mod Again
+pub mod Closing
+pub mod Piece
 pub mod Examples
