@@ -3,3 +3,5 @@ pub mod View
 pub mod Reader
 pub mod Scope
 pub mod Text
+pub mod Met
+pub mod Passing
