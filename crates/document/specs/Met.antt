@@ -219,3 +219,11 @@ children-are e d k = level-in dropping dropping-past e d k
 pub after-children-past : PastElements afterChildren
 unfolding afterChildren
 after-children-past = record { after = λ e d k. rw (level-end dropping dropping-past e d k) }
+
+-- one or the other, by any test of the child
+pick-either : (t : Bool) {a b r : Reader} → a ≡ r → b ≡ r → pick t a b ≡ r
+pick-either true e f = e
+pick-either false e f = f
+
+pub either-past : (test : Child → Bool) (past past' : Child → Reader) → PastElements past → PastElements past' → PastElements (λ c. pick (test c) (past c) (past' c))
+either-past test past past' f g = record { after = λ e d k. pick-either (test (asChild e d k)) (f .after e d k) (g .after e d k) }

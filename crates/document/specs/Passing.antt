@@ -97,7 +97,7 @@ text-met c (met (full-element n a x) d k h) =
     rw (with-name a (begun blank n d k), with-depth a (begun blank n d k), with-closed a (begun blank n d k)) (first-content d n x)
 
 -- ---- pieces
-element-row : {l r : List Tok} (e : Element l r) (d : Depth) (k : ℕ) → asChild e d k .start .row ≡ k
+pub element-row : {l r : List Tok} (e : Element l r) (d : Depth) (k : ℕ) → asChild e d k .start .row ≡ k
 unfolding asChild
 element-row (empty-element n a) d k = with-row a (begun blank n d k)
 element-row (full-element n a c) d k = with-row a (begun blank n d k)

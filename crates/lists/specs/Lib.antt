@@ -4,3 +4,4 @@ pub mod Parts
 pub mod Overwrite
 pub mod Find
 pub mod Decide
+pub mod Every

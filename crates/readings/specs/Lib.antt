@@ -4,3 +4,6 @@ pub mod Structure
 pub mod Collection
 pub mod Scalar
 pub mod Find
+pub mod Promise
+pub mod Keeps
+pub mod Demand

@@ -74,31 +74,47 @@ write room entry bytes out =
     (finished (record { entries = out .entries ++ entry (length (out .texts)) ∷ []; texts = out .texts ++ bytes }))
     (refused Refusal.NoRoom out)
 
+-- ---- the entries of each kind, made with the place where their bytes begin in the text buffer
 -- an entry outside maps
 abbrev pub plain : ℕ → ℕ → ℕ → ℕ → Entry
 plain kind member start len = record { kind = kind; member = member; keyStart = 0; keyLen = 0; start = start; len = len }
 
-abbrev pub writeText : Room → ℕ → List ℕ → Output → Reading
-writeText room member bytes = write room (λ at. plain textKind member at (length bytes)) bytes
+abbrev pub textEntry : ℕ → List ℕ → ℕ → Entry
+textEntry member bytes at = plain textKind member at (length bytes)
 
-abbrev pub writePiece : Room → ℕ → Piece → Output → Reading
-writePiece room member piece = write room (λ at. plain pieceKind member (piece .start) (piece .len)) []
+abbrev pub pieceEntry : ℕ → Piece → ℕ → Entry
+pieceEntry member piece at = plain pieceKind member (piece .start) (piece .len)
 
-abbrev pub writeGroup : Room → ℕ → List ℕ → Output → Reading
-writeGroup room member bytes = write room (λ at. plain groupKind member at (length bytes)) bytes
+abbrev pub groupEntry : ℕ → List ℕ → ℕ → Entry
+groupEntry member bytes at = plain groupKind member at (length bytes)
 
-abbrev pub writeFailed : Room → ℕ → Refusal → Output → Reading
-writeFailed room member refusal = write room (λ at. plain failedKind member (number refusal) 0) []
+abbrev pub failedEntry : ℕ → Refusal → ℕ → Entry
+failedEntry member refusal at = plain failedKind member (number refusal) 0
 
 -- a map entry: "A map writes the key before the value."
+abbrev pub keyTextEntry : List ℕ → List ℕ → ℕ → Entry
+keyTextEntry key bytes at =
+    record { kind = textKind; member = 0; keyStart = at; keyLen = length key; start = at + length key; len = length bytes }
+
+abbrev pub keyPieceEntry : List ℕ → Piece → ℕ → Entry
+keyPieceEntry key piece at =
+    record { kind = pieceKind; member = 0; keyStart = at; keyLen = length key; start = piece .start; len = piece .len }
+
+-- ---- writing them
+abbrev pub writeText : Room → ℕ → List ℕ → Output → Reading
+writeText room member bytes = write room (textEntry member bytes) bytes
+
+abbrev pub writePiece : Room → ℕ → Piece → Output → Reading
+writePiece room member piece = write room (pieceEntry member piece) []
+
+abbrev pub writeGroup : Room → ℕ → List ℕ → Output → Reading
+writeGroup room member bytes = write room (groupEntry member bytes) bytes
+
+abbrev pub writeFailed : Room → ℕ → Refusal → Output → Reading
+writeFailed room member refusal = write room (failedEntry member refusal) []
+
 abbrev pub writeKeyText : Room → List ℕ → List ℕ → Output → Reading
-writeKeyText room key bytes =
-    write room
-    (λ at. record { kind = textKind; member = 0; keyStart = at; keyLen = length key; start = at + length key; len = length bytes })
-    (key ++ bytes)
+writeKeyText room key bytes = write room (keyTextEntry key bytes) (key ++ bytes)
 
 abbrev pub writeKeyPiece : Room → List ℕ → Piece → Output → Reading
-writeKeyPiece room key piece =
-    write room
-    (λ at. record { kind = pieceKind; member = 0; keyStart = at; keyLen = length key; start = piece .start; len = piece .len })
-    key
+writeKeyPiece room key piece = write room (keyPieceEntry key piece) key
