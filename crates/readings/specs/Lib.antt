@@ -7,3 +7,6 @@ pub mod Find
 pub mod Promise
 pub mod Keeps
 pub mod Demand
+pub mod All
+pub mod Edges
+pub mod Worked

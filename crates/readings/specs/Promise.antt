@@ -65,3 +65,8 @@ pub record AllHanded (body table : List ℕ) (out : Output) : Type 0 where
 pub data Promised (body table : List ℕ) : Reading → Type 0 where
   finishes : {out : Output} → AllHanded body table out → Promised body table (finished out)
   refuses : {r : Refusal} {out : Output} → MayRefuse r → AllHanded body table out → Promised body table (refused r out)
+
+-- of what was written, however the reading ended
+pub promised-output : {body table : List ℕ} {r : Reading} → Promised body table r → AllHanded body table (output r)
+promised-output (finishes a) = a
+promised-output (refuses m a) = a

@@ -5,6 +5,7 @@ use mathlib.Core.Path.{_≡_, refl, sym, ap, _∙_}
 use mathlib.Core.Bool.{Bool, true, false}
 use mathlib.Core.List.{List, [], _∷_, map}
 use native.Mathlib.Omega.{arith}
+use borrow.Author.Tests.{eqb-true, eqb-false}
 use lib.Dec.{eqb, lit<}
 use lib.ListN.{length, take, drop, getD}
 use Rattle.lists.specs.Tests.{pick, false-true}
@@ -12,7 +13,7 @@ use Rattle.utf8.specs.Table.{isUtf8}
 use Rattle.utf8.specs.Cut.{utf8-part}
 use Rattle.table.specs.Row.{Row, cut, toksOf}
 use Rattle.table.specs.Rules.{among, Place, atFirst, after, beginOf, RowRules, EachRow, none, row, lastPosition, Rules}
-use Rattle.table.specs.Piece.{moved, closing, isClosed, elementRows, pieceStart, pieceBytes, pieceRows, pieceFinal, ElementAt}
+use Rattle.table.specs.Piece.{moved, openAfter, closing, isClosed, elementRows, pieceStart, pieceBytes, pieceRows, pieceFinal, ElementAt}
 use Rattle.table.specs.Flat.{last-high}
 use Rattle.table.specs.Moved.{length-cut, moved-toks, element-rows, last-taken}
 
@@ -58,19 +59,30 @@ close-ends k = go (eqb k 3) (eqb k 4) (eqb k 5)
     go true b c e = refl
     go false b c e = e
 
-closed-ends : {body : List ℕ} (n : ℕ) {p : Place} {rows : List Row} → EachRow body p rows → isClosed n rows ≡ true → getD body (lastPosition (p .position) (take (closing n rows) rows) - 1) 0 ≡ 62
-unfolding closing isClosed
-closed-ends n none e = false-true e
-closed-ends {body} n (row {p} {r} {rest} o t) e = go (eqb (r .kind) 1) (among (4 ∷ 5 ∷ []) (r .kind)) (eqb n 1) refl e (λ m. closed-ends m t)
+positive : (m : ℕ) → (m ≡ 0 → ⊥) → 0 < m
+positive zero f = absurd (f refl)
+positive (suc m) f = omega arith
+
+-- a row after which none is open, and some were before it, is of kind 4 or 5
+closes-is : (n : ℕ) (r : Row) → 0 < n → openAfter n r ≡ 0 → among (4 ∷ 5 ∷ []) (r .kind) ≡ true
+closes-is n r h = go (eqb (r .kind) 1) (among (4 ∷ 5 ∷ []) (r .kind))
   where
-    go : (a b c : Bool) → among (4 ∷ 5 ∷ []) (r .kind) ≡ b
-        → pick a (isClosed (suc n) rest) (pick b (pick c true (isClosed (n - 1) rest)) (isClosed n rest)) ≡ true
-        → ((m : ℕ) → isClosed m rest ≡ true → getD body (lastPosition (r .position) (take (closing m rest) rest) - 1) 0 ≡ 62)
-        → getD body (lastPosition (p .position) (take (pick a (suc (closing (suc n) rest)) (pick b (pick c 1 (suc (closing (n - 1) rest))) (suc (closing n rest)))) (r ∷ rest)) - 1) 0 ≡ 62
-    go true b c q e ih = ih (suc n) e
-    go false true true q e ih = o .ending .gt (close-ends (r .kind) q) .1
-    go false true false q e ih = ih (n - 1) e
-    go false false c q e ih = ih n e
+    go : (a b : Bool) → pick a (suc n) (pick b (n - 1) n) ≡ 0 → b ≡ true
+    go true b e = absurd (omega arith)
+    go false true e = refl
+    go false false e = absurd (omega arith)
+
+closed-ends : {body : List ℕ} (n : ℕ) {p : Place} {rows : List Row} → 0 < n → EachRow body p rows → isClosed n rows ≡ true
+    → getD body (lastPosition (p .position) (take (closing n rows) rows) - 1) 0 ≡ 62
+unfolding closing isClosed
+closed-ends n h none e = false-true e
+closed-ends {body} n h (row {p} {r} {rest} o t) e = go (eqb (openAfter n r) 0) refl e (λ m l. closed-ends m l t)
+  where
+    go : (c : Bool) → eqb (openAfter n r) 0 ≡ c → pick c true (isClosed (openAfter n r) rest) ≡ true
+        → ((m : ℕ) → 0 < m → isClosed m rest ≡ true → getD body (lastPosition (r .position) (take (closing m rest) rest) - 1) 0 ≡ 62)
+        → getD body (lastPosition (p .position) (take (suc (pick c 0 (closing (openAfter n r) rest))) (r ∷ rest)) - 1) 0 ≡ 62
+    go true q e ih = o .ending .gt (close-ends (r .kind) (closes-is n r h (eqb-true (openAfter n r) 0 q))) .1
+    go false q e ih = let some : openAfter n r ≡ 0 → ⊥ = eqb-false (openAfter n r) 0 q in ih (openAfter n r) (positive (openAfter n r) some) e
 
 -- ---- the theorems
 -- the rows of an element: its start row first
@@ -94,7 +106,7 @@ bounds {rest = rest} (row o t) one e u =
       rises = omega (arith, b .before, x .1, last-taken t (closing 1 rest));
       within = omega (arith, each-take (closing 1 rest) t);
       lt = b .is;
-      gt = closed-ends 1 t e;
+      gt = closed-ends 1 (omega arith) t e;
     }
 
 -- a start row obeys the rules of rows from its own `<` on

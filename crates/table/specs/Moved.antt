@@ -13,7 +13,7 @@ use lib.Seq.{drop-drop, take-take, getD-take, getD-drop}
 use Rattle.lists.specs.Tests.{pick, pick-same, false-true}
 use Rattle.table.specs.Row.{Row, Name, Tok, cut, nameOf, valueOf, tokAs, tokOf, toksOf}
 use Rattle.table.specs.Rules.{among, usesName, usesValue, Place, atFirst, after, KnownKind, ZeroFields, FilledSpan, FilledSpans, LocalStart, lastLt, beginOf, LastLt, EndsIn, Ending, TagOrder, RowRules, EachRow, none, row, lastPosition}
-use Rattle.table.specs.Piece.{movedSpan, moved, closing, elementRows, pieceStart}
+use Rattle.table.specs.Piece.{openAfter, movedSpan, moved, closing, elementRows, pieceStart}
 
 -- ---- parts of a body
 -- dropping some of a front
@@ -219,42 +219,23 @@ module _ (body : List ℕ) (s n d : ℕ) {p : Place} {r : Row} {rest : List Row}
       }
 
 -- ---- the rows of an element
--- one row of it: its closing row is the first after which nothing of it is open
-closing-step : (d : ℕ) (p : Place) (r : Row) (rest : List Row) → d < p .opened
-    → closing (p .opened - d) (r ∷ rest) ≡ suc (pick (eqb (after p r .opened - d) 0) 0 (closing (after p r .opened - d) rest))
-unfolding closing
-closing-step d p r rest h = go (eqb (r .kind) 1) (among (4 ∷ 5 ∷ []) (r .kind)) (eqb (p .opened - d) 1) refl
+-- counted without the d that are open around it
+open-less : (d : ℕ) (p : Place) (r : Row) → d < p .opened → openAfter (p .opened - d) r ≡ after p r .opened - d
+open-less d p r h = go (eqb (r .kind) 1) (among (4 ∷ 5 ∷ []) (r .kind))
   where
-    more : (m : ℕ) → 0 < m → (m ≡ 1 → ⊥) → m - 1 ≡ 0 → ⊥
-    more m l f q = f (omega arith)
-
-    go : (a b c : Bool) → eqb (p .opened - d) 1 ≡ c
-        → pick a (suc (closing (suc (p .opened - d)) rest)) (pick b (pick c 1 (suc (closing (p .opened - d - 1) rest))) (suc (closing (p .opened - d) rest)))
-        ≡ suc (pick (eqb (pick a (suc (p .opened)) (pick b (p .opened - 1) (p .opened)) - d) 0) 0 (closing (pick a (suc (p .opened)) (pick b (p .opened - 1) (p .opened)) - d) rest))
-    go true b c e =
-        let z : suc (p .opened) - d ≡ suc (p .opened - d) = omega arith in
-        rw (z, ne-eqb (suc (p .opened - d)) 0 (λ q. omega arith))
-    go false true true e =
-        let z : p .opened - 1 - d ≡ 0 = omega (arith, eqb-true (p .opened - d) 1 e) in
-        rw z
-    go false true false e =
-        let z : p .opened - 1 - d ≡ p .opened - d - 1 = omega arith in
-        rw (z, ne-eqb (p .opened - d - 1) 0 (more (p .opened - d) (omega arith) (eqb-false (p .opened - d) 1 e)))
-    go false false c e = rw (ne-eqb (p .opened - d) 0 (λ q. omega arith))
+    go : (a b : Bool) → pick a (suc (p .opened - d)) (pick b (p .opened - d - 1) (p .opened - d)) ≡ pick a (suc (p .opened)) (pick b (p .opened - 1) (p .opened)) - d
+    go true b = omega arith
+    go false true = omega arith
+    go false false = refl
 
 placed-after : (s d : ℕ) (p : Place) (r : Row) → d < p .opened → after (placed s d p) (moved s r) ≡ placed s d (after p r)
 placed-after s d p r h =
     λ i. record {
       position = r .position - s;
       inTag = pick (eqb (r .kind) 1) true (pick (among (3 ∷ 5 ∷ []) (r .kind)) false (p .inTag));
-      opened = open-is (eqb (r .kind) 1) (among (4 ∷ 5 ∷ []) (r .kind)) i;
+      opened = open-less d p r h i;
       rooted = pick-same (eqb (r .kind) 1) true i;
     }
-  where
-    open-is : (a b : Bool) → pick a (suc (p .opened - d)) (pick b (p .opened - d - 1) (p .opened - d)) ≡ pick a (suc (p .opened)) (pick b (p .opened - 1) (p .opened)) - d
-    open-is true b = omega arith
-    open-is false true = omega arith
-    open-is false false = refl
 
 none-later : (s c : ℕ) (l : List Row) → length l ≡ 0 → length (map (moved s) (take c l)) ≡ 0
 none-later s zero l e = refl
@@ -274,11 +255,10 @@ later-rows : (body : List ℕ) (s n d : ℕ) {p : Place} {rows : List Row} → E
     → EachRow (cut body s n) (placed s d p) (map (moved s) (take (closing (p .opened - d) rows) rows))
 unfolding closing
 later-rows body s n d none h g l u = none
-later-rows body s n d (row {p} {r} {rest} o t) h g l u = rw e (go (eqb (after p r .opened - d) 0) refl (rw e at u) (later-rows body s n d t (omega (arith, o .positionRises)) g))
+later-rows body s n d (row {p} {r} {rest} o t) h g l u =
+    let e = open-less d p r l in
+    rw e (go (eqb (after p r .opened - d) 0) refl (rw e at u) (later-rows body s n d t (omega (arith, o .positionRises)) g))
   where
-    e : closing (p .opened - d) (r ∷ rest) ≡ suc (pick (eqb (after p r .opened - d) 0) 0 (closing (after p r .opened - d) rest))
-    e = closing-step d p r rest l
-
     go : (b : Bool) → eqb (after p r .opened - d) 0 ≡ b
         → lastPosition (r .position) (take (pick b 0 (closing (after p r .opened - d) rest)) rest) ≤ s + n
         → (d < after p r .opened → lastPosition (r .position) (take (closing (after p r .opened - d) rest) rest) ≤ s + n

@@ -29,22 +29,26 @@ moved s r =
       position = r .position - s;
     }
 
--- "the row that closes it, kind 4 or 5": how many rows there are up to and with it, where n elements are open, the element itself among them
--- (0 before its start row); all rows where none closes it
+-- how many elements are open after a row, where n are before it: a start row opens one, kinds 4 and 5 close one
+abbrev pub openAfter : ℕ → Row → ℕ
+openAfter n r = pick (eqb (r .kind) 1) (suc n) (pick (among (4 ∷ 5 ∷ []) (r .kind)) (n - 1) n)
+
+-- "the row that closes it, kind 4 or 5": how many rows there are up to and with the first after which none is open, where n elements are open, the element
+-- itself among them (0 before its start row); all rows where none closes it
 unfoldable pub closing : ℕ → List Row → ℕ
 closing n [] = zero
 closing n (r ∷ rest) =
-    pick (eqb (r .kind) 1) (suc (closing (suc n) rest))
-    (pick (among (4 ∷ 5 ∷ []) (r .kind)) (pick (eqb n 1) 1 (suc (closing (n - 1) rest)))
-    (suc (closing n rest)))
+    let m = openAfter n r in
+    let more = closing m rest in
+    suc (pick (eqb m 0) 0 more)
 
 -- whether a row closes it
 unfoldable pub isClosed : ℕ → List Row → Bool
 isClosed n [] = false
 isClosed n (r ∷ rest) =
-    pick (eqb (r .kind) 1) (isClosed (suc n) rest)
-    (pick (among (4 ∷ 5 ∷ []) (r .kind)) (pick (eqb n 1) true (isClosed (n - 1) rest))
-    (isClosed n rest))
+    let m = openAfter n r in
+    let more = isClosed m rest in
+    pick (eqb m 0) true more
 
 -- "Its rows run from its start row to that closing row": of the element that starts in row k, a kind 1 row
 abbrev pub elementRows : List Row → ℕ → List Row

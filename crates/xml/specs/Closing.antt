@@ -9,7 +9,7 @@ use lib.Dec.{eqb}
 use lib.ListN.{take, drop}
 use lib.Seq.{take-add, take-at}
 use Rattle.lists.specs.Tests.{pick, false-true}
-use Rattle.table.specs.Row.{Row, Name, Tok, start, attr, gt, close, slash, text, misc, bad, nameOf, valueOf, tokAs, toksOf}
+use Rattle.table.specs.Row.{Row, Name, Tok, start, attr, gt, close, slash, text, misc, bad, nameOf, valueOf, tokAs, tokOf, toksOf}
 use Rattle.table.specs.Rules.{among, lastPosition}
 use Rattle.table.specs.Piece.{closing, isClosed, elementRows, pieceStart, ElementAt}
 use Rattle.table.specs.Element.{element-is}
@@ -18,98 +18,76 @@ use Rattle.xml.specs.Past.{pastAttributes, pastElement, pastContent}
 use Rattle.xml.specs.Again.{againElement, same-element, append-element, length-element}
 
 -- ---- `closing` and `isClosed` by tokens
--- a token opens an element, or closes one
-abbrev opens : Tok → Bool
-opens (start n) = true
-opens (attr m v) = false
-opens gt = false
-opens (close n) = false
-opens slash = false
-opens (text v) = false
-opens misc = false
-opens bad = false
+-- one of two: where none is open, or where some are
+abbrev around : {A : Type 0} → ℕ → A → A → A
+around zero a b = a
+around (suc n) a b = b
 
-abbrev ends : Tok → Bool
-ends (start n) = false
-ends (attr m v) = false
-ends gt = false
-ends (close n) = true
-ends slash = true
-ends (text v) = false
-ends misc = false
-ends bad = false
+pick-around : {A : Type 0} (n : ℕ) (a b : A) → pick (eqb n 0) a b ≡ around n a b
+pick-around zero a b = refl
+pick-around (suc n) a b = rw (ne-eqb (suc n) 0 (λ q. omega arith))
+
+abbrev less : ℕ → ℕ
+less zero = zero
+less (suc n) = n
+
+less-is : (n : ℕ) → n - 1 ≡ less n
+less-is zero = refl
+less-is (suc n) = omega arith
+
+-- how many elements are open after a token
+abbrev openedAfter : ℕ → Tok → ℕ
+openedAfter n (start m) = suc n
+openedAfter n (attr m v) = n
+openedAfter n gt = n
+openedAfter n (close m) = less n
+openedAfter n slash = less n
+openedAfter n (text v) = n
+openedAfter n misc = n
+openedAfter n bad = n
 
 unfoldable closingAt : ℕ → List Tok → ℕ
 closingAt n [] = zero
-closingAt n (t ∷ l) =
-    pick (opens t) (suc (closingAt (suc n) l))
-    (pick (ends t) (pick (eqb n 1) 1 (suc (closingAt (n - 1) l)))
-    (suc (closingAt n l)))
+closingAt n (t ∷ l) = suc (around (openedAfter n t) 0 (closingAt (openedAfter n t) l))
 
 unfoldable closedAt : ℕ → List Tok → Bool
 closedAt n [] = false
-closedAt n (t ∷ l) =
-    pick (opens t) (closedAt (suc n) l)
-    (pick (ends t) (pick (eqb n 1) true (closedAt (n - 1) l))
-    (closedAt n l))
+closedAt n (t ∷ l) = around (openedAfter n t) true (closedAt (openedAfter n t) l)
 
-kind-opens : (k : ℕ) (n : Name) (v : List ℕ) → eqb k 1 ≡ opens (tokAs k n v)
+-- by the number of a row's kind and by its token
+opened-same : (n k : ℕ) (m : Name) (v : List ℕ) → pick (eqb k 1) (suc n) (pick (among (4 ∷ 5 ∷ []) k) (n - 1) n) ≡ openedAfter n (tokAs k m v)
 unfolding tokAs
-kind-opens zero n v = refl
-kind-opens (suc zero) n v = refl
-kind-opens (suc (suc zero)) n v = refl
-kind-opens (suc (suc (suc zero))) n v = refl
-kind-opens (suc (suc (suc (suc zero)))) n v = refl
-kind-opens (suc (suc (suc (suc (suc zero))))) n v = refl
-kind-opens (suc (suc (suc (suc (suc (suc zero)))))) n v = refl
-kind-opens (suc (suc (suc (suc (suc (suc (suc zero))))))) n v = refl
-kind-opens (suc (suc (suc (suc (suc (suc (suc (suc k)))))))) n v = ne-eqb (suc (suc (suc (suc (suc (suc (suc (suc k)))))))) 1 (λ q. omega arith)
-
-kind-ends : (k : ℕ) (n : Name) (v : List ℕ) → among (4 ∷ 5 ∷ []) k ≡ ends (tokAs k n v)
-unfolding tokAs
-kind-ends zero n v = refl
-kind-ends (suc zero) n v = refl
-kind-ends (suc (suc zero)) n v = refl
-kind-ends (suc (suc (suc zero))) n v = refl
-kind-ends (suc (suc (suc (suc zero)))) n v = refl
-kind-ends (suc (suc (suc (suc (suc zero))))) n v = refl
-kind-ends (suc (suc (suc (suc (suc (suc zero)))))) n v = refl
-kind-ends (suc (suc (suc (suc (suc (suc (suc zero))))))) n v = refl
-kind-ends (suc (suc (suc (suc (suc (suc (suc (suc k)))))))) n v = rw (ne-eqb (suc (suc (suc (suc (suc (suc (suc (suc k)))))))) 4 (λ q. omega arith), ne-eqb (suc (suc (suc (suc (suc (suc (suc (suc k)))))))) 5 (λ q. omega arith))
+opened-same n zero m v = refl
+opened-same n (suc zero) m v = refl
+opened-same n (suc (suc zero)) m v = refl
+opened-same n (suc (suc (suc zero))) m v = refl
+opened-same n (suc (suc (suc (suc zero)))) m v = less-is n
+opened-same n (suc (suc (suc (suc (suc zero))))) m v = less-is n
+opened-same n (suc (suc (suc (suc (suc (suc zero)))))) m v = refl
+opened-same n (suc (suc (suc (suc (suc (suc (suc zero))))))) m v = refl
+opened-same n (suc (suc (suc (suc (suc (suc (suc (suc k)))))))) m v =
+    let j = suc (suc (suc (suc (suc (suc (suc (suc k))))))) in
+    rw (ne-eqb j 1 (λ q. omega arith), ne-eqb j 4 (λ q. omega arith), ne-eqb j 5 (λ q. omega arith))
 
 closing-toks : (body : List ℕ) (n : ℕ) (rows : List Row) → closing n rows ≡ closingAt n (toksOf body rows)
 unfolding closing closingAt
 closing-toks body n [] = refl
 closing-toks body n (r ∷ rest) =
-    rw (kind-opens (r .kind) (nameOf body r) (valueOf body r), kind-ends (r .kind) (nameOf body r) (valueOf body r), closing-toks body (suc n) rest, closing-toks body (n - 1) rest, closing-toks body n rest)
+    rw (opened-same n (r .kind) (nameOf body r) (valueOf body r), closing-toks body (openedAfter n (tokOf body r)) rest, pick-around (openedAfter n (tokOf body r)))
 
 closed-toks : (body : List ℕ) (n : ℕ) (rows : List Row) → isClosed n rows ≡ closedAt n (toksOf body rows)
 unfolding isClosed closedAt
 closed-toks body n [] = refl
 closed-toks body n (r ∷ rest) =
-    rw (kind-opens (r .kind) (nameOf body r) (valueOf body r), kind-ends (r .kind) (nameOf body r) (valueOf body r), closed-toks body (suc n) rest, closed-toks body (n - 1) rest, closed-toks body n rest)
+    rw (opened-same n (r .kind) (nameOf body r) (valueOf body r), closed-toks body (openedAfter n (tokOf body r)) rest, pick-around (openedAfter n (tokOf body r)))
 
 -- ---- parts of the grammar, with n elements open around them: none is left open, and where n is 0 the element itself is the one that closes
--- one of two: where none is open around, or where some are
-abbrev around : {A : Type 0} → ℕ → A → A → A
-around zero a b = a
-around (suc n) a b = b
-
--- a token that closes the innermost of n + 1
-closing-end : (n : ℕ) (r : List Tok) → pick (eqb (suc n) 1) 1 (suc (closingAt (suc n - 1) r)) ≡ suc (around n 0 (closingAt n r))
-closing-end zero r = refl
-closing-end (suc n) r = let e : suc (suc n) - 1 ≡ suc n = omega arith in rw (e, ne-eqb (suc (suc n)) 1 (λ q. omega arith))
-
-closed-end : (n : ℕ) (r : List Tok) → pick (eqb (suc n) 1) true (closedAt (suc n - 1) r) ≡ around n true (closedAt n r)
-closed-end zero r = refl
-closed-end (suc n) r = let e : suc (suc n) - 1 ≡ suc n = omega arith in rw (e, ne-eqb (suc (suc n)) 1 (λ q. omega arith))
-
-closing-attributes : {s : List Name} {l r : List Tok} (a : Attributes s l r) (n k : ℕ) → k + closingAt n l ≡ pastAttributes a k + closingAt n r
+closing-attributes : {s : List Name} {l r : List Tok} (a : Attributes s l r) (n k : ℕ) → k + closingAt (suc n) l ≡ pastAttributes a k + closingAt (suc n) r
 unfolding closingAt pastAttributes
 closing-attributes no-attribute n k = refl
 closing-attributes (attribute f v a) n k = omega (arith, closing-attributes a n (suc k))
 
-closed-attributes : {s : List Name} {l r : List Tok} → Attributes s l r → (n : ℕ) → closedAt n l ≡ closedAt n r
+closed-attributes : {s : List Name} {l r : List Tok} → Attributes s l r → (n : ℕ) → closedAt (suc n) l ≡ closedAt (suc n) r
 unfolding closedAt
 closed-attributes no-attribute n = refl
 closed-attributes (attribute f v a) n = closed-attributes a n
@@ -118,9 +96,9 @@ mutual
   unfolding closingAt pastElement
 
   closing-element : {l r : List Tok} (e : Element l r) (n k : ℕ) → k + closingAt n l ≡ pastElement e k + around n 0 (closingAt n r)
-  closing-element (empty-element m {r = r} a) n k = omega (arith, closing-attributes a (suc n) (suc k), closing-end n r)
+  closing-element (empty-element m {r = r} a) n k = omega (arith, closing-attributes a n (suc k))
   closing-element (full-element m {r = r} a c) n k =
-      omega (arith, closing-attributes a (suc n) (suc k), closing-content c n (suc (pastAttributes a (suc k))), closing-end n r)
+      omega (arith, closing-attributes a n (suc k), closing-content c n (suc (pastAttributes a (suc k))))
 
   closing-content : {l r : List Tok} (c : Content l r) (n k : ℕ) → k + closingAt (suc n) l ≡ pastContent c k + closingAt (suc n) r
   closing-content no-content n k = refl
@@ -132,8 +110,8 @@ mutual
   unfolding closedAt
 
   closed-element : {l r : List Tok} → Element l r → (n : ℕ) → closedAt n l ≡ around n true (closedAt n r)
-  closed-element (empty-element m {r = r} a) n = closed-attributes a (suc n) ∙ closed-end n r
-  closed-element (full-element m {r = r} a c) n = closed-attributes a (suc n) ∙ closed-content c n ∙ closed-end n r
+  closed-element (empty-element m {r = r} a) n = closed-attributes a n
+  closed-element (full-element m {r = r} a c) n = closed-attributes a n ∙ closed-content c n
 
   closed-content : {l r : List Tok} → Content l r → (n : ℕ) → closedAt (suc n) l ≡ closedAt (suc n) r
   closed-content no-content n = refl
@@ -144,7 +122,20 @@ mutual
 -- ---- an element in row k
 abbrev starts : List Tok → Bool
 starts [] = false
-starts (t ∷ l) = opens t
+starts (t ∷ l) = eqb (openedAfter 0 t) 1
+
+-- only a token of kind 1 opens an element
+starts-one : (k : ℕ) (m : Name) (v : List ℕ) → eqb (openedAfter 0 (tokAs k m v)) 1 ≡ true → k ≡ 1
+unfolding tokAs
+starts-one zero m v o = false-true o
+starts-one (suc zero) m v o = refl
+starts-one (suc (suc zero)) m v o = false-true o
+starts-one (suc (suc (suc zero))) m v o = false-true o
+starts-one (suc (suc (suc (suc zero)))) m v o = false-true o
+starts-one (suc (suc (suc (suc (suc zero))))) m v o = false-true o
+starts-one (suc (suc (suc (suc (suc (suc zero)))))) m v o = false-true o
+starts-one (suc (suc (suc (suc (suc (suc (suc zero))))))) m v o = false-true o
+starts-one (suc (suc (suc (suc (suc (suc (suc (suc k)))))))) m v o = false-true o
 
 element-starts : {l r : List Tok} → Element l r → starts l ≡ true
 element-starts (empty-element n a) = refl
@@ -184,7 +175,7 @@ module _ (body : List ℕ) (rows : List Row) {l r : List Tok} (e : Element l r) 
       go : (d : List Row) → drop k rows ≡ d → starts (toksOf body d) ≡ true → ElementAt body rows k (pieceStart body (drop k rows))
       go [] q o = false-true o
       go (first ∷ rest) q o =
-          let one : first .kind ≡ 1 = eqb-true (first .kind) 1 (kind-opens (first .kind) (nameOf body first) (valueOf body first) ∙ o) in
+          let one : first .kind ≡ 1 = starts-one (first .kind) (nameOf body first) (valueOf body first) o in
           record { first = first; rest = rest; cut-at = q; starts = one; closes = rw (q, one) at element-closed; begins = rw q }
 
   -- its rows stand for its own tokens, with nothing after

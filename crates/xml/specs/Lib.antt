@@ -11,4 +11,3 @@ pub mod Past
 pub mod Again
 pub mod Closing
 pub mod Piece
-pub mod Examples
