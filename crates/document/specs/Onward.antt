@@ -1,6 +1,6 @@
 -- How far a reader goes on: the skip to a scope's end and the search for a start element leave no more tokens than there were, and keep row numbers
 -- and tokens together.
-use Prim.Native.Nat.{ℕ, zero, suc, _+_, _≤_, _<_}
+use Prim.Native.Nat.{ℕ, suc, _+_, _≤_, _<_}
 use mathlib.Core.Path.{_≡_, refl, sym, _∙_}
 use mathlib.Core.Bool.{true, false}
 use mathlib.Core.List.{List, [], _∷_}
