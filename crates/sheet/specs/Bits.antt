@@ -7,7 +7,7 @@ use lib.Dec.{eqb}
 use Rattle.sheet.specs.Front.{bit}
 use Rattle.sheet.specs.Written.{standing, fourBits, fiveBits}
 
--- the bits 0 to 4 of a bit map of so many values
+-- the bits 0 to 4 of a bit map of so many values, by the values of the bits
 pub record Bits (values b : ℕ) (x y z u w : Bool) : Type 0 where
   pub small : b < values
   pub one : bit 1 b ≡ x

@@ -14,7 +14,7 @@ use Rattle.sheet.specs.Front.{Front, front, broken, then, where-holds, b
 use Rattle.sheet.specs.InLimits.{NameInLimits, NameIfThere, Each}
 use Rattle.sheet.specs.Written.{isThere, nameWritten, nameIfWritten, eachWritten}
 
--- ---- bytes
+-- ---- bytes: each number is below 256, as those of a slice of bytes are
 pub record AllBytes (bytes : List ℕ) : Type 0 where
   pub each : (i : ℕ) → getD bytes i 0 < 256
 
@@ -144,6 +144,7 @@ times-exact {A} {field} {write} {Limits} x (suc n) = next (times-exact x n)
             ((omega (arith, others .0), (limits, others .1)), rw (append-assoc (write a) (eachWritten write k) end, ← these) is)))
 
 -- ---- sheets
+-- an answer is not both
 no-some {ℓ} : {A : Type 0} {B : Type ℓ} {a : A} → none ≡ some a → B
 no-some e = let z : _≡_ {A = ℕ} 0 1 = cc in absurd (omega arith)
 

@@ -1,4 +1,4 @@
--- A list's and a map's sheets are read exactly as they are written.
+-- A list's and a map's sheets are read exactly as they are written: their bytes say a sheet just when it is in the limits and they are its written form.
 use Prim.Native.Nat.{ℕ}
 use mathlib.Core.Path.{_≡_, refl}
 use mathlib.Core.Bool.{Bool, true, false}
@@ -14,7 +14,7 @@ use Rattle.sheet.specs.Bits.{Bits, four-read, read-four, five-read, read
 use Rattle.sheet.specs.Exact.{AllBytes, front-value, front-rest, first-then, holds, bit-map-exact, name-if-exact, name-if-end, all-is}
 
 -- ---- list
--- "2 and 3 only with 0"
+-- "2 and 3 only with 0": the fields of a bit map that keeps to that, as a sheet has them
 list-fields : (t f : Bool) (x m : Option (List ℕ)) → pick (onlyWith t (isThere x)) (onlyWith t (isThere m)) false ≡ true → NameIfThere x → NameIfThere m
     → ItemIfThere (itemOf t x m) × (listWith (itemOf t x m) f ≡ fourBits t f (isThere x) (isThere m) ∷ (nameIfWritten x ++ nameIfWritten m))
 list-fields true f x m e g h = (record { xmlName = g; memberName = h }, refl)
@@ -22,6 +22,7 @@ list-fields false f none none e g h = (tt, refl)
 list-fields false f none (some n) e g h = false-true e
 list-fields false f (some n) m e g h = false-true e
 
+-- what is written of a list's sheet in the limits is read as that sheet
 pub list-read-written : (l : ListSheet) → ListInLimits l → listOf (listWritten l) ≡ some l
 unfolding listOf listWritten
 list-read-written l h = go (l .item) (l .flattened) (h .item)
@@ -46,6 +47,7 @@ list-read-written l h = go (l .item) (l .flattened) (h .item)
               name-if-end (i .memberName) (h .memberName),
             )
 
+-- bytes that are read as a list's sheet are what is written of it, and it is in the limits
 pub list-written-read : (bytes : List ℕ) (l : ListSheet) → AllBytes bytes → listOf bytes ≡ some l → ListInLimits l × (bytes ≡ listWritten l)
 unfolding listOf listWritten
 list-written-read bytes l h e =
@@ -60,7 +62,7 @@ list-written-read bytes l h e =
     ))))
 
 -- ---- map
--- "3 and 4 only with 2"
+-- "3 and 4 only with 2": the same
 map-fields : (f : Bool) (k : Option (List ℕ)) (t : Bool) (x : Option (List ℕ)) (a : Bool) → pick (onlyWith t (isThere x)) (onlyWith t a) false ≡ true → NameIfThere x
     → ValueIfThere (valueOf t x a) × (mapWith f k (valueOf t x a) ≡ fiveBits f (isThere k) t (isThere x) a ∷ (nameIfWritten k ++ nameIfWritten x))
 map-fields f k true x a e h = (h, refl)
@@ -68,6 +70,7 @@ map-fields f k false none false e h = (tt, rw (append-nil (nameIfWritten k)))
 map-fields f k false none true e h = false-true e
 map-fields f k false (some n) a e h = false-true e
 
+-- what is written of a map's sheet in the limits is read as that sheet
 pub map-read-written : (m : MapSheet) → MapInLimits m → mapOf (mapWritten m) ≡ some m
 unfolding mapOf mapWritten
 map-read-written m h = go (m .flattened) (m .keyXmlName) (m .value) (h .keyXmlName) (h .value)
@@ -94,6 +97,7 @@ map-read-written m h = go (m .flattened) (m .keyXmlName) (m .value) (h .keyXmlNa
               name-if-end (v .xmlName) h,
             )
 
+-- bytes that are read as a map's sheet are what is written of it, and it is in the limits
 pub map-written-read : (bytes : List ℕ) (m : MapSheet) → AllBytes bytes → mapOf bytes ≡ some m → MapInLimits m × (bytes ≡ mapWritten m)
 unfolding mapOf mapWritten
 map-written-read bytes m h e =

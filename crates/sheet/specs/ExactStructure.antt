@@ -1,4 +1,4 @@
--- A structure's sheet is read exactly as it is written.
+-- A structure's sheet is read exactly as it is written: its bytes say a structure just when the structure is in the limits and they are its written form.
 use Prim.Native.Nat.{ℕ, _≤_}
 use mathlib.Core.Path.{_≡_, refl}
 use mathlib.Core.Bool.{false}
@@ -15,7 +15,8 @@ use Rattle.sheet.specs.Written.{fourBits, fiveBits, isThere, nameWritten
 use Rattle.sheet.specs.Bits.{Bits, five-read, read-five, four-read, read-four}
 use Rattle.sheet.specs.Exact.{AllBytes, front-value, front-rest, Exact, first-then, holds, byte-exact, bit-map-exact, name-exact, name-if-exact, times-exact, all-is}
 
-pub member-exact : Exact member memberWritten MemberInLimits
+-- ---- members: "bits 0 XML name, 1 member name, 2 attribute, 3 flattened, 4 aggregate"
+member-exact : Exact member memberWritten MemberInLimits
 member-exact = record { reads = reads; exact = exact }
   where
     reads : (m : Member) (rest : List ℕ) → MemberInLimits m → member (memberWritten m ++ rest) ≡ front m rest
@@ -41,12 +42,13 @@ member-exact = record { reads = reads; exact = exact }
     exact s m rest h e =
         first-then (bit-map-exact 32) _ s m rest h e
         (λ b r small is bytes onward. first-then (name-if-exact (bit 1 b)) _ r m rest bytes onward
-        (λ x r xmlName is' bytes onward. first-then (name-if-exact (bit 2 b)) _ r m rest bytes onward
-        (λ n r memberName is'' bytes onward. rw (← front-value onward, ← front-rest onward) (
+        (λ x r xmlName from-x bytes onward. first-then (name-if-exact (bit 2 b)) _ r m rest bytes onward
+        (λ n r memberName from-n bytes onward. rw (← front-value onward, ← front-rest onward) (
           record { xmlName = xmlName .1; memberName = memberName .1 },
-          rw (is, is', is'', xmlName .0, memberName .0, append-assoc (nameIfWritten x) (nameIfWritten n) r, ← read-five b small),
+          rw (is, from-x, from-n, xmlName .0, memberName .0, append-assoc (nameIfWritten x) (nameIfWritten n) r, ← read-five b small),
         ))))
 
+-- "a count 0..64, and members"
 member-list-exact : Exact memberList memberListWritten (λ l. (length l ≤ mostMembers) × Each MemberInLimits l)
 unfolding times eachWritten
 member-list-exact = record { reads = reads; exact = exact }
@@ -63,11 +65,13 @@ member-list-exact = record { reads = reads; exact = exact }
         let p = times-exact member-exact n .exact r l rest bytes (few .1) in
         ((omega (arith, leb-true n mostMembers (few .0), p .0 .0), p .0 .1), rw (is, p .1, p .0 .0)))
 
+-- at the end of a sheet
 member-list-end : (l : List Member) → (length l ≤ mostMembers) × Each MemberInLimits l → memberList (memberListWritten l) ≡ front l []
 unfolding eachWritten
 member-list-end l h = rw (append-nil (eachWritten memberWritten l)) at (member-list-exact .reads l [] h)
 
 -- ---- structure
+-- what is written of a structure in the limits is read as that structure
 pub structure-read-written : (s : Structure) → StructureInLimits s → structureOf (structureWritten s) ≡ some s
 unfolding structureOf structureWritten
 structure-read-written s h = go (fourBits (isThere (s .xmlName)) (isThere (s .originalName)) (isThere (s .memberName)) (s .unwrapped)) (four-read _ _ _ _)
@@ -92,6 +96,7 @@ structure-read-written s h = go (fourBits (isThere (s .xmlName)) (isThere (s .or
           member-list-end (s .members) (h .fewMembers, h .members),
         )
 
+-- bytes that are read as a structure are what is written of it, and it is in the limits
 pub structure-written-read : (bytes : List ℕ) (s : Structure) → AllBytes bytes → structureOf bytes ≡ some s → StructureInLimits s × (bytes ≡ structureWritten s)
 unfolding structureOf structureWritten
 structure-written-read bytes s h e =
