@@ -5,7 +5,7 @@ use mathlib.Core.Path.{_≡_, refl}
 use native.Mathlib.Omega.{arith}
 use lib.ListN.{length}
 use Rattle.lists.specs.Tests.{pick-all}
-use Rattle.document.specs.Reader.{Reader, Scope, Past, skip, blank, Next}
+use Rattle.document.specs.Reader.{Reader, Scope, Past, blank, Next}
 use Rattle.document.specs.Scope.{Child, scopeOf, skipFrom, shut, Level, over, onNext, nextFrom, level, levelIn, endOf, dropping, leave, afterChildren}
 use Rattle.document.specs.Onward.{GoneOn, still, gone-on-on, skip-goes-on, Leaves, leaves-found, leaves-none, next-leaves}
 

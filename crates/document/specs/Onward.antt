@@ -1,6 +1,6 @@
 -- How far a reader goes on: the skip to a scope's end and the search for a start element leave no more tokens than there were, and keep row numbers
 -- and tokens together.
-use Prim.Native.Nat.{ℕ, zero, suc, _+_, _≤_, _<_}
+use Prim.Native.Nat.{ℕ, suc, _+_, _≤_, _<_}
 use mathlib.Core.Path.{_≡_, refl, sym, _∙_}
 use mathlib.Core.Bool.{true, false}
 use mathlib.Core.List.{List, [], _∷_}
@@ -98,6 +98,7 @@ leaves-on (leaves-none p g) = g
 leaves-fewer : {from : Reader} {el : StartEl} {r : Reader} → Leaves from (found el r) → length (r .rest) < length (from .rest)
 leaves-fewer (leaves-found r g h) = h
 
+-- the laws of its parts: found or not, it goes on; what is found leaves fewer tokens, and none leaves no more
 pub next-goes-on : (s : Scope) (o : StartEl) (d : Depth) (k : ℕ) (l : List Tok) → GoneOn (reader d k l) (afterNext (next s o d k l))
 next-goes-on s o d k l = leaves-on (next-leaves s o d k l)
 
