@@ -1,17 +1,15 @@
 -- Laws of `matches`: what it answers is `nameMatches` (document/specs/Names.antt).
 use Prim.Native.Nat.{ℕ, zero, suc, _+_, _-_, _≤_, _<_}
-use mathlib.Core.Path.{_≡_, refl, sym, _∙_, ap}
+use mathlib.Core.Path.{_≡_, ap}
 use mathlib.Core.Bool.{Bool, true, false}
-use mathlib.Core.List.{List, [], _∷_, map}
+use mathlib.Core.List.{List, [], _∷_}
 use native.Mathlib.Omega.{arith}
 use borrow.Author.Needs.{needs}
-use borrow.Author.Tests.{lt-ltb, le-ltb, eqb-true, ne-eqb, eq-eqb}
-use lib.Dec.{ltb, eqb}
+use borrow.Author.Tests.{lt-ltb, le-ltb, ne-eqb}
 use lib.ListN.{length, getD, take, drop}
-use Rattle.lists.specs.Tests.{pick, pick-same}
-use Rattle.lists.specs.Bytes.{ascii, sameb}
+use Rattle.lists.specs.Bytes.{sameb}
 use Rattle.lists.specs.Parts.{tail}
-use Rattle.lists.specs.Find.{Clear, NextAt}
+use Rattle.lists.specs.Find.{NextAt}
 use Rattle.document.specs.Names.{named, beforeColon, nameMatches}
 
 colon-is : (s : List ℕ) (r : ℕ) → r ≤ length s → ((k : ℕ) → k < r → getD s k 0 ≡ 58 → ⊥) → (r < length s → getD s r 0 ≡ 58) → beforeColon s ≡ r

@@ -1,9 +1,8 @@
 -- Rows that can be read: their spans lie in the body. Names and values by row number, and the laws of the functions that compare them.
-use Prim.Native.Nat.{ℕ, zero, suc, _+_, _-_, _*_, _/_, _^_, _≤_, _<_}
+use Prim.Native.Nat.{ℕ, zero, suc, _+_, _-_, _*_, _^_, _≤_, _<_}
 use mathlib.Core.Path.{_≡_, refl, sym, _∙_, ap}
 use mathlib.Core.Bool.{Bool, true, false}
 use mathlib.Core.List.{List, [], _∷_}
-use native.Mathlib.Numerals.{add-one}
 use native.Mathlib.Omega.{arith}
 use borrow.Author.Needs.{needs}
 use mir.Val.{Fits}
@@ -17,7 +16,7 @@ use Rattle.lists.specs.Bytes.{sameb}
 use Rattle.reference.specs.Text.{validated}
 use Rattle.reference.specs.Result.{plain-valid}
 use Rattle.reference.specs.declared.Validated.{Validated}
-use Rattle.table.specs.Row.{Row, Name, cut, nameOf, valueOf}
+use Rattle.table.specs.Row.{Name, cut, nameOf, valueOf}
 use Rattle.table.specs.Flat.{rowAt, SpansIn}
 use Rattle.xml.specs.Drain.{sameName, seen}
 use Rattle.xml.specs.declared.Cause.{Cause}

@@ -1,15 +1,15 @@
 -- Laws of the walk of the drain over the rows of a flat table: the open names are kept as row numbers, and the attribute names of a start tag are
 -- looked up in its rows.
-use Prim.Native.Nat.{ℕ, zero, suc, _+_, _-_, _*_, _/_, _%_, _^_, _≤_, _<_}
+use Prim.Native.Nat.{ℕ, zero, suc, _+_, _-_, _*_, _/_, _%_, _≤_, _<_}
 use mathlib.Core.Path.{_≡_, refl, sym, _∙_, ap}
 use mathlib.Core.Bool.{Bool, true, false}
-use mathlib.Core.List.{List, [], _∷_, map}
+use mathlib.Core.List.{List, [], _∷_}
 use mathlib.Core.Logic.{⊎-elim}
 use native.Mathlib.Nat.{eq-or-lt-of-le}
 use native.Mathlib.Numerals.{add-one}
 use native.Mathlib.Omega.{arith}
 use borrow.Author.Needs.{needs}
-use borrow.Author.Tests.{eq-eqb, ne-eqb, eqb-true, eqb-false}
+use borrow.Author.Tests.{eqb-true, eqb-false}
 use lib.Dec.{eqb}
 use lib.ListN.{length, getD, set, length-set}
 use lib.Seq.{getD-set-same, getD-set-other}
@@ -18,17 +18,17 @@ use Rattle.lists.specs.Decide.{isYes}
 use Rattle.lists.specs.Find.{Clear}
 use Rattle.reference.specs.Text.{validated}
 use Rattle.reference.specs.declared.Validated.{Validated}
-use Rattle.table.specs.Row.{Row, Name, Tok, start, attr, gt, close, slash, text, misc, bad, nameOf, valueOf, tokAs, tokOf, toksOf, rowsOf}
-use Rattle.table.specs.Rules.{among, Place, atFirst, after, RowRules, EachRow, none, row, TableRules}
+use Rattle.table.specs.Row.{Row, Name, Tok, start, attr, gt, close, slash, text, misc, bad, tokAs, tokOf, toksOf, rowsOf}
+use Rattle.table.specs.Rules.{among, Place, atFirst, after, RowRules, EachRow, row, TableRules}
 use Rattle.table.specs.Test.{decTable, first}
 use Rattle.table.specs.Pass.{obeyed}
 use Rattle.table.specs.Flat.{rowAt, rowsFrom, length-rows, rows-same, rows-whole, unroll, rolled-out, spans-in}
-use Rattle.xml.specs.Drain.{sameName, seen, drainedBy, drained, State, going, failed, withValue, withAttribute, closed, popped, step, walk, verdict, walked}
+use Rattle.xml.specs.Drain.{sameName, seen, drainedBy, drained, State, going, failed, withValue, withAttribute, popped, step, walk, verdict, walked}
 use Rattle.xml.specs.Passed.{openAfter, namesAfter}
 use Rattle.xml.specs.declared.Cause.{Cause}
 use Rattle.xml.specs.declared.Drained.{Drained}
 use Rattle.decode.specs.declared.Fault.{Fault}
-use Rattle.decode.specs.Rows.{InTable, Readable, nameAt, valueAt, back, namesBack, asFault, valueFault, valuePasses, faultIf, fault-if, plain-none, LiesIn, value-plain}
+use Rattle.decode.specs.Rows.{InTable, Readable, nameAt, valueAt, namesBack, asFault, valueFault, valuePasses, faultIf, fault-if, plain-none, LiesIn, value-plain}
 
 -- what is wrong with a token: top is the name of the innermost open element, names are the attribute names of the start tag so far
 abbrev pub faultOf : Name → List Name → Tok → Fault

@@ -1,8 +1,8 @@
 -- On what is in the grammar of XML 1.0, scopes end at their elements' own end tags: what a reader meets is what the grammar has.
-use Prim.Native.Nat.{ℕ, zero, suc, _+_, _≤_, _<_}
-use mathlib.Core.Path.{_≡_, refl, sym, ap, _∙_}
+use Prim.Native.Nat.{ℕ, zero, suc, _<_}
+use mathlib.Core.Path.{_≡_, refl, ap, _∙_}
 use mathlib.Core.Bool.{Bool, true, false}
-use mathlib.Core.List.{List, [], _∷_, _++_}
+use mathlib.Core.List.{List, [], _∷_}
 use native.Mathlib.Omega.{arith}
 use borrow.Author.Tests.{eq-eqb, ne-eqb}
 use lib.ListN.{length}
@@ -12,14 +12,13 @@ use Rattle.reference.specs.Text.{Out, bytes, unescaped}
 use Rattle.reference.specs.Text as text
 use Rattle.reference.specs.Lenient.{valid-unescapes}
 use Rattle.reference.specs.Grammar.{validate-complete}
-use Rattle.table.specs.Row.{Name, Tok, start, attr, gt, close, slash, text, misc, bad}
+use Rattle.table.specs.Row.{Name, Tok, start, close, text, bad}
 use Rattle.xml.specs.Grammar.{Attributes, no-attribute, attribute, Element, empty-element, full-element, Content, no-content, chars, other, child}
-use Rattle.xml.specs.Drain.{sameName}
 use Rattle.xml.specs.Tests.{name-same}
 use Rattle.xml.specs.Past.{pastAttributes, pastElement, pastContent, count, grow-content}
 use Rattle.document.specs.declared.Depth.{Depth}
-use Rattle.document.specs.Reader.{depth, deeper, Reader, reader, Scope, element, Past, skip, Attribute, StartEl, blank, begun, withAttribute, asClosed, Next, found, gone, next}
-use Rattle.document.specs.Scope.{Child, scopeOf, shut, dropped, Level, over, onNext, nextFrom, level, levelIn, children, endOf, dropping, childrenOf, afterChildren}
+use Rattle.document.specs.Reader.{depth, deeper, Reader, reader, Scope, element, Past, skip, StartEl, blank, begun, withAttribute, asClosed, found, next}
+use Rattle.document.specs.Scope.{Child, shut, dropped, Level, over, level, levelIn, children, endOf, dropping, childrenOf, afterChildren}
 use Rattle.document.specs.Scope as scope
 
 -- ---- what a text stands for, where all its references are right

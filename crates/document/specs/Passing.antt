@@ -1,32 +1,25 @@
 -- Of a table that passes the drain: the root and the children that a reader meets are elements of the table, their texts are texts or have an element
 -- inside, and their pieces are the elements' own (demand 3).
-use Prim.Native.Nat.{ℕ, zero, suc, _-_, _≤_, _<_}
-use mathlib.Core.Path.{_≡_, refl, sym, ap, _∙_}
+use Prim.Native.Nat.{ℕ, zero, suc}
+use mathlib.Core.Path.{_≡_, refl}
 use mathlib.Core.Logic.{_⊎_, inl, inr, ⊎-elim}
-use mathlib.Core.Bool.{Bool, true, false}
 use mathlib.Core.List.{List, [], _∷_, List·Memᴰ, List·Memᴰ·cases-cons, List·Memᴰ·not-nil}
 use mathlib.Core.Option.{Option, none, some}
-use native.Mathlib.Omega.{arith}
 use borrow.Author.Tests.{eq-eqb}
-use lib.ListN.{length, take, drop}
-use Rattle.lists.specs.Tests.{pick}
+use lib.ListN.{drop}
 use Rattle.refusal.specs.declared.Refusal.{Refusal}
 use Rattle.refusal.specs.Answer.{Answer, gives, refuses}
-use Rattle.reference.specs.Text.{unescaped}
-use Rattle.table.specs.Row.{Row, Name, Tok, start, attr, gt, close, slash, text, misc, bad, rowsOf, toksOf}
-use Rattle.table.specs.Rules.{lastPosition}
-use Rattle.table.specs.Piece.{pieceStart}
+use Rattle.table.specs.Row.{Name, Tok, start, close, rowsOf, toksOf}
 use Rattle.xml.specs.declared.Drained.{Drained}
-use Rattle.xml.specs.Grammar.{Attributes, no-attribute, attribute, Element, empty-element, full-element, Content, no-content, chars, other, child, Miscs, no-misc, one-misc, Document}
+use Rattle.xml.specs.Grammar.{Element, empty-element, full-element, Content, no-content, chars, other, child, Miscs, no-misc, one-misc, Document}
 use Rattle.xml.specs.Grammar as grammar
 use Rattle.xml.specs.Drain.{drained}
 use Rattle.xml.specs.Tests.{name-same}
-use Rattle.xml.specs.Pass.{drained-document-is}
-use Rattle.xml.specs.Past.{pastAttributes, pastElement, pastContent, pastMiscs, at-next, in-content, past-element, past-miscs}
+use Rattle.xml.specs.Past.{pastAttributes, pastElement, pastMiscs, at-next, in-content, past-element, past-miscs}
 use Rattle.xml.specs.Piece.{ElementPiece, element-piece}
 use Rattle.document.specs.declared.Depth.{Depth}
-use Rattle.document.specs.View.{View, whole}
-use Rattle.document.specs.Reader.{depth, deeper, Reader, reader, Scope, document, element, StartEl, blank, begun, next}
+use Rattle.document.specs.View.{whole}
+use Rattle.document.specs.Reader.{depth, deeper, document, element, StartEl, blank, begun, next}
 use Rattle.document.specs.Scope.{Child, childrenOf, rootOf, Piece, pieceOf}
 use Rattle.document.specs.Text.{firstText, textOf}
 use Rattle.document.specs.Met.{unescapes, asChild, contents, inside, with-name, with-depth, with-row, with-closed, next-element, dropped-element, children-are}

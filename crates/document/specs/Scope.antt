@@ -1,12 +1,12 @@
 -- Elements as a reading meets them: the root (`root_element`), the children of an element (a loop over `next_tag`), and where the reader stands
 -- after each.
 use Prim.Native.Nat.{ℕ, zero, suc, _-_}
-use mathlib.Core.Bool.{Bool, true, false}
+use mathlib.Core.Bool.{true, false}
 use mathlib.Core.List.{List, [], _∷_}
 use mathlib.Core.Option.{Option, none, some}
 use lib.ListN.{length, take, drop}
 use Rattle.lists.specs.Tests.{pick}
-use Rattle.table.specs.Row.{Row, Name, Tok}
+use Rattle.table.specs.Row.{Tok}
 use Rattle.table.specs.Rules.{lastPosition}
 use Rattle.table.specs.Piece.{pieceStart}
 use Rattle.document.specs.View.{View}

@@ -1,6 +1,5 @@
 -- The text of an element: its first text (`try_data`), and all the texts directly in it.
-use Prim.Native.Nat.{ℕ, zero, suc}
-use mathlib.Core.Bool.{Bool, true, false}
+use Prim.Native.Nat.{ℕ}
 use mathlib.Core.List.{List, [], _∷_, _++_}
 use mathlib.Core.Option.{Option, none, some}
 use Rattle.lists.specs.Tests.{pick}
@@ -8,9 +7,9 @@ use Rattle.refusal.specs.declared.Refusal.{Refusal}
 use Rattle.refusal.specs.Answer.{Answer, gives, refuses, onward}
 use Rattle.reference.specs.Text.{Out, unescaped}
 use Rattle.reference.specs.Text as text
-use Rattle.table.specs.Row.{Name, Tok, start, attr, gt, close, slash, text, misc, bad}
+use Rattle.table.specs.Row.{Tok, start, attr, gt, close, slash, text, misc, bad}
 use Rattle.document.specs.declared.Depth.{Depth}
-use Rattle.document.specs.Reader.{depthAfter, Scope, isEnd, shallower}
+use Rattle.document.specs.Reader.{depthAfter, Scope, isEnd}
 use Rattle.document.specs.Scope.{Child, scopeOf}
 
 -- a text unescaped, or 7

@@ -1,7 +1,7 @@
 -- A buffer whose front is overwritten: what a lent buffer holds after a call that wrote some bytes at its front.
 use Prim.Native.Nat.{ℕ, _+_, _≤_}
 use mathlib.Core.Path.{_≡_, refl, sym}
-use mathlib.Core.List.{List, [], _∷_, _++_}
+use mathlib.Core.List.{List, [], _++_}
 use native.Mathlib.Omega.{arith}
 use lib.ListN.{length, drop, length-drop, length-append}
 use lib.Seq.{drop-drop, sets, sets-eq, take-append-seam, drop-append-add}

@@ -1,9 +1,9 @@
 -- Parts of lists.
-use Prim.Native.Nat.{ℕ, zero, suc, suc-le-suc, _+_, _-_, _≤_, _<_}
-use mathlib.Core.Path.{_≡_, refl, sym, _∙_, ap}
-use mathlib.Core.List.{List, [], _∷_, _++_}
+use Prim.Native.Nat.{ℕ, zero, suc, suc-le-suc, _-_, _<_}
+use mathlib.Core.Path.{_≡_}
+use mathlib.Core.List.{List, [], _∷_}
 use native.Mathlib.Omega.{arith}
-use lib.ListN.{length, getD, drop, take, length-drop, length-take, length-append}
+use lib.ListN.{length, getD, drop, take, length-drop}
 use lib.Seq.{take-all}
 
 -- what `&s[k..]` is

@@ -5,9 +5,7 @@ use mathlib.Core.List.{List, [], _∷_}
 use mathlib.Core.Option.{Option, none, some}
 use Rattle.lists.specs.Tests.{pick}
 use Rattle.lists.specs.Bytes.{sameb}
-use Rattle.refusal.specs.declared.Refusal.{Refusal}
 use Rattle.refusal.specs.Answer.{Answer, gives, refuses, onward}
-use Rattle.table.specs.Row.{Name}
 use Rattle.document.specs.Names.{nameMatches}
 use Rattle.document.specs.View.{View}
 use Rattle.document.specs.Reader.{Reader, skip}
@@ -18,7 +16,7 @@ use Rattle.sheet.specs.Settings.{Settings}
 use Rattle.sheet.specs.Sheet.{ListSheet, listOf, MapSheet, mapOf}
 use Rattle.sheet.specs.Names.{itemName, entryName, keyName, valueName, valueAggregate}
 use Rattle.readings.specs.Output.{Room, Output, nothing, Reading, finished, refused, andThen, each, writeText, writePiece, writeKeyText, writeKeyPiece}
-use Rattle.readings.specs.Opening.{Opened, Asked, asked, reading, endTest}
+use Rattle.readings.specs.Opening.{Asked, asked, reading, endTest}
 
 -- a child is wanted: it matches the name, or there is none to match
 unfoldable pub isWanted : Option (List ℕ) → Child → Bool

@@ -4,14 +4,13 @@ use Prim.Native.Nat.{ℕ}
 use mathlib.Core.Path.{_≡_, refl}
 use mathlib.Core.Logic.{_⊎_}
 use mathlib.Core.Bool.{Bool, true, false}
-use mathlib.Core.List.{List, [], _∷_, _++_, List·Memᴰ, List·Memᴰ·head, List·Memᴰ·tail}
+use mathlib.Core.List.{List, [], _∷_, List·Memᴰ, List·Memᴰ·head, List·Memᴰ·tail}
 use mathlib.Core.Option.{Option, none, some}
-use lib.ListN.{drop, take}
-use Rattle.lists.specs.Tests.{pick, pick-all}
+use Rattle.lists.specs.Tests.{pick-all}
 use Rattle.lists.specs.Bytes.{sameb}
 use Rattle.refusal.specs.declared.Refusal.{Refusal}
 use Rattle.refusal.specs.Answer.{Answer, gives, refuses, onward}
-use Rattle.table.specs.Row.{Tok, cut, rowsOf, toksOf}
+use Rattle.table.specs.Row.{Tok, rowsOf, toksOf}
 use Rattle.table.specs.Rules.{TableRules}
 use Rattle.table.specs.Test.{decTable}
 use Rattle.xml.specs.declared.Drained.{Drained}
@@ -21,19 +20,18 @@ use Rattle.xml.specs.Passed.{Passed}
 use Rattle.xml.specs.Means.{drained-passes-is}
 use Rattle.xml.specs.Pass.{drained-document-is}
 use Rattle.xml.specs.Closing.{element-closed, element-last}
-use Rattle.xml.specs.Piece.{ElementPiece, element-piece}
+use Rattle.xml.specs.Piece.{element-piece}
 use Rattle.document.specs.Names.{nameMatches}
 use Rattle.document.specs.View.{View, whole, view}
-use Rattle.document.specs.Scope.{Child, childrenOf, dropping, afterChildren, rootOf, Piece, pieceOf}
-use Rattle.document.specs.Text.{textOf}
+use Rattle.document.specs.Scope.{Child, childrenOf, dropping, afterChildren, Piece, pieceOf}
 use Rattle.document.specs.One.{view-passed}
 use Rattle.document.specs.Met.{either-past, PastElements, level-in, dropping-past, after-children-past}
 use Rattle.document.specs.Passing.{Met, met, inside-met, children-met, RootMet, root-met, no-root, document-root, TextOrElement, is-text, is-element, text-met, element-row, IsElementPiece, piece-met}
 use Rattle.sheet.specs.declared.ShapeDepth.{ShapeDepth}
 use Rattle.sheet.specs.Settings.{Settings, isStrict, tooDeep, testsRootName}
-use Rattle.sheet.specs.Sheet.{Structure, structureOf, ListSheet, listOf, MapSheet, mapOf}
+use Rattle.sheet.specs.Sheet.{Structure, structureOf, listOf, MapSheet, mapOf}
 use Rattle.sheet.specs.Names.{rootName, Indexed, membersOf, resolve, itemName, entryName, attributeName, keyName, valueName, valueAggregate}
-use Rattle.readings.specs.Output.{Room, Output, nothing, Reading, finished, refused, andThen, each, writeText}
+use Rattle.readings.specs.Output.{Room, Output, nothing, Reading}
 use Rattle.readings.specs.Opening.{Opened, Asked, asked, reading, present, rooted, withDepth, withTable}
 use Rattle.readings.specs.Structure.{
   attributeOf,
@@ -80,7 +78,7 @@ use Rattle.readings.specs.Collection.{
   readEntries,
   mapReading,
 }
-use Rattle.readings.specs.Promise.{Shape, structure, list, map, strings, read, MayRefuse, broken-sheet, depth-limit, root-name, element-in-text, no-room, Elements, no-more, sibling, AllHanded, Promised, finishes, refuses}
+use Rattle.readings.specs.Promise.{Shape, structure, list, map, strings, read, broken-sheet, depth-limit, root-name, element-in-text, Elements, no-more, sibling, AllHanded, Promised, finishes, refuses}
 use Rattle.readings.specs.Promise as promise
 use Rattle.readings.specs.Keeps.{none-handed, then-keeps, each-keeps, text-keeps, key-text-keeps, piece-keeps, key-piece-keeps, failed-keeps, group-keeps}
 

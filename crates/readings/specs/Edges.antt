@@ -5,11 +5,11 @@ use Prim.Native.String.{String}
 use mathlib.Core.Path.{_≡_, refl}
 use mathlib.Core.Bool.{Bool, true, false}
 use mathlib.Core.List.{List, [], _∷_, _++_, map}
-use lib.IntN.{ℤ, pos, negsuc}
+use lib.IntN.{pos, negsuc}
 use lib.ListN.{length}
 use Rattle.lists.specs.Bytes.{ascii}
 use Rattle.refusal.specs.declared.Refusal.{Refusal}
-use Rattle.refusal.specs.Answer.{Answer, gives, refuses}
+use Rattle.refusal.specs.Answer.{gives, refuses}
 use Rattle.reference.specs.Text.{Out, bytes, bad, validated, unescaped}
 use Rattle.reference.specs.declared.Validated.{Validated}
 use Rattle.reference.specs.declared.Validated.the-variants.{Valid, BadReference}

@@ -1,51 +1,22 @@
 -- Demand 3, step by step: what is written keeps the promise (Promise.antt), and so does what is written one after another.
-use Prim.Native.Nat.{ℕ, zero, suc, _+_, _-_, _≤_}
-use mathlib.Core.Path.{_≡_, refl, sym, ap, _∙_}
-use mathlib.Core.Bool.{Bool, true, false}
+use Prim.Native.Nat.{ℕ, _+_, _≤_}
+use mathlib.Core.Path.{_≡_, refl, _∙_}
 use mathlib.Core.List.{List, [], _∷_, _++_, List·Memᴰ, List·Memᴰ·head, List·Memᴰ·tail}
-use mathlib.Core.Option.{Option, none, some}
+use mathlib.Core.Option.{none}
 use native.Mathlib.Omega.{arith}
-use lib.ListN.{length, take, drop, length-append, length-drop}
+use lib.ListN.{length, drop, length-append, length-drop}
 use lib.Seq.{take-append-le, drop-append-le, drop-append-seam, take-length}
-use Rattle.lists.specs.Tests.{pick, pick-all}
+use Rattle.lists.specs.Tests.{pick-all}
 use Rattle.lists.specs.Bytes.{ascii}
-use Rattle.lists.specs.Every.{Every, none, every-snoc, every-map}
+use Rattle.lists.specs.Every.{none, every-snoc, every-map}
 use Rattle.refusal.specs.declared.Refusal.{Refusal}
-use Rattle.refusal.specs.Answer.{Answer, gives, refuses, onward}
-use Rattle.table.specs.Row.{Tok, cut, rowsOf, toksOf}
-use Rattle.table.specs.Rules.{TableRules}
-use Rattle.table.specs.Test.{decTable}
+use Rattle.refusal.specs.Answer.{refuses}
+use Rattle.table.specs.Row.{cut}
 use Rattle.xml.specs.Piece.{ElementPiece}
 use Rattle.document.specs.Scope.{Piece}
 use Rattle.document.specs.Passing.{IsElementPiece}
-use Rattle.readings.specs.Output.{
-  Entry,
-  textKind,
-  pieceKind,
-  Room,
-  Output,
-  nothing,
-  Reading,
-  finished,
-  refused,
-  andThen,
-  each,
-  fits,
-  write,
-  textEntry,
-  pieceEntry,
-  groupEntry,
-  failedEntry,
-  keyTextEntry,
-  keyPieceEntry,
-  writeText,
-  writePiece,
-  writeGroup,
-  writeFailed,
-  writeKeyText,
-  writeKeyPiece,
-}
-use Rattle.readings.specs.Promise.{MayRefuse, no-room, Elements, Group, Handed, AllHanded, Promised, finishes, refuses}
+use Rattle.readings.specs.Output.{Entry, textKind, pieceKind, Room, Output, nothing, Reading, andThen, each, fits, write, textEntry, pieceEntry, groupEntry, failedEntry, keyTextEntry, keyPieceEntry, writeText, writePiece, writeGroup, writeFailed, writeKeyText, writeKeyPiece}
+use Rattle.readings.specs.Promise.{no-room, Elements, Group, Handed, AllHanded, Promised, finishes, refuses}
 use Rattle.readings.specs.Promise as promise
 
 -- ---- an output that grows

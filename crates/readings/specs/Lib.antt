@@ -1,6 +1,7 @@
 pub mod Output
 pub mod Opening
 pub mod Structure
+pub mod Order
 pub mod Collection
 pub mod Scalar
 pub mod Find

@@ -1,7 +1,7 @@
 -- Demand 3, its notions: what is promised of a reading of a body and table that the strict drain passes.
 use Prim.Native.Nat.{ℕ, _+_, _≤_}
 use mathlib.Core.Path.{_≡_}
-use mathlib.Core.List.{List, [], _∷_, _++_}
+use mathlib.Core.List.{List, [], _++_}
 use lib.ListN.{length}
 use Rattle.lists.specs.Bytes.{ascii}
 use Rattle.lists.specs.Every.{Every}

@@ -6,22 +6,22 @@ use mathlib.Core.Bool.{Bool, true, false}
 use mathlib.Core.List.{List, [], _∷_, _++_, List·Memᴰ}
 use mathlib.Core.Option.{Option, none, some}
 use lib.Dec.{eqb}
-use lib.ListN.{length, take, drop}
+use lib.ListN.{take, drop}
 use Rattle.lists.specs.Tests.{pick}
 use Rattle.lists.specs.Bytes.{ascii}
 use Rattle.refusal.specs.declared.Refusal.{Refusal}
 use Rattle.refusal.specs.Answer.{Answer, gives, refuses}
-use Rattle.table.specs.Row.{Row, cut}
+use Rattle.table.specs.Row.{cut}
 use Rattle.table.specs.Rules.{lastPosition}
 use Rattle.table.specs.Piece.{closing, isClosed}
 use Rattle.document.specs.Names.{nameMatches}
 use Rattle.document.specs.View.{View}
-use Rattle.document.specs.Reader.{Attribute, StartEl}
+use Rattle.document.specs.Reader.{Attribute}
 use Rattle.document.specs.Scope.{Child, childrenOf, Piece, pieceTo, pieceOf}
 use Rattle.document.specs.Text.{textOf}
 use Rattle.sheet.specs.declared.ShapeDepth.{ShapeDepth}
 use Rattle.sheet.specs.Settings.{Settings, testsRootName}
-use Rattle.sheet.specs.Sheet.{Member, Structure, structureOf}
+use Rattle.sheet.specs.Sheet.{Structure, structureOf}
 use Rattle.sheet.specs.Names.{rootName, attributeName, Indexed, indexed, firstNamed, membersOf, resolve}
 use Rattle.readings.specs.Output.{Room, Output, nothing, Reading, finished, refused, andThen, each, writeText, writePiece, writeGroup, writeFailed}
 use Rattle.readings.specs.Opening.{Opened, Asked, asked, reading, endTest}

@@ -2,20 +2,19 @@
 -- the theorem used on its pieces. The tables are the tokenizer's own, those of the pieces too.
 use Prim.Native.Nat.{ℕ}
 use mathlib.Core.Path.{_≡_, refl}
-use mathlib.Core.Bool.{Bool, true, false}
-use mathlib.Core.List.{List, [], _∷_, _++_, List·Memᴰ, List·Memᴰ·head, List·Memᴰ·tail}
+use mathlib.Core.Bool.{true, false}
+use mathlib.Core.List.{List, [], _∷_, _++_, List·Memᴰ·head, List·Memᴰ·tail}
 use Rattle.lists.specs.Bytes.{ascii}
 use Rattle.lists.specs.Every.{every-in}
 use Rattle.table.specs.Row.{cut, rowsOf, tableOf}
 use Rattle.table.specs.Piece.{elementRows, pieceRows}
 use Rattle.xml.specs.declared.Drained.{Drained}
 use Rattle.xml.specs.Drain.{drained}
-use Rattle.xml.specs.Passed.{Passed}
 use Rattle.xml.specs.Means.{drained-passes-is}
 use Rattle.xml.specs.Piece.{ElementPiece}
 use Rattle.sheet.specs.declared.ShapeDepth.{ShapeDepth}
 use Rattle.sheet.specs.Settings.{Settings}
-use Rattle.readings.specs.Output.{Entry, textEntry, pieceEntry, groupEntry, keyTextEntry, Room, Output, Reading, finished}
+use Rattle.readings.specs.Output.{textEntry, pieceEntry, groupEntry, keyTextEntry, Room, Output, finished}
 use Rattle.readings.specs.Structure.{structureReading}
 use Rattle.readings.specs.Collection.{listReading, mapReading}
 use Rattle.readings.specs.Promise.{structure, AllHanded, promised-output}

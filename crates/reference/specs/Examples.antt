@@ -1,7 +1,7 @@
 -- Worked examples of both definitions. (01's own, marked P, stand with all the others in readings/specs/Edges.antt.)
 use Prim.Native.String.{String}
 use mathlib.Core.Path.{_≡_, refl}
-use mathlib.Core.List.{List, [], _∷_, map}
+use mathlib.Core.List.{[], _∷_, map}
 use Rattle.lists.specs.Bytes.{ascii}
 use Rattle.reference.specs.Text.{Out, validated, unescaped}
 use Rattle.reference.specs.Text.Out.{bytes, bad}

@@ -1,13 +1,13 @@
 -- `validate` takes a text exactly when each `&` of it begins a Reference of XML 1.0 (Xml.antt).
 use Prim.Native.Nat.{ℕ, zero, suc, _+_, _-_, _*_, _^_, _≤_, _<_}
-use mathlib.Core.Path.{_≡_, refl, sym, _∙_, ap, subst}
+use mathlib.Core.Path.{_≡_, refl, sym, _∙_, ap}
 use mathlib.Core.Bool.{Bool, true, false}
 use mathlib.Core.List.{List, [], _∷_, _++_, append-assoc, append-nil}
 use mathlib.Core.Logic.{⊎-elim}
 use native.Mathlib.Nat.{zero-add, zero-mul}
 use native.Mathlib.Numerals.{add-one}
 use native.Mathlib.Omega.{arith}
-use borrow.Author.Tests.{leb-true, leb-false, ltb-true, ltb-false, eqb-true, eqb-false, ne-eqb, le-leb, lt-leb, lt-ltb, le-ltb, eq-eqb}
+use borrow.Author.Tests.{ltb-true, ltb-false, eqb-true, eqb-false, ne-eqb, le-leb, lt-leb, lt-ltb, le-ltb}
 use lib.Dec.{ltb, leb, eqb}
 use lib.ListN.{length, getD, drop, take, length-append, take-append-drop}
 use lib.Seq.{take-suc}
@@ -22,7 +22,7 @@ use Rattle.reference.specs.Text.Out.{bytes, bad}
 use Rattle.reference.specs.Taken.{no-value, no-char, named-all, only-is}
 use Rattle.reference.specs.Lenient.{before-is}
 use Rattle.reference.specs.Xml as xml
-use Rattle.reference.specs.Xml.{Char, Decimal, Hexadecimal, Numeral, CharRef, Predefined, EntityRef, BeginsReference, EachReference}
+use Rattle.reference.specs.Xml.{Char, Decimal, Hexadecimal, Numeral, CharRef, Predefined, BeginsReference, EachReference}
 use Rattle.reference.specs.declared.Number.{Number}
 use Rattle.reference.specs.declared.Number.the-variants.{Value, No}
 use Rattle.reference.specs.declared.Reference.{Reference}

@@ -1,20 +1,20 @@
 -- What unescaping gives: never more bytes than it was given, UTF-8 for UTF-8, and a text without `&` as it is.
-use Prim.Native.Nat.{ℕ, zero, suc, _+_, _-_, _≤_, _<_}
+use Prim.Native.Nat.{ℕ, zero, suc, _+_, _≤_}
 use mathlib.Core.Path.{_≡_, refl, sym, _∙_, ap}
 use mathlib.Core.Bool.{Bool, true, false}
 use mathlib.Core.List.{List, [], _∷_, _++_}
 use native.Mathlib.Omega.{arith}
 use borrow.Author.Tests.{eqb-true, ne-eqb}
 use lib.Dec.{ltb, leb, eqb, lit<}
-use lib.ListN.{length, getD, drop, take, length-append}
+use lib.ListN.{length, getD, drop, length-append}
 use Rattle.lists.specs.Tests.{pick, pick-all, false-true}
 use Rattle.utf8.specs.Table.{Range, _to_, inRange, After, due, never, after, table, walk, isUtf8}
-use Rattle.utf8.specs.Encode.{scalar, encode}
+use Rattle.utf8.specs.Encode.{encode}
 use Rattle.utf8.specs.Cut.{high, after-high, ascii-none, walk-ascii, walk-drop-after}
 use Rattle.utf8.specs.Chars.{utf8-encode}
 use Rattle.reference.specs.Text.{reference, Out, before, decode, references, verdict, validated, unescaped}
 use Rattle.reference.specs.Text.Out.{bytes, bad}
-use Rattle.reference.specs.Taken.{Taken, taken}
+use Rattle.reference.specs.Taken.{taken}
 use Rattle.reference.specs.Lenient.{before-is}
 use Rattle.reference.specs.declared.Reference.{Reference}
 use Rattle.reference.specs.declared.Validated.{Validated}

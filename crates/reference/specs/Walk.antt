@@ -1,21 +1,20 @@
 -- Laws of `decode`, step by step: what is passed over, a run of plain bytes, a reference.
 use Prim.Native.Nat.{ℕ, zero, suc, _+_, _-_, _≤_, _<_}
 use mathlib.Core.Path.{_≡_, refl, sym, _∙_, ap}
-use mathlib.Core.Bool.{Bool, true, false}
+use mathlib.Core.Bool.{Bool}
 use mathlib.Core.List.{List, [], _∷_, _++_, append-assoc, append-nil}
 use native.Mathlib.Nat.{add-zero, add-suc, suc-add}
 use native.Mathlib.Numerals.{add-one}
 use native.Mathlib.Omega.{arith}
-use borrow.Author.Tests.{eq-eqb, ne-eqb}
-use lib.Dec.{eqb}
+use borrow.Author.Tests.{ne-eqb}
 use lib.ListN.{length, getD, drop, take, length-drop, drop-of-length-le}
 use lib.Seq.{drop-cons, drop-drop, getD-drop}
 use Rattle.lists.specs.Parts.{part}
-use Rattle.lists.specs.Find.{Clear, NextAt}
+use Rattle.lists.specs.Find.{Clear}
 use Rattle.utf8.specs.Encode.{encode}
 use Rattle.reference.specs.Text.{reference, Out, before, decode}
 use Rattle.reference.specs.Text.Out.{bytes, bad}
-use Rattle.reference.specs.Taken.{Taken, taken}
+use Rattle.reference.specs.Taken.{taken}
 use Rattle.reference.specs.declared.Reference.{Reference}
 
 pub before-none : (o : Out) → before [] o ≡ o

@@ -1,6 +1,6 @@
 -- The names that a reading asks for, by its sheet and its settings.
 use Prim.Native.Nat.{ℕ, zero, suc}
-use mathlib.Core.Bool.{Bool, true, false}
+use mathlib.Core.Bool.{Bool, false}
 use mathlib.Core.List.{List, [], _∷_}
 use mathlib.Core.Option.{Option, none, some, Option·getD}
 use Rattle.lists.specs.Tests.{pick}

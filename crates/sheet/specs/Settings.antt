@@ -1,6 +1,6 @@
 -- Settings (01, src/codec.rs: "only the maximum depth and the three flags"), and what they ask at a shape depth.
 use Prim.Native.Nat.{ℕ}
-use mathlib.Core.Bool.{Bool, true, false}
+use mathlib.Core.Bool.{Bool, false}
 use lib.Dec.{eqb, leb}
 use Rattle.lists.specs.Tests.{pick}
 use Rattle.sheet.specs.declared.ShapeDepth.{ShapeDepth}

@@ -1,11 +1,11 @@
 -- The three kinds of sheet (01, "Sheets and entries"), from bytes: what the sheet says, or none where it is broken (2).
 use Prim.Native.Nat.{ℕ}
 use mathlib.Core.Bool.{Bool, true, false}
-use mathlib.Core.List.{List, [], _∷_}
+use mathlib.Core.List.{List}
 use mathlib.Core.Option.{Option, none, some}
 use lib.Dec.{leb}
 use Rattle.lists.specs.Tests.{pick}
-use Rattle.sheet.specs.Front.{Front, front, broken, then, where-holds, byte, bitMap, bit, name, nameIf, times, all}
+use Rattle.sheet.specs.Front.{Front, front, then, where-holds, byte, bitMap, bit, name, nameIf, times, all}
 
 -- ---- "a count 0..64"
 abbrev pub mostMembers : ℕ

@@ -1,7 +1,7 @@
 -- An element of a table as a table of its own: its rows, counted from its first byte, with the piece as body and its length as final position, obey the rules
 -- and stand for the same tokens.
 use Prim.Native.Nat.{ℕ, zero, suc, _+_, _-_, _≤_, _<_}
-use mathlib.Core.Path.{_≡_, refl, sym, ap, _∙_}
+use mathlib.Core.Path.{_≡_, refl, ap}
 use mathlib.Core.Bool.{Bool, true, false}
 use mathlib.Core.List.{List, [], _∷_, map}
 use native.Mathlib.Omega.{arith}
@@ -9,11 +9,10 @@ use borrow.Author.Tests.{eqb-true, eqb-false}
 use lib.Dec.{eqb, lit<}
 use lib.ListN.{length, take, drop, getD}
 use Rattle.lists.specs.Tests.{pick, false-true}
-use Rattle.utf8.specs.Table.{isUtf8}
 use Rattle.utf8.specs.Cut.{utf8-part}
 use Rattle.table.specs.Row.{Row, cut, toksOf}
-use Rattle.table.specs.Rules.{among, Place, atFirst, after, beginOf, RowRules, EachRow, none, row, lastPosition, Rules}
-use Rattle.table.specs.Piece.{moved, openAfter, closing, isClosed, elementRows, pieceStart, pieceBytes, pieceRows, pieceFinal, ElementAt}
+use Rattle.table.specs.Rules.{among, Place, beginOf, RowRules, EachRow, none, row, lastPosition, Rules}
+use Rattle.table.specs.Piece.{moved, openAfter, closing, isClosed, elementRows, pieceBytes, pieceRows, pieceFinal, ElementAt}
 use Rattle.table.specs.Flat.{last-high}
 use Rattle.table.specs.Moved.{length-cut, moved-toks, element-rows, last-taken}
 

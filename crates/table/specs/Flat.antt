@@ -11,7 +11,7 @@ use lib.Dec.{leb}
 use lib.ListN.{length, getD, drop}
 use lib.Seq.{getD-drop}
 use Rattle.table.specs.Row.{Row, rowsOf}
-use Rattle.table.specs.Rules.{Place, atFirst, after, usesName, RowRules, EachRow, none, row, lastPosition, Rules, TableRules}
+use Rattle.table.specs.Rules.{Place, usesName, RowRules, EachRow, none, row, lastPosition, TableRules}
 
 -- row k
 abbrev pub rowAt : List ℕ → ℕ → Row

@@ -1,19 +1,19 @@
 -- Rows counted from a piece's first byte: they stand for the same tokens over the piece as over the body, and obey the same rules.
 use Prim.Native.Nat.{ℕ, zero, suc, _+_, _-_, _≤_, _<_}
-use mathlib.Core.Path.{_≡_, refl, sym, ap, ap₂, _∙_}
+use mathlib.Core.Path.{_≡_, refl, ap, ap₂, _∙_}
 use mathlib.Core.Bool.{Bool, true, false}
 use mathlib.Core.List.{List, [], _∷_, map}
 use mathlib.Core.Logic.{⊎-elim}
 use native.Mathlib.Nat.{eq-or-lt-of-le}
 use native.Mathlib.Omega.{arith}
-use borrow.Author.Tests.{leb-true, leb-false, eqb-true, eqb-false, ne-eqb}
+use borrow.Author.Tests.{leb-true, leb-false, eqb-true, eqb-false}
 use lib.Dec.{leb, eqb}
 use lib.ListN.{length, take, drop, getD, length-take, length-drop}
 use lib.Seq.{drop-drop, take-take, getD-take, getD-drop}
 use Rattle.lists.specs.Tests.{pick, pick-same, false-true}
-use Rattle.table.specs.Row.{Row, Name, Tok, cut, nameOf, valueOf, tokAs, tokOf, toksOf}
-use Rattle.table.specs.Rules.{among, usesName, usesValue, Place, atFirst, after, KnownKind, ZeroFields, FilledSpan, FilledSpans, LocalStart, lastLt, beginOf, LastLt, EndsIn, Ending, TagOrder, RowRules, EachRow, none, row, lastPosition}
-use Rattle.table.specs.Piece.{openAfter, movedSpan, moved, closing, elementRows, pieceStart}
+use Rattle.table.specs.Row.{Row, cut, tokAs, tokOf, toksOf}
+use Rattle.table.specs.Rules.{among, usesName, Place, atFirst, after, ZeroFields, FilledSpan, FilledSpans, LocalStart, lastLt, beginOf, LastLt, EndsIn, Ending, RowRules, EachRow, none, row, lastPosition}
+use Rattle.table.specs.Piece.{openAfter, movedSpan, moved, closing}
 
 -- ---- parts of a body
 -- dropping some of a front

@@ -1,8 +1,8 @@
 -- The pass over the rows: what is tested of a row, the invariant of the loop, and the whole test.
-use Prim.Native.Nat.{ℕ, zero, suc, _+_, _-_, _*_, _/_, _%_, _≤_, _<_}
-use mathlib.Core.Path.{_≡_, refl, sym, _∙_, ap}
+use Prim.Native.Nat.{ℕ, _+_, _-_, _*_, _/_, _%_, _≤_, _<_}
+use mathlib.Core.Path.{_≡_, sym, _∙_, ap}
 use mathlib.Core.Bool.{Bool, true, false}
-use mathlib.Core.List.{List, [], _∷_}
+use mathlib.Core.List.{List, _∷_}
 use native.Mathlib.Omega.{arith}
 use borrow.Author.Needs.{needs}
 use borrow.Author.Tests.{not-true, not-false}
@@ -11,12 +11,12 @@ use Rattle.lists.specs.Tests.{false-true}
 use Rattle.lists.specs.Decide.{isYes, Says, says-yes, says-no, says-same, says-not, says-is, yes-of, no-of}
 use Rattle.utf8.specs.Table.{isUtf8}
 use Rattle.table.specs.Row.{Row, rowsOf}
-use Rattle.table.specs.Rules.{Place, atFirst, after, RowRules, EachRow, none, row, lastPosition, Rules, TableRules}
+use Rattle.table.specs.Rules.{Place, atFirst, after, RowRules, EachRow, none, row, lastPosition, TableRules}
 use Rattle.table.specs.Flat.{rowAt, rowsFrom, length-rows, rows-same, rows-whole, unroll, rolled-out, last-high, SpansIn, spans-in}
 use Rattle.table.specs.Test.{first, decTable}
 use Rattle.table.specs.Spans.{Spans, local-in, filled}
 use Rattle.table.specs.Bytes.{BytesIn, Bytes}
-use Rattle.table.specs.Order.{Order, place, stepTo, StepsTo}
+use Rattle.table.specs.Order.{Order, place, StepsTo}
 
 -- ---- a row
 -- row k at p, before so many more, obeys the rules, and ends no later than the last position

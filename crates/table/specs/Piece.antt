@@ -1,5 +1,5 @@
 -- An element of a table, its rows, and rows counted from a piece's first byte (01, "Token table", the end of "Rules").
-use Prim.Native.Nat.{ℕ, zero, suc, _+_, _-_, _≤_, _<_}
+use Prim.Native.Nat.{ℕ, zero, suc, _-_}
 use mathlib.Core.Path.{_≡_}
 use mathlib.Core.Bool.{Bool, true, false}
 use mathlib.Core.List.{List, [], _∷_, map}
@@ -7,7 +7,7 @@ use lib.Dec.{eqb}
 use lib.ListN.{length, take, drop}
 use Rattle.lists.specs.Tests.{pick}
 use Rattle.table.specs.Row.{Row, cut}
-use Rattle.table.specs.Rules.{among, usesName, usesValue, beginOf, lastPosition}
+use Rattle.table.specs.Rules.{among, usesName, beginOf, lastPosition}
 
 -- a filled span's start is counted from s, an empty one's stays
 abbrev pub movedSpan : ℕ → ℕ → ℕ → ℕ

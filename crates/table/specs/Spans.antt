@@ -2,15 +2,15 @@
 use Prim.Native.Nat.{ℕ, zero, suc, _+_, _-_, _*_, _≤_, _<_}
 use mathlib.Core.Path.{_≡_, refl, sym, _∙_}
 use mathlib.Core.Bool.{Bool, true, false}
-use mathlib.Core.List.{List, [], _∷_}
+use mathlib.Core.List.{List}
 use native.Mathlib.Omega.{arith}
 use borrow.Author.Needs.{needs}
 use borrow.Author.Tests.{not-true, not-false}
 use lib.Dec.{eqb, leb}
-use lib.ListN.{length, getD}
+use lib.ListN.{getD}
 use Rattle.lists.specs.Tests.{false-true, pick-flag, tests}
-use Rattle.lists.specs.Decide.{Says, says-yes, says-no, says-same, says-not, says-eqb, says-leb}
-use Rattle.table.specs.Rules.{among, usesName, usesValue, FilledSpan}
+use Rattle.lists.specs.Decide.{Says, says-no, says-same, says-not, says-eqb, says-leb}
+use Rattle.table.specs.Rules.{usesName, usesValue, FilledSpan}
 
 -- the tests of `among`
 pub ruleset kinds = (tests, pick-flag)

@@ -1,7 +1,5 @@
 -- The rules as a test that computes: for each rule a decision (`Dec`) of the very statement.
-use Prim.Native.Nat.{ℕ, zero, suc, _+_, _-_, _%_, _≤_, _<_}
-use mathlib.Core.Path.{_≡_}
-use mathlib.Core.Bool.{Bool, true, false}
+use Prim.Native.Nat.{ℕ, _+_, _-_, _%_}
 use mathlib.Core.List.{List, [], _∷_}
 use native.Mathlib.Decide.{ℕ-discrete, decLe, decLt}
 use lib.ListN.{length, getD}
@@ -9,41 +7,7 @@ use Rattle.lists.specs.Decide.{_and_, _implies_, same, isTrue, isFalse}
 use Rattle.utf8.specs.Table.{isUtf8, walk, inRange}
 use Rattle.utf8.specs.Table as utf8
 use Rattle.table.specs.Row.{Row, rowsOf}
-use Rattle.table.specs.Rules.{
-  mostRows,
-  mostBytes,
-  mostOpen,
-  among,
-  usesName,
-  usesValue,
-  Place,
-  atFirst,
-  after,
-  KnownKind,
-  ZeroFields,
-  PositionRises,
-  FilledSpan,
-  FilledSpans,
-  LocalStart,
-  lastLt,
-  beginOf,
-  LastLt,
-  TagBegins,
-  EndsIn,
-  Ending,
-  TagOrder,
-  NeedsOpen,
-  AfterRoot,
-  ErrorLast,
-  OpenLimit,
-  RowRules,
-  EachRow,
-  none,
-  row,
-  lastPosition,
-  Rules,
-  TableRules,
-}
+use Rattle.table.specs.Rules.{mostRows, mostBytes, mostOpen, among, usesName, usesValue, Place, atFirst, after, KnownKind, ZeroFields, FilledSpan, FilledSpans, LocalStart, lastLt, beginOf, TagBegins, EndsIn, Ending, TagOrder, NeedsOpen, AfterRoot, ErrorLast, OpenLimit, RowRules, EachRow, none, row, lastPosition, Rules, TableRules}
 
 unfoldable pub decKind : (r : Row) → Dec (KnownKind r)
 unfolding decLe

@@ -1,24 +1,24 @@
 -- Laws of writing what a text comes to: that the bytes stay within the room, what each store leaves, and the answer.
-use Prim.Native.Nat.{ℕ, zero, suc, _+_, _-_, _^_, _≤_, _<_}
-use mathlib.Core.Path.{_≡_, refl, sym, _∙_, ap, subst}
+use Prim.Native.Nat.{ℕ, _+_, _≤_, _<_}
+use mathlib.Core.Path.{_≡_, refl, sym, _∙_, subst}
 use mathlib.Core.Bool.{Bool, true, false}
-use mathlib.Core.List.{List, [], _∷_, _++_}
+use mathlib.Core.List.{List, [], _++_}
 use native.Mathlib.Nat.{zero-add}
 use native.Mathlib.Omega.{arith}
-use borrow.Author.Tests.{le-leb, lt-leb, leb-true, leb-false}
+use borrow.Author.Tests.{le-leb, lt-leb, leb-true}
 use borrow.Author.Needs.{needs}
 use lib.Dec.{leb}
-use lib.ListN.{length, getD, drop, take, length-append}
-use lib.Seq.{sets, sets-eq, length-sets, take-all}
+use lib.ListN.{length, getD, drop, length-append}
+use lib.Seq.{sets, sets-eq, length-sets}
 use Rattle.lists.specs.Tests.{pick}
 use Rattle.lists.specs.Parts.{part, getD-in}
-use Rattle.lists.specs.Find.{Clear, NextAt}
+use Rattle.lists.specs.Find.{NextAt}
 use Rattle.lists.specs.Overwrite.{overwritten, overwrite-none, overwrite-more, Stored}
 use Rattle.utf8.specs.Encode.{scalar, encode}
 use Rattle.reference.specs.Text.{reference, Out, before, decode, answer, filled, unescaped, Unescape}
 use Rattle.reference.specs.Text.Out.{bytes, bad}
 use Rattle.reference.specs.Result.{plain-unescapes}
-use Rattle.reference.specs.Taken.{Taken, taken}
+use Rattle.reference.specs.Taken.{taken}
 use Rattle.reference.specs.Walk.{DecodeAt, decode-start, decode-plain, decode-end, decode-bad, decode-ref}
 use Rattle.unescape.specs.Loops.{seek-laws, sizeOf, next-fits, next-less, run-less}
 use Rattle.reference.specs.declared.Reference.{Reference}

@@ -2,21 +2,21 @@
 use Prim.Native.Nat.{ℕ, _+_, _-_, _^_, _≤_, _<_}
 use mathlib.Core.Path.{_≡_, refl, sym, _∙_}
 use mathlib.Core.Bool.{Bool, true, false}
-use mathlib.Core.List.{List, [], _++_}
+use mathlib.Core.List.{List, []}
 use native.Mathlib.Omega.{arith}
 use borrow.Author.Needs.{needs}
 use borrow.Author.Tests.{leb-true, leb-false}
 use mir.Val.{Fits}
 use mir.Syntax.{w64}
 use lib.Dec.{leb}
-use lib.ListN.{length, getD, drop, take, length-drop, length-append, length-take}
+use lib.ListN.{length, getD, drop, length-drop, length-append, length-take}
 use lib.Seq.{getD-drop}
 use Rattle.lists.specs.Parts.{part}
 use Rattle.lists.specs.Find.{Clear, NextAt}
 use Rattle.utf8.specs.Encode.{encode, EncodedLen}
 use Rattle.reference.specs.Text.{reference, Out, references, verdict, validated, unescaped}
 use Rattle.reference.specs.Text.Out.{bytes, bad}
-use Rattle.reference.specs.Taken.{Taken, taken}
+use Rattle.reference.specs.Taken.{taken}
 use Rattle.reference.specs.Grammar.{reference-no-amp}
 use Rattle.reference.specs.Walk.{DecodeAt, decode-start, decode-plain, decode-end, decode-bad, decode-ref}
 use Rattle.reference.specs.declared.Reference.{Reference}

@@ -12,7 +12,7 @@ use mir.Val.{Fits}
 use mir.Syntax.{w64}
 use lib.Dec.{ltb, leb, eqb}
 use lib.ListN.{length, getD, drop, take, drop-of-length-le, length-take, length-drop}
-use lib.Seq.{drop-cons, drop-drop}
+use lib.Seq.{drop-cons}
 use Rattle.lists.specs.Tests.{pick, pick-same, pick-all, false-true}
 use Rattle.lists.specs.Bytes.{ascii, sameb, same-is}
 use Rattle.lists.specs.Parts.{getD-in}

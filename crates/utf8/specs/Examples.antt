@@ -1,7 +1,6 @@
 -- `encode` at the ends of each row of Table 3-6, and at two characters that the standard's own text shows (2.5, Figure 2-11).
-use Prim.Native.Nat.{ℕ}
 use mathlib.Core.Path.{_≡_, refl}
-use mathlib.Core.List.{List, [], _∷_, map}
+use mathlib.Core.List.{[], _∷_, map}
 use Rattle.utf8.specs.Encode.{encode}
 
 pub encoded :

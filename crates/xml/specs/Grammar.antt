@@ -6,7 +6,7 @@
 use Prim.Native.Nat.{ℕ}
 use mathlib.Core.List.{List, [], _∷_, List·Memᴰ}
 use Rattle.reference.specs.Xml.{EachReference}
-use Rattle.table.specs.Row.{Name, Tok, start, attr, gt, close, slash, text, misc, bad}
+use Rattle.table.specs.Row.{Name, Tok, start, attr, gt, close, slash, text, misc}
 
 -- (S Attribute)* of [40] and [44], with [41] Attribute ::= Name Eq AttValue: seen are the names before, and none comes twice (WFC: Unique
 -- Att Spec); each `&` of the value begins a Reference ([10] AttValue)
