@@ -1,10 +1,12 @@
--- Each answer as 01's number ("Numbers") and values: 0 where the operation finished.
+-- Each answer as 01's number (refusal/specs/Numbers.antt) and values: 0 where the operation finished.
 use Prim.Native.Nat.{ℕ}
 use mathlib.Core.Path.{_≡_}
 use mathlib.Core.Bool.{Bool, true, false}
 use mathlib.Core.List.{List}
 use borrow.Author.Needs.{needs}
 use lib.ListN.{length}
+use Rattle.refusal.specs.declared.Refusal.{Refusal}
+use Rattle.refusal.specs.Numbers.{number}
 use Rattle.reference.specs.Text.{answer, filled, unescaped, Unescape}
 use Rattle.reference.specs.declared.Validated.{Validated}
 use Rattle.reference.specs.declared.Unescaped.{Unescaped}
@@ -14,22 +16,6 @@ use Rattle.xml.specs.declared.Drained.{Drained}
 abbrev pub finished : ℕ
 finished = 0
 
--- "1 table"
-abbrev pub brokenTable : ℕ
-brokenTable = 1
-
--- "9 ill-formed"
-abbrev pub illFormed : ℕ
-illFormed = 9
-
--- "7 reference"
-abbrev pub badReference : ℕ
-badReference = 7
-
--- "10 no room"
-abbrev pub noRoom : ℕ
-noRoom = 10
-
 -- 1 or 0
 abbrev pub yesNo : Bool → ℕ
 yesNo true = 1
@@ -38,13 +24,13 @@ yesNo false = 0
 -- "Validate. 7."
 abbrev pub validatedNumber : Validated → ℕ
 validatedNumber Validated.Valid = finished
-validatedNumber Validated.BadReference = badReference
+validatedNumber Validated.BadReference = number Refusal.BadReference
 
 -- "Unescape. 7, then 10": the number, and how many bytes were written
 abbrev pub unescapedNumber : Unescaped → ℕ
 unescapedNumber (Unescaped.Length n) = finished
-unescapedNumber Unescaped.BadReference = badReference
-unescapedNumber Unescaped.NoRoom = noRoom
+unescapedNumber Unescaped.BadReference = number Refusal.BadReference
+unescapedNumber Unescaped.NoRoom = number Refusal.NoRoom
 
 abbrev pub unescapedLength : Unescaped → ℕ
 unescapedLength (Unescaped.Length n) = n
@@ -68,8 +54,8 @@ causeNumber Cause.BadReference = 5
 -- "Drain. 1; then 9 with the first failing row and its cause": the number, the row and the cause
 abbrev pub drainedNumber : Drained → ℕ
 drainedNumber Drained.Passes = finished
-drainedNumber Drained.Table = brokenTable
-drainedNumber (Drained.IllFormed row cause) = illFormed
+drainedNumber Drained.Table = number Refusal.Table
+drainedNumber (Drained.IllFormed row cause) = number Refusal.IllFormed
 
 abbrev pub drainedRow : Drained → ℕ
 drainedRow Drained.Passes = 0
@@ -91,27 +77,27 @@ module _ {x : Validated} (y : Validated) (q : x ≡ y) where
   pub call-valid : x ≡ Validated.Valid → finished ≡ validatedNumber y
   call-valid e = rw (← q, e)
 
-  pub call-invalid : x ≡ Validated.BadReference → badReference ≡ validatedNumber y
+  pub call-invalid : x ≡ Validated.BadReference → number Refusal.BadReference ≡ validatedNumber y
   call-invalid e = rw (← q, e)
 
 module _ {text old new : List ℕ} {x : Unescaped} (u : Unescape text old new x) where
   pub call-length : {n : ℕ} → x ≡ Unescaped.Length n → UnescapeCall text old new n finished
   call-length e = record { number = rw (← u .number, e); written = rw (← u .number, e); buffer = u .buffer }
 
-  pub call-bad : x ≡ Unescaped.BadReference → UnescapeCall text old new 0 badReference
+  pub call-bad : x ≡ Unescaped.BadReference → UnescapeCall text old new 0 (number Refusal.BadReference)
   call-bad e = record { number = rw (← u .number, e); written = rw (← u .number, e); buffer = u .buffer }
 
-  pub call-none : x ≡ Unescaped.NoRoom → UnescapeCall text old new 0 noRoom
+  pub call-none : x ≡ Unescaped.NoRoom → UnescapeCall text old new 0 (number Refusal.NoRoom)
   call-none e = record { number = rw (← u .number, e); written = rw (← u .number, e); buffer = u .buffer }
 
 module _ (d : Drained) {x : Drained} (q : x ≡ d) where
   pub call-passes : x ≡ Drained.Passes → DrainCall d 0 0 finished
   call-passes e = record { number = rw (← q, e); first = rw (← q, e); why = rw (← q, e) }
 
-  pub call-table : x ≡ Drained.Table → DrainCall d 0 0 brokenTable
+  pub call-table : x ≡ Drained.Table → DrainCall d 0 0 (number Refusal.Table)
   call-table e = record { number = rw (← q, e); first = rw (← q, e); why = rw (← q, e) }
 
-  pub call-ill-formed : {row n : ℕ} {cause : Cause} → x ≡ Drained.IllFormed row cause → n ≡ causeNumber cause → DrainCall d row n illFormed
+  pub call-ill-formed : {row n : ℕ} {cause : Cause} → x ≡ Drained.IllFormed row cause → n ≡ causeNumber cause → DrainCall d row n (number Refusal.IllFormed)
   call-ill-formed e c = record { number = rw (← q, e); first = rw (← q, e); why = rw (← q, e) c }
 
 module _ {x : Bool} (y : Bool) (q : x ≡ y) where

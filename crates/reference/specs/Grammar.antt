@@ -444,7 +444,7 @@ each-complete at zero (x ∷ s) h = go (eqb x 38) refl (λ k. each-complete (suc
 
 -- ---- `validate` takes a text exactly when each `&` of it begins a Reference
 pub validate-sound : (t : List ℕ) → validated t ≡ Validated.Valid → EachReference t
-unfolding validated references verdict NoAmp
+unfolding validated references verdict
 validate-sound t e = go (decode true 0 0 t) refl e
   where
     go : (o : Out) → decode true 0 0 t ≡ o → verdict o ≡ Validated.Valid → EachReference t
