@@ -9,3 +9,4 @@ pub mod Steps
 pub mod One
 pub mod Met
 pub mod Passing
+pub mod Examples

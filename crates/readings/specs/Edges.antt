@@ -40,7 +40,7 @@ abbrev output : List Entry → List ℕ → Output
 output entries texts = record { entries = entries; texts = texts }
 
 -- a name in a sheet
-abbrev named : String → List ℕ
+abbrev pub named : String → List ℕ
 named s = length (ascii s) ∷ ascii s
 
 -- a structure sheet of shape `s`, without members, and a list sheet without a member

@@ -11,3 +11,4 @@ pub mod Demand
 pub mod All
 pub mod Edges
 pub mod Worked
+pub mod Strays
