@@ -1,4 +1,5 @@
 pub mod Output
+pub mod Fold
 pub mod Opening
 pub mod Structure
 pub mod Collection
