@@ -6,3 +6,4 @@ pub mod Collection
 pub mod Scalar
 pub mod Find
 pub mod Conditions
+pub mod Seen
