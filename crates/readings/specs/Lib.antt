@@ -7,3 +7,4 @@ pub mod Scalar
 pub mod Find
 pub mod Conditions
 pub mod Seen
+pub mod Texts
