@@ -10,7 +10,9 @@ use lib.Dec.{ltb, leb}
 use lib.ListN.{length, length-append}
 use Rattle.lists.specs.Tests.{pick, pick-cases, false-true}
 use Rattle.refusal.specs.declared.Refusal.{Refusal}
-use Rattle.readings.specs.Output.{Entry, Room, Output, nothing, Reading, finished, refused, output, andThen, each, fits, write}
+use Rattle.refusal.specs.Numbers.{number}
+use Rattle.document.specs.Scope.{Piece}
+use Rattle.readings.specs.Output.{Entry, textKind, pieceKind, groupKind, failedKind, plain, Room, Output, nothing, Reading, finished, refused, output, andThen, each, fits, write}
 
 -- ---- finished, or refused
 abbrev refusalIn : Refusal → Reading → Refusal
@@ -98,6 +100,25 @@ each-keeps {A} Q f (x ∷ l) step out q =
 pub andThen-keeps : (Q : Output → Type 0) (r : Reading) (f : Output → Reading) → Q (output r) → ((out : Output) → Q out → Q (output (f out))) → Q (output (andThen r f))
 andThen-keeps Q (finished out) f q step = step out q
 andThen-keeps Q (refused r out) f q step = q
+
+-- ---- the entries that are written, made with the place where their bytes begin
+abbrev pub textEntry : ℕ → List ℕ → ℕ → Entry
+textEntry member bytes at = plain textKind member at (length bytes)
+
+abbrev pub pieceEntry : ℕ → Piece → ℕ → Entry
+pieceEntry member piece at = plain pieceKind member (piece .start) (piece .len)
+
+abbrev pub groupEntry : ℕ → List ℕ → ℕ → Entry
+groupEntry member bytes at = plain groupKind member at (length bytes)
+
+abbrev pub failedEntry : ℕ → Refusal → ℕ → Entry
+failedEntry member refusal at = plain failedKind member (number refusal) 0
+
+abbrev pub keyTextEntry : List ℕ → List ℕ → ℕ → Entry
+keyTextEntry key bytes at = record { kind = textKind; member = 0; keyStart = at; keyLen = length key; start = at + length key; len = length bytes }
+
+abbrev pub keyPieceEntry : List ℕ → Piece → ℕ → Entry
+keyPieceEntry key piece at = record { kind = pieceKind; member = 0; keyStart = at; keyLen = length key; start = piece .start; len = piece .len }
 
 -- what a write that fits has written
 abbrev pub written : (ℕ → Entry) → List ℕ → Output → Output

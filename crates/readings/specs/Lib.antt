@@ -1,5 +1,6 @@
 pub mod Output
 pub mod Fold
+pub mod Within
 pub mod Opening
 pub mod Structure
 pub mod Collection
