@@ -7,5 +7,6 @@ pub mod Collection
 pub mod Scalar
 pub mod Find
 pub mod Conditions
+pub mod Full
 pub mod Seen
 pub mod Texts
