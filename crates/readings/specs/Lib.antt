@@ -10,3 +10,4 @@ pub mod Conditions
 pub mod Full
 pub mod Seen
 pub mod Texts
+pub mod CollectionConditions
