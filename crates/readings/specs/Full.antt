@@ -48,25 +48,40 @@ write-refusal room bytes out new r kept = (go (fits room bytes out) refl, back)
     back : {q : Refusal} {o : Output} → WriteRefused room bytes out q o → pick (fits room bytes out) (finished new) (refused Refusal.NoRoom out) ≡ refused q o
     back (no-room n) = rw (no-room-is room bytes out .1 n)
 
--- ---- a reading over a list, with its test at the end: what a step may refuse at an element, or 9 after all of them
-pub data Collected {A : Type 0} (f : A → Output → Reading) (l : List A) (Step : A → Output → Refusal → Output → Type 0) (Fails : Type 0) : Refusal → Output → Type 0 where
-  at-element : {x : A} {before : Output} {r : Refusal} {kept : Output} → Reached f l nothing x before → Step x before r kept → Collected f l Step Fails r kept
-  at-end : {out : Output} → each f l nothing ≡ finished out → Fails → Collected f l Step Fails Refusal.IllFormed out
+-- ---- a reading over a list is refused at an element: those before it were read, and its step is refused
+pub data AtElement {A : Type 0} (f : A → Output → Reading) (l : List A) (out : Output) (Step : A → Output → Refusal → Output → Type 0) : Refusal → Output → Type 0 where
+  at-element : {x : A} {before : Output} {r : Refusal} {kept : Output} → Reached f l out x before → Step x before r kept → AtElement f l out Step r kept
 
-pub collected-refusal : {A : Type 0} (f : A → Output → Reading) (l : List A) (Step : A → Output → Refusal → Output → Type 0) (Fails : Type 0) (illFormed : Bool) →
-    ((x : A) (before : Output) (r : Refusal) (kept : Output) → (f x before ≡ refused r kept) ↔ Step x before r kept) → (illFormed ≡ true) ↔ Fails →
-    (r : Refusal) (out : Output) → (andThen (each f l nothing) (endTest illFormed) ≡ refused r out) ↔ Collected f l Step Fails r out
+pub each-refusal : {A : Type 0} (f : A → Output → Reading) (l : List A) (out : Output) (Step : A → Output → Refusal → Output → Type 0)
+    → ((x : A) (before : Output) (r : Refusal) (kept : Output) → (f x before ≡ refused r kept) ↔ Step x before r kept)
+    → (r : Refusal) (kept : Output) → (each f l out ≡ refused r kept) ↔ AtElement f l out Step r kept
+each-refusal {A} f l out Step step r kept = (there, back)
+  where
+    there : each f l out ≡ refused r kept → AtElement f l out Step r kept
+    there e = let w = each-refused f l out e in at-element (w .reached) (step (w .element) (w .before) r kept .0 (w .refuses))
+
+    back : {n : Refusal} {o : Output} → AtElement f l out Step n o → each f l out ≡ refused n o
+    back (at-element {x = x} {before = before} {r = n} {kept = o} w s) =
+        refused-each (record { element = x; before = before; reached = w; refuses = step x before n o .1 s })
+
+-- with a test at the end: what a step refuses "as met", or 9 "last"
+pub data Collected {A : Type 0} (f : A → Output → Reading) (l : List A) (Step : A → Output → Refusal → Output → Type 0) (Fails : Type 0) : Refusal → Output → Type 0 where
+  as-met : {r : Refusal} {kept : Output} → AtElement f l nothing Step r kept → Collected f l Step Fails r kept
+  last : {out : Output} → each f l nothing ≡ finished out → Fails → Collected f l Step Fails Refusal.IllFormed out
+
+pub collected-refusal : {A : Type 0} (f : A → Output → Reading) (l : List A) (Step : A → Output → Refusal → Output → Type 0) (Fails : Type 0) (illFormed : Bool)
+    → ((x : A) (before : Output) (r : Refusal) (kept : Output) → (f x before ≡ refused r kept) ↔ Step x before r kept) → (illFormed ≡ true) ↔ Fails
+    → (r : Refusal) (out : Output) → (andThen (each f l nothing) (endTest illFormed) ≡ refused r out) ↔ Collected f l Step Fails r out
 collected-refusal {A} f l Step Fails illFormed step fails r out = (go (each f l nothing) refl, back)
   where
     atEnd : (t : Bool) → illFormed ≡ t → (mid : Output) → each f l nothing ≡ finished mid → endTest t mid ≡ refused r out → Collected f l Step Fails r out
-    atEnd true p mid q e = refused-same (Collected f l Step Fails) e (at-end q (fails .0 p))
+    atEnd true p mid q e = refused-same (Collected f l Step Fails) e (last q (fails .0 p))
     atEnd false p mid q e = not-both e
 
     go : (y : Reading) → each f l nothing ≡ y → andThen y (endTest illFormed) ≡ refused r out → Collected f l Step Fails r out
     go (finished mid) p e = atEnd illFormed refl mid p e
-    go (refused n mid) p e = let w = each-refused f l nothing (p ∙ e) in at-element (w .reached) (step (w .element) (w .before) r out .0 (w .refuses))
+    go (refused n mid) p e = as-met (each-refusal f l nothing Step step r out .0 (p ∙ e))
 
     back : {n : Refusal} {o : Output} → Collected f l Step Fails n o → andThen (each f l nothing) (endTest illFormed) ≡ refused n o
-    back (at-element {x = x} {before = before} {r = n} {kept = o} w s) =
-        rw (refused-each (record { element = x; before = before; reached = w; refuses = step x before n o .1 s }))
-    back (at-end q w) = rw (q, fails .1 w)
+    back (as-met {r = n} {kept = o} w) = rw (each-refusal f l nothing Step step n o .1 w)
+    back (last q w) = rw (q, fails .1 w)
