@@ -11,3 +11,4 @@ pub mod Full
 pub mod Seen
 pub mod Texts
 pub mod CollectionConditions
+pub mod GroupConditions
