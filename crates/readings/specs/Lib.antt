@@ -12,3 +12,4 @@ pub mod Seen
 pub mod Texts
 pub mod CollectionConditions
 pub mod GroupConditions
+pub mod StructureConditions

@@ -1,0 +1,97 @@
+-- 01, "Structure": which refusals it gives, and that each is given exactly where its condition holds, on every input: "1, 2, 3, 4, 5, then as met: 10, and
+-- 9 after the children."
+use Prim.Native.Nat.{ℕ}
+use mathlib.Core.Path.{_≡_, refl, sym, _∙_, ap, subst}
+use mathlib.Core.Logic.{_↔_}
+use mathlib.Core.Bool.{Bool, true, false}
+use mathlib.Core.List.{List, [], _∷_}
+use mathlib.Core.Option.{Option, none, some}
+use Rattle.lists.specs.Tests.{pick, false-true}
+use Rattle.refusal.specs.declared.Refusal.{Refusal}
+use Rattle.refusal.specs.Answer.{Answer, gives, refuses}
+use Rattle.document.specs.Names.{nameMatches}
+use Rattle.document.specs.View.{View}
+use Rattle.document.specs.Reader.{Attribute}
+use Rattle.document.specs.Scope.{Child, childrenOf, Piece, pieceOf}
+use Rattle.document.specs.Text.{textOf}
+use Rattle.sheet.specs.declared.ShapeDepth.{ShapeDepth}
+use Rattle.sheet.specs.Settings.{Settings, isStrict, testsRootName}
+use Rattle.sheet.specs.Sheet.{Structure, structureOf}
+use Rattle.sheet.specs.Names.{rootName, attributeName, Indexed, membersOf, resolve}
+use Rattle.readings.specs.Output.{Room, Output, nothing, Reading, finished, refused, output, andThen, each, writeText, writePiece}
+use Rattle.readings.specs.Opening.{Opened, Asked, endTest}
+use Rattle.readings.specs.Structure.{attributeOf, writeFound, readAttribute, readScalar, readMember, readChild, groupOf, readGroups, readMembers, rootPiece, writeRoot, readUnwrapped, withRootName, readOpened, structureReading}
+use Rattle.readings.specs.Fold.{not-both, refused-same, Within}
+use Rattle.readings.specs.Within.{attributes-within, children-within}
+use Rattle.readings.specs.Conditions.{OpenedAs, AskedAs, Refused, reading-refusal}
+use Rattle.readings.specs.Full.{NoRoomFor, WriteRefused, no-room, write-refusal, AtElement, each-refusal}
+use Rattle.readings.specs.GroupConditions.{GroupsFull, GroupsRefused, groups-no-room, groups-refusal}
+use Rattle.readings.specs.Seen.{DrainFails, opened-fails, opened-passes}
+
+-- ---- "attribute members in sheet order"
+pub data AttributeRefused (room : Room) (attributes : List Attribute) (m : Indexed) (before : Output) : Refusal → Output → Type 0 where
+  attribute-no-room : {v : List ℕ} → m .member .attribute ≡ true → attributeOf attributes (attributeName (m .member)) ≡ some v → NoRoomFor room v before →
+      AttributeRefused room attributes m before Refusal.NoRoom before
+
+attribute-refusal : (room : Room) (attributes : List Attribute) (m : Indexed) (before : Output) (r : Refusal) (kept : Output) →
+    (readAttribute room attributes m before ≡ refused r kept) ↔ AttributeRefused room attributes m before r kept
+unfolding readAttribute
+attribute-refusal room attributes m before r kept = (go (m .member .attribute) refl, back)
+  where
+    full : {v : List ℕ} → m .member .attribute ≡ true → attributeOf attributes (attributeName (m .member)) ≡ some v → {q : Refusal} {o : Output} →
+        WriteRefused room v before q o → AttributeRefused room attributes m before q o
+    full a p (no-room n) = attribute-no-room a p n
+
+    found : (x : Option (List ℕ)) → attributeOf attributes (attributeName (m .member)) ≡ x → m .member .attribute ≡ true →
+        writeFound room (m .index) x before ≡ refused r kept → AttributeRefused room attributes m before r kept
+    found none p a e = not-both e
+    found (some v) p a e = full a p (write-refusal room v before _ r kept .0 e)
+
+    go : (t : Bool) → m .member .attribute ≡ t → pick t (writeFound room (m .index) (attributeOf attributes (attributeName (m .member))) before) (finished before) ≡ refused r kept →
+        AttributeRefused room attributes m before r kept
+    go true a e = found (attributeOf attributes (attributeName (m .member))) refl a e
+    go false a e = not-both e
+
+    back : {q : Refusal} {o : Output} → AttributeRefused room attributes m before q o →
+        pick (m .member .attribute) (writeFound room (m .index) (attributeOf attributes (attributeName (m .member))) before) (finished before) ≡ refused q o
+    back (attribute-no-room {v = v} a p n) = rw (a, p) (write-refusal room v before _ Refusal.NoRoom before .1 (no-room n))
+
+-- ---- "then children in body order"
+-- the text bytes that the entry of a child has: of a text its bytes; of a piece, and of "a scalar that fails", none. A child that no member has the name
+-- of, and one that is kept for its group, has no entry here
+pub data ChildWrites (failure : Option Refusal) (s : Structure) (c : Child) : List ℕ → Type 0 where
+  writes-text : {m : Indexed} {bytes : List ℕ} → resolve s (c .start .name .local) ≡ some m → m .member .aggregate ≡ false → textOf failure c ≡ gives bytes → ChildWrites failure s c bytes
+  writes-failed : {m : Indexed} {r : Refusal} → resolve s (c .start .name .local) ≡ some m → m .member .aggregate ≡ false → textOf failure c ≡ refuses r → ChildWrites failure s c []
+  writes-piece : {m : Indexed} → resolve s (c .start .name .local) ≡ some m → m .member .aggregate ≡ true → m .member .flattened ≡ false → ChildWrites failure s c []
+
+pub data ChildRefused (failure : Option Refusal) (s : Structure) (room : Room) (c : Child) (before : Output) : Refusal → Output → Type 0 where
+  child-no-room : {bytes : List ℕ} → ChildWrites failure s c bytes → NoRoomFor room bytes before → ChildRefused failure s room c before Refusal.NoRoom before
+
+child-refusal : (body : List ℕ) (v : View) (s : Structure) (room : Room) (c : Child) (before : Output) (r : Refusal) (kept : Output) →
+    (readChild body v s room c before ≡ refused r kept) ↔ ChildRefused (v .failure) s room c before r kept
+unfolding readChild
+child-refusal body v s room c before r kept = (go (resolve s (c .start .name .local)) refl, back)
+  where
+    full : {bytes : List ℕ} → ChildWrites (v .failure) s c bytes → {q : Refusal} {o : Output} → WriteRefused room bytes before q o → ChildRefused (v .failure) s room c before q o
+    full w (no-room n) = child-no-room w n
+
+    scalar : (m : Indexed) (a : Answer (List ℕ)) → textOf (v .failure) c ≡ a → resolve s (c .start .name .local) ≡ some m → m .member .aggregate ≡ false →
+        readScalar room (m .index) a before ≡ refused r kept → ChildRefused (v .failure) s room c before r kept
+    scalar m (gives bytes) t p a e = full (writes-text p a t) (write-refusal room bytes before _ r kept .0 e)
+    scalar m (refuses n) t p a e = full (writes-failed p a t) (write-refusal room [] before _ r kept .0 e)
+
+    member : (m : Indexed) (aggregate flattened : Bool) → m .member .aggregate ≡ aggregate → m .member .flattened ≡ flattened → resolve s (c .start .name .local) ≡ some m →
+        pick aggregate (pick flattened (finished before) (writePiece room (m .index) (pieceOf body v c) before)) (readScalar room (m .index) (textOf (v .failure) c) before) ≡ refused r kept →
+        ChildRefused (v .failure) s room c before r kept
+    member m true true a f p e = not-both e
+    member m true false a f p e = full (writes-piece p a f) (write-refusal room [] before _ r kept .0 e)
+    member m false flattened a f p e = scalar m (textOf (v .failure) c) refl p a e
+
+    go : (x : Option Indexed) → resolve s (c .start .name .local) ≡ x → readMember body v room c x before ≡ refused r kept → ChildRefused (v .failure) s room c before r kept
+    go none p e = not-both e
+    go (some m) p e = member m (m .member .aggregate) (m .member .flattened) refl refl p e
+
+    back : {q : Refusal} {o : Output} → ChildRefused (v .failure) s room c before q o → readMember body v room c (resolve s (c .start .name .local)) before ≡ refused q o
+    back (child-no-room (writes-text {bytes = bytes} p a t) n) = rw (p, a, t) (write-refusal room bytes before _ Refusal.NoRoom before .1 (no-room n))
+    back (child-no-room (writes-failed p a t) n) = rw (p, a, t) (write-refusal room [] before _ Refusal.NoRoom before .1 (no-room n))
+    back (child-no-room (writes-piece p a f) n) = rw (p, a, f) (write-refusal room [] before _ Refusal.NoRoom before .1 (no-room n))
