@@ -95,3 +95,75 @@ child-refusal body v s room c before r kept = (go (resolve s (c .start .name .lo
     back (child-no-room (writes-text {bytes = bytes} p a t) n) = rw (p, a, t) (write-refusal room bytes before _ Refusal.NoRoom before .1 (no-room n))
     back (child-no-room (writes-failed p a t) n) = rw (p, a, t) (write-refusal room [] before _ Refusal.NoRoom before .1 (no-room n))
     back (child-no-room (writes-piece p a f) n) = rw (p, a, f) (write-refusal room [] before _ Refusal.NoRoom before .1 (no-room n))
+
+-- ---- attributes, children, 9, groups
+-- the attribute members and the children were all read, and out is what was written then
+pub record AllRead (body : List ℕ) (s : Structure) (room : Room) (o : Opened) (out : Output) : Type 0 where
+  pub attributes : Output
+  pub attributesRead : each (readAttribute room (o .root .start .attributes)) (membersOf s) nothing ≡ finished attributes
+  pub childrenRead : each (readChild body (o .seen) s room) (childrenOf (o .root)) attributes ≡ finished out
+
+pub data MembersRefused (Fails : Type 0) (body : List ℕ) (s : Structure) (room : Room) (order : List ℕ) (o : Opened) : Refusal → Output → Type 0 where
+  -- "10" as met, in an attribute
+  at-attribute : {r : Refusal} {out : Output} →
+      AtElement (readAttribute room (o .root .start .attributes)) (membersOf s) nothing (AttributeRefused room (o .root .start .attributes)) r out →
+      MembersRefused Fails body s room order o r out
+  -- "10" as met, in a child
+  at-child : {mid : Output} {r : Refusal} {out : Output} → each (readAttribute room (o .root .start .attributes)) (membersOf s) nothing ≡ finished mid →
+      AtElement (readChild body (o .seen) s room) (childrenOf (o .root)) mid (ChildRefused (o .seen .failure) s room) r out →
+      MembersRefused Fails body s room order o r out
+  -- "9 after the children"
+  after-children : {out : Output} → AllRead body s room o out → Fails → MembersRefused Fails body s room order o Refusal.IllFormed out
+  -- "if all groups together do not fit, 10 and none is written"
+  at-groups : {out : Output} → AllRead body s room o out → (Fails → ⊥) → GroupsFull room (groupOf body (o .seen) s (childrenOf (o .root))) order out →
+      MembersRefused Fails body s room order o Refusal.NoRoom out
+
+read-within : {body : List ℕ} {s : Structure} {room : Room} {o : Opened} {out : Output} → AllRead body s room o out → Within room out
+read-within {body} {s} {room} {o} w =
+    let first = subst (λ (y : Reading). Within room (output y)) (w .attributesRead) (attributes-within room o s) in
+    subst (λ (y : Reading). Within room (output y)) (w .childrenRead) (children-within room body o s (childrenOf (o .root)) (w .attributes) first)
+
+module _ (Fails : Type 0) (body : List ℕ) (s : Structure) (room : Room) (order : List ℕ) (o : Opened)
+    (fails : (o .seen .illFormed ≡ true) ↔ Fails) (passes : (o .seen .illFormed ≡ false) ↔ (Fails → ⊥)) where
+  members-refusal : (r : Refusal) (out : Output) → (readMembers body s room order o ≡ refused r out) ↔ MembersRefused Fails body s room order o r out
+  unfolding readMembers
+  members-refusal r out = (onAttributes (each attribute (membersOf s) nothing) refl, back)
+    where
+      kids : List Child
+      kids = childrenOf (o .root)
+
+      attribute : Indexed → Output → Reading
+      attribute = readAttribute room (o .root .start .attributes)
+
+      Goal : Type 0
+      Goal = MembersRefused Fails body s room order o r out
+
+      groups : {q : Refusal} {k mid : Output} → AllRead body s room o mid → (Fails → ⊥) → GroupsRefused room (groupOf body (o .seen) s kids) order mid q k →
+          MembersRefused Fails body s room order o q k
+      groups w n (groups-no-room f) = at-groups w n f
+
+      onEnd : (t : Bool) → o .seen .illFormed ≡ t → {mid : Output} → AllRead body s room o mid →
+          andThen (endTest t mid) (readGroups body (o .seen) s kids room order) ≡ refused r out → Goal
+      onEnd true p w e = refused-same (MembersRefused Fails body s room order o) e (after-children w (fails .0 p))
+      onEnd false p {mid} w e = groups w (passes .0 p) (groups-refusal body (o .seen) s kids room order mid (read-within w) r out .0 e)
+
+      onChildren : (y : Reading) {first : Output} → each attribute (membersOf s) nothing ≡ finished first → each (readChild body (o .seen) s room) kids first ≡ y →
+          andThen y (λ (mid : Output). andThen (endTest (o .seen .illFormed) mid) (readGroups body (o .seen) s kids room order)) ≡ refused r out → Goal
+      onChildren (finished mid) {first} p q e = onEnd (o .seen .illFormed) refl (record { attributes = first; attributesRead = p; childrenRead = q }) e
+      onChildren (refused n mid) {first} p q e = at-child p (each-refusal _ kids first _ (child-refusal body (o .seen) s room) r out .0 (q ∙ e))
+
+      onAttributes : (y : Reading) → each attribute (membersOf s) nothing ≡ y →
+          andThen y (λ (first : Output). andThen (each (readChild body (o .seen) s room) kids first) (λ (mid : Output).
+          andThen (endTest (o .seen .illFormed) mid) (readGroups body (o .seen) s kids room order))) ≡ refused r out → Goal
+      onAttributes (finished first) p e = onChildren (each (readChild body (o .seen) s room) kids first) p refl e
+      onAttributes (refused n mid) p e = at-attribute (each-refusal _ (membersOf s) nothing _ (attribute-refusal room (o .root .start .attributes)) r out .0 (p ∙ e))
+
+      back : {q : Refusal} {k : Output} → MembersRefused Fails body s room order o q k →
+          andThen (each attribute (membersOf s) nothing) (λ (first : Output). andThen (each (readChild body (o .seen) s room) kids first) (λ (mid : Output).
+          andThen (endTest (o .seen .illFormed) mid) (readGroups body (o .seen) s kids room order))) ≡ refused q k
+      back (at-attribute {r = q} {out = k} w) = rw (each-refusal attribute (membersOf s) nothing _ (attribute-refusal room (o .root .start .attributes)) q k .1 w)
+      back (at-child {mid = first} {r = q} {out = k} p w) = rw (p, each-refusal (readChild body (o .seen) s room) kids first _ (child-refusal body (o .seen) s room) q k .1 w)
+      back (after-children w f) = rw (w .attributesRead, w .childrenRead, fails .1 f)
+      back (at-groups {out = k} w n f) =
+          let end = ap (λ (t : Bool). andThen (endTest t k) (readGroups body (o .seen) s kids room order)) (passes .1 n) in
+          rw (w .attributesRead, w .childrenRead) (end ∙ groups-refusal body (o .seen) s kids room order k (read-within w) Refusal.NoRoom k .1 (groups-no-room f))
