@@ -167,3 +167,94 @@ module _ (Fails : Type 0) (body : List ℕ) (s : Structure) (room : Room) (order
       back (at-groups {out = k} w n f) =
           let end = ap (λ (t : Bool). andThen (endTest t k) (readGroups body (o .seen) s kids room order)) (passes .1 n) in
           rw (w .attributesRead, w .childrenRead) (end ∙ groups-refusal body (o .seen) s kids room order k (read-within w) Refusal.NoRoom k .1 (groups-no-room f))
+
+-- ---- "Unwrapped: 9, then one piece .. or none, 10."
+pub data UnwrappedRefused (Fails : Type 0) (s : Structure) (room : Room) (o : Opened) : Refusal → Output → Type 0 where
+  unwrapped-ill-formed : Fails → UnwrappedRefused Fails s room o Refusal.IllFormed nothing
+  unwrapped-no-room : {m : Indexed} → (Fails → ⊥) → resolve s (o .root .start .name .local) ≡ some m → NoRoomFor room [] nothing →
+      UnwrappedRefused Fails s room o Refusal.NoRoom nothing
+
+module _ (Fails : Type 0) (body : List ℕ) (s : Structure) (room : Room) (o : Opened)
+    (fails : (o .seen .illFormed ≡ true) ↔ Fails) (passes : (o .seen .illFormed ≡ false) ↔ (Fails → ⊥)) where
+  unwrapped-refusal : (r : Refusal) (out : Output) → (readUnwrapped body s room o ≡ refused r out) ↔ UnwrappedRefused Fails s room o r out
+  unfolding readUnwrapped
+  unwrapped-refusal r out = (onEnd (o .seen .illFormed) refl, back)
+    where
+      local : List ℕ
+      local = o .root .start .name .local
+
+      full : {m : Indexed} → (Fails → ⊥) → resolve s local ≡ some m → {q : Refusal} {k : Output} → WriteRefused room [] nothing q k → UnwrappedRefused Fails s room o q k
+      full n p (no-room h) = unwrapped-no-room n p h
+
+      onRoot : (m : Option Indexed) → resolve s local ≡ m → (Fails → ⊥) → writeRoot room (rootPiece body o) m nothing ≡ refused r out → UnwrappedRefused Fails s room o r out
+      onRoot none p n e = not-both e
+      onRoot (some m) p n e = full n p (write-refusal room [] nothing _ r out .0 e)
+
+      onEnd : (t : Bool) → o .seen .illFormed ≡ t → andThen (endTest t nothing) (writeRoot room (rootPiece body o) (resolve s local)) ≡ refused r out → UnwrappedRefused Fails s room o r out
+      onEnd true p e = refused-same (UnwrappedRefused Fails s room o) e (unwrapped-ill-formed (fails .0 p))
+      onEnd false p e = onRoot (resolve s local) refl (passes .0 p) e
+
+      end : (t : Bool) → o .seen .illFormed ≡ t →
+          andThen (endTest (o .seen .illFormed) nothing) (writeRoot room (rootPiece body o) (resolve s local)) ≡ andThen (endTest t nothing) (writeRoot room (rootPiece body o) (resolve s local))
+      end t p = ap (λ (b : Bool). andThen (endTest b nothing) (writeRoot room (rootPiece body o) (resolve s local))) p
+
+      back : {q : Refusal} {k : Output} → UnwrappedRefused Fails s room o q k → andThen (endTest (o .seen .illFormed) nothing) (writeRoot room (rootPiece body o) (resolve s local)) ≡ refused q k
+      back (unwrapped-ill-formed f) = end true (fails .1 f)
+      back (unwrapped-no-room n p h) = end false (passes .1 n) ∙ rw p (write-refusal room [] nothing _ Refusal.NoRoom nothing .1 (no-room h))
+
+-- ---- the whole
+-- "5 root name": it is tested, and does not match
+pub record RootDiffers (settings : Settings) (depth : ShapeDepth) (a : Asked Structure) : Type 0 where
+  pub tested : testsRootName settings depth ≡ true
+  pub differs : nameMatches (a .opened .root .start .name) (rootName (a .sheet)) ≡ false
+
+module _ (body table : List ℕ) (final : ℕ) (sheet : List ℕ) (settings : Settings) (depth : ShapeDepth) (room : Room) (order : List ℕ) where
+  abbrev fails : Type 0
+  fails = DrainFails body table final (isStrict settings depth)
+
+  pub data WhileStructure (a : Asked Structure) : Refusal → Output → Type 0 where
+    root-name : RootDiffers settings depth a → WhileStructure a Refusal.RootName nothing
+    unwrapped : {r : Refusal} {out : Output} → (RootDiffers settings depth a → ⊥) → a .sheet .unwrapped ≡ true → UnwrappedRefused fails (a .sheet) room (a .opened) r out → WhileStructure a r out
+    wrapped : {r : Refusal} {out : Output} → (RootDiffers settings depth a → ⊥) → a .sheet .unwrapped ≡ false → MembersRefused fails body (a .sheet) room order (a .opened) r out → WhileStructure a r out
+
+  abbrev pub StructureRefused : Refusal → Output → Type 0
+  StructureRefused = Refused body table final (structureOf sheet) settings depth WhileStructure
+
+  pub structure-refusal : (r : Refusal) (out : Output) → (structureReading body table final sheet settings depth room order ≡ refused r out) ↔ StructureRefused r out
+  unfolding structureReading readOpened
+  structure-refusal = reading-refusal body table final (structureOf sheet) settings depth WhileStructure (readOpened body settings depth room order) inside
+    where
+      inside : (a : Asked Structure) (r : Refusal) (out : Output) → AskedAs body table final (structureOf sheet) settings depth a →
+          (readOpened body settings depth room order a ≡ refused r out) ↔ WhileStructure a r out
+      inside a r out w = (onName (testsRootName settings depth) (nameMatches (a .opened .root .start .name) (rootName (a .sheet))) refl refl, back)
+        where
+          choice : Bool → Reading
+          choice b = pick b (readUnwrapped body (a .sheet) room (a .opened)) (readMembers body (a .sheet) room order (a .opened))
+
+          ofUnwrapped : (q : Refusal) (k : Output) → (readUnwrapped body (a .sheet) room (a .opened) ≡ refused q k) ↔ UnwrappedRefused fails (a .sheet) room (a .opened) q k
+          ofUnwrapped = unwrapped-refusal fails body (a .sheet) room (a .opened) (opened-fails body table final (w .begun)) (opened-passes body table final (w .begun))
+
+          ofMembers : (q : Refusal) (k : Output) → (readMembers body (a .sheet) room order (a .opened) ≡ refused q k) ↔ MembersRefused fails body (a .sheet) room order (a .opened) q k
+          ofMembers = members-refusal fails body (a .sheet) room order (a .opened) (opened-fails body table final (w .begun)) (opened-passes body table final (w .begun))
+
+          onChoice : (b : Bool) → a .sheet .unwrapped ≡ b → (RootDiffers settings depth a → ⊥) → choice b ≡ refused r out → WhileStructure a r out
+          onChoice true p n e = unwrapped n p (ofUnwrapped r out .0 e)
+          onChoice false p n e = wrapped n p (ofMembers r out .0 e)
+
+          onName : (tests matches : Bool) → testsRootName settings depth ≡ tests → nameMatches (a .opened .root .start .name) (rootName (a .sheet)) ≡ matches →
+              withRootName tests matches (choice (a .sheet .unwrapped)) ≡ refused r out → WhileStructure a r out
+          onName false matches p q e = onChoice (a .sheet .unwrapped) refl (λ d. false-true {A = ⊥} (sym p ∙ d .tested)) e
+          onName true true p q e = onChoice (a .sheet .unwrapped) refl (λ d. false-true {A = ⊥} (sym (d .differs) ∙ q)) e
+          onName true false p q e = refused-same (WhileStructure a) e (root-name (record { tested = p; differs = q }))
+
+          named : (tests matches : Bool) → testsRootName settings depth ≡ tests → nameMatches (a .opened .root .start .name) (rootName (a .sheet)) ≡ matches →
+              (RootDiffers settings depth a → ⊥) → (y : Reading) → withRootName tests matches y ≡ y
+          named false matches p q n y = refl
+          named true true p q n y = refl
+          named true false p q n y = absurd (n (record { tested = p; differs = q }))
+
+          back : {q : Refusal} {k : Output} → WhileStructure a q k →
+              withRootName (testsRootName settings depth) (nameMatches (a .opened .root .start .name) (rootName (a .sheet))) (choice (a .sheet .unwrapped)) ≡ refused q k
+          back (root-name d) = rw (d .tested, d .differs)
+          back (unwrapped {r = q} {out = k} n p u) = named _ _ refl refl n (choice (a .sheet .unwrapped)) ∙ ap choice p ∙ ofUnwrapped q k .1 u
+          back (wrapped {r = q} {out = k} n p u) = named _ _ refl refl n (choice (a .sheet .unwrapped)) ∙ ap choice p ∙ ofMembers q k .1 u
