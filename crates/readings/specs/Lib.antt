@@ -13,3 +13,5 @@ pub mod Texts
 pub mod CollectionConditions
 pub mod GroupConditions
 pub mod StructureConditions
+pub mod ValueConditions
+pub mod ScalarConditions
