@@ -15,3 +15,4 @@ pub mod GroupConditions
 pub mod StructureConditions
 pub mod ValueConditions
 pub mod ScalarConditions
+pub mod FindConditions

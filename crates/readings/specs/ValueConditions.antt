@@ -19,7 +19,7 @@ use Rattle.reference.specs.declared.Number.the-variants.{Value, No}
 use Rattle.readings.specs.Scalar.{booleanOf, digitsOf, minus, positive, negative, integerOf, stringIn}
 use Rattle.readings.specs.Conditions.{given-refused, refuses-same, gives-same}
 
-same-self : (a : List ℕ) → sameb a a ≡ true
+pub same-self : (a : List ℕ) → sameb a a ≡ true
 unfolding sameb
 same-self [] = refl
 same-self (x ∷ a) = rw (eq-eqb x x refl) (same-self a)
