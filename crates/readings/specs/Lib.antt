@@ -16,3 +16,4 @@ pub mod StructureConditions
 pub mod ValueConditions
 pub mod ScalarConditions
 pub mod FindConditions
+pub mod WholeConditions
