@@ -17,3 +17,4 @@ pub mod ValueConditions
 pub mod ScalarConditions
 pub mod FindConditions
 pub mod WholeConditions
+pub mod OnlyNumbers
