@@ -5,19 +5,19 @@ use mathlib.Core.Logic.{_↔_, _⊎_, inl, inr}
 use mathlib.Core.Bool.{Bool, true, false}
 use mathlib.Core.List.{List, [], _∷_, _++_, List·Memᴰ, List·Memᴰ·head, List·Memᴰ·tail, List·Memᴰ·cases-cons, List·Memᴰ·not-nil}
 use mathlib.Core.Option.{Option, none, some}
-use Rattle.lists.specs.Tests.{pick, false-true}
+use Rattle.lists.specs.Tests.{pick}
 use Rattle.lists.specs.Bytes.{sameb}
 use Rattle.refusal.specs.declared.Refusal.{Refusal}
 use Rattle.refusal.specs.Answer.{Answer, gives, refuses, onward}
 use Rattle.document.specs.View.{View}
-use Rattle.document.specs.Scope.{Child, childrenOf, Piece, pieceOf}
+use Rattle.document.specs.Scope.{Child, childrenOf, pieceOf}
 use Rattle.document.specs.Text.{textOf}
 use Rattle.sheet.specs.declared.ShapeDepth.{ShapeDepth}
 use Rattle.sheet.specs.Settings.{Settings, isStrict}
 use Rattle.sheet.specs.Sheet.{ListSheet, listOf, MapSheet, mapOf}
 use Rattle.sheet.specs.Names.{itemName, entryName, keyName, valueName, valueAggregate}
-use Rattle.readings.specs.Output.{Room, Output, Reading, finished, refused, writeText, writePiece, writeKeyText, writeKeyPiece}
-use Rattle.readings.specs.Opening.{Opened, Asked}
+use Rattle.readings.specs.Output.{Room, Output, finished, refused, writePiece}
+use Rattle.readings.specs.Opening.{Asked}
 use Rattle.readings.specs.Collection.{isWanted, readItem, readItems, listReading, writeAnswer, readString, readStrings, stringListReading, MapValue, text, piece, Fields, noFields, valueIn, readField, readFields, writeFields, writeEntry, readEntry, entriesOf, readEntries, mapReading}
 use Rattle.readings.specs.Fold.{not-both, refused-same}
 use Rattle.readings.specs.Conditions.{given-refused, refuses-same, AskedAs, Refused, reading-refusal}

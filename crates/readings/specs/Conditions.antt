@@ -4,22 +4,20 @@ use Prim.Native.Nat.{ℕ, _≤_, _<_}
 use mathlib.Core.Path.{_≡_, refl, sym, _∙_, ap, subst, subst⁻¹}
 use mathlib.Core.Logic.{_↔_}
 use mathlib.Core.Bool.{Bool, true, false}
-use mathlib.Core.List.{List, []}
+use mathlib.Core.List.{List}
 use mathlib.Core.Option.{Option, none, some}
-use native.Mathlib.Omega.{arith}
 use borrow.Author.Tests.{leb-true, leb-false, le-leb, lt-leb}
-use lib.Dec.{leb}
 use Rattle.lists.specs.Tests.{false-true}
 use Rattle.refusal.specs.declared.Refusal.{Refusal}
 use Rattle.refusal.specs.Answer.{Answer, gives, refuses, onward}
 use Rattle.table.specs.Row.{rowsOf, toksOf}
 use Rattle.table.specs.Rules.{TableRules}
 use Rattle.table.specs.Test.{decTable}
-use Rattle.document.specs.View.{View, view}
+use Rattle.document.specs.View.{view}
 use Rattle.document.specs.Scope.{Child, rootOf}
 use Rattle.sheet.specs.declared.ShapeDepth.{ShapeDepth}
 use Rattle.sheet.specs.Settings.{Settings, isStrict, tooDeep}
-use Rattle.readings.specs.Output.{Output, nothing, Reading, finished, refused}
+use Rattle.readings.specs.Output.{Output, nothing, Reading, refused}
 use Rattle.readings.specs.Opening.{withTable, present, withDepth, Opened, rooted, opened, Asked, asked, reading}
 use Rattle.readings.specs.Fold.{refused-same}
 

@@ -31,9 +31,6 @@ not-both e = false-true (sym (ap isFinished e))
 pub refused-same : (P : Refusal → Output → Type 0) {r s : Refusal} {a b : Output} → refused r a ≡ refused s b → P r a → P s b
 refused-same P {r = r} e p = subst₂ P (ap (refusalIn r) e) (ap output e) p
 
-pub finished-same : {a b : Output} → finished a ≡ finished b → a ≡ b
-finished-same e = ap output e
-
 -- ---- where a refusal comes from
 -- x is the next element of the list once those before it were read, and before is what was written then
 pub record Reached {A : Type 0} (f : A → Output → Reading) (l : List A) (out : Output) (x : A) (before : Output) : Type 0 where
@@ -187,6 +184,12 @@ each-extends {A} f l step out = each-keeps (Extends out) f l (λ (x : A) m (mid 
 
 pub andThen-extends : {out : Output} (r : Reading) (f : Output → Reading) → Extends out (output r) → ((mid : Output) → Extends mid (output (f mid))) → Extends out (output (andThen r f))
 andThen-extends {out} r f e step = andThen-keeps (Extends out) r f e (λ (mid : Output) q. extends-on q (step mid))
+
+-- whatever comes later, refusals too: what was written up to an element of a list stays
+pub reached-stays : {A : Type 0} {f : A → Output → Reading} {l : List A} {out : Output} {x : A} {before : Output} → ((y : A) (o : Output) → Extends o (output (f y o))) →
+    Reached f l out x before → Extends before (output (each f l out))
+reached-stays {f = f} {out = out} {x = x} {before = before} step w =
+    rw (w .parts, each-append f (w .earlier) (x ∷ w .later) out, w .read) (each-extends f (x ∷ w .later) step before)
 
 -- ---- no more is written than there is room for
 pub record Within (room : Room) (out : Output) : Type 0 where

@@ -3,7 +3,7 @@ use Prim.Native.Nat.{ℕ, _+_, _≤_, _<_}
 use mathlib.Core.Path.{_≡_, refl, _∙_}
 use mathlib.Core.Logic.{_↔_}
 use mathlib.Core.Bool.{Bool, true, false}
-use mathlib.Core.List.{List, []}
+use mathlib.Core.List.{List}
 use borrow.Author.Tests.{ltb-false, leb-false, le-ltb, lt-leb}
 use lib.Dec.{ltb, leb}
 use lib.ListN.{length}
@@ -11,7 +11,7 @@ use Rattle.lists.specs.Tests.{pick}
 use Rattle.refusal.specs.declared.Refusal.{Refusal}
 use Rattle.readings.specs.Output.{Room, Output, nothing, Reading, finished, refused, andThen, each, fits}
 use Rattle.readings.specs.Opening.{endTest}
-use Rattle.readings.specs.Fold.{not-both, refused-same, Reached, RefusedAt, each-refused, refused-each}
+use Rattle.readings.specs.Fold.{not-both, refused-same, Reached, each-refused, refused-each}
 
 -- "An entry and its text are written only if both fit; else 10": there is no room for a further entry, or none for its bytes
 pub data NoRoomFor (room : Room) (bytes : List ℕ) (out : Output) : Type 0 where

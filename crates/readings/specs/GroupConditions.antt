@@ -1,10 +1,10 @@
 -- 01, "Structure": "if all groups together do not fit, 10 and none is written". They are refused exactly where their entries together, or their bytes
--- together, exceed the room that is left; so the order in which they would be written does not matter for it.
-use Prim.Native.Nat.{ℕ, _+_, _<_, _≤_}
+-- together, exceed the room that is left: sums over the groups, whatever comes first.
+use Prim.Native.Nat.{ℕ, _+_, _<_}
 use mathlib.Core.Path.{_≡_, refl, sym, _∙_, ap, subst}
 use mathlib.Core.Logic.{_↔_}
 use mathlib.Core.Bool.{Bool, true, false}
-use mathlib.Core.List.{List, [], _∷_, _++_}
+use mathlib.Core.List.{List, [], _∷_}
 use native.Mathlib.Omega.{arith}
 use lib.ListN.{length, length-append}
 use Rattle.lists.specs.Tests.{pick}
@@ -14,7 +14,7 @@ use Rattle.document.specs.Scope.{Child}
 use Rattle.sheet.specs.Sheet.{Structure}
 use Rattle.readings.specs.Output.{Room, Output, Reading, finished, refused, output, andThen, each, fits, writeGroup}
 use Rattle.readings.specs.Structure.{groupOf, allOrNone, readGroups}
-use Rattle.readings.specs.Fold.{groupEntry, written, not-both, refused-same, Within, write-within, fits-is}
+use Rattle.readings.specs.Fold.{groupEntry, written, not-both, refused-same, Within, write-within}
 use Rattle.readings.specs.Full.{NoRoomFor, entries-full, bytes-full, no-room-is}
 
 -- how many bytes the groups have together

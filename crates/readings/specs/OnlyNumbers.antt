@@ -3,7 +3,6 @@ use Prim.Native.Nat.{ℕ}
 use mathlib.Core.Path.{_≡_, refl}
 use mathlib.Core.Bool.{Bool, true}
 use mathlib.Core.List.{List, [], _∷_}
-use mathlib.Core.Option.{Option}
 use Rattle.refusal.specs.declared.Refusal.{Refusal}
 use Rattle.refusal.specs.Answer.{refuses}
 use Rattle.refusal.specs.Numbers.{number}
@@ -12,23 +11,22 @@ use Rattle.table.specs.Rules.{among}
 use Rattle.xml.specs.declared.Cause.{Cause}
 use Rattle.document.specs.declared.Depth.{Depth}
 use Rattle.document.specs.Reader.{Scope}
-use Rattle.document.specs.Scope.{Child}
 use Rattle.document.specs.View.{failureOf}
 use Rattle.sheet.specs.declared.ShapeDepth.{ShapeDepth}
-use Rattle.sheet.specs.Settings.{Settings, isStrict}
+use Rattle.sheet.specs.Settings.{Settings}
 use Rattle.readings.specs.Output.{Room, Output, refused}
 use Rattle.readings.specs.Structure.{structureReading}
 use Rattle.readings.specs.Collection.{listReading, stringListReading, mapReading}
 use Rattle.readings.specs.Scalar.{booleanReading, integerReading, stringReading, wholeText}
 use Rattle.readings.specs.Find.{find}
-use Rattle.readings.specs.Conditions.{OpenedRefused, broken-table, no-root, AskedRefused, by-table, by-sheet, by-depth, by-root, before, while}
+use Rattle.readings.specs.Conditions.{broken-table, no-root, by-table, by-sheet, by-depth, by-root, before, while}
 use Rattle.readings.specs.Full.{as-met, last, at-element}
 use Rattle.readings.specs.Seen.{Stopped, at-drain, at-error}
-use Rattle.readings.specs.Texts.{NoText, element-inside, bad-reference, rows-end, passed, NoTextIn}
+use Rattle.readings.specs.Texts.{NoText, element-inside, bad-reference, rows-end, passed}
 use Rattle.readings.specs.CollectionConditions.{item-no-room, ListRefused, list-refusal, string-no-text, string-no-room, StringListRefused, string-list-refusal, entry-no-text, entry-no-room, MapRefused, map-refusal}
 use Rattle.readings.specs.StructureConditions.{attribute-no-room, child-no-room, at-attribute, at-child, after-children, at-groups, unwrapped-ill-formed, unwrapped-no-room, root-name, unwrapped, wrapped, StructureRefused, structure-refusal}
 use Rattle.readings.specs.ValueConditions.{NotABoolean, not-boolean, NotAnInteger, not-integer, StringTooLong, too-long}
-use Rattle.readings.specs.ScalarConditions.{ScalarRefused, not-opened, no-text, after-the-rest, Unread, not-read, wrong, boolean-refusal, integer-refusal, string-refusal}
+use Rattle.readings.specs.ScalarConditions.{not-opened, no-text, after-the-rest, Unread, not-read, wrong, boolean-refusal, integer-refusal, string-refusal}
 use Rattle.readings.specs.FindConditions.{FindRefused, find-table, find-no-root, find-none, find-refusal}
 use Rattle.readings.specs.WholeConditions.{WholeRefused, whole-table, whole-ill-formed, whole-no-root, whole-has-element, whole-no-room, whole-text-refusal}
 
@@ -133,6 +131,7 @@ module _ (body table : List ℕ) (final : ℕ) (settings : Settings) (depth : Sh
       ofText seven = refl
       ofText eight = refl
       ofText nine = refl
+
       go : {q : Refusal} → Unread body table final settings depth NotABoolean q → Only (1 ∷ 4 ∷ 6 ∷ 7 ∷ 8 ∷ 9 ∷ 11 ∷ []) q
       go (not-read (not-opened (broken-table n))) = refl
       go (not-read (not-opened (no-root t n))) = refl
@@ -148,6 +147,7 @@ module _ (body table : List ℕ) (final : ℕ) (settings : Settings) (depth : Sh
       ofText seven = refl
       ofText eight = refl
       ofText nine = refl
+
       go : {q : Refusal} → Unread body table final settings depth NotAnInteger q → Only (1 ∷ 4 ∷ 6 ∷ 7 ∷ 8 ∷ 9 ∷ 12 ∷ []) q
       go (not-read (not-opened (broken-table n))) = refl
       go (not-read (not-opened (no-root t n))) = refl
@@ -163,6 +163,7 @@ module _ (body table : List ℕ) (final : ℕ) (settings : Settings) (depth : Sh
       ofText seven = refl
       ofText eight = refl
       ofText nine = refl
+
       go : {q : Refusal} → Unread body table final settings depth (StringTooLong room) q → Only (1 ∷ 4 ∷ 6 ∷ 7 ∷ 8 ∷ 9 ∷ 10 ∷ []) q
       go (not-read (not-opened (broken-table n))) = refl
       go (not-read (not-opened (no-root t n))) = refl

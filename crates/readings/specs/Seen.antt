@@ -15,7 +15,7 @@ use Rattle.xml.specs.declared.Cause.{Cause}
 use Rattle.xml.specs.declared.Drained.{Drained}
 use Rattle.xml.specs.Drain.{walked, drained, drainedBy}
 use Rattle.xml.specs.First.{not-ill}
-use Rattle.document.specs.View.{View, view, failureOf, strictView, lenientView, errorAt}
+use Rattle.document.specs.View.{view, failureOf, strictView, lenientView, errorAt}
 use Rattle.readings.specs.Opening.{Opened}
 use Rattle.readings.specs.Conditions.{OpenedAs}
 

@@ -4,7 +4,7 @@ use Prim.Native.Nat.{ℕ}
 use mathlib.Core.Path.{_≡_, refl, sym, _∙_, ap, subst}
 use mathlib.Core.Logic.{_↔_}
 use mathlib.Core.Bool.{Bool, true, false}
-use mathlib.Core.List.{List, [], _∷_}
+use mathlib.Core.List.{List, []}
 use mathlib.Core.Option.{Option, none, some}
 use Rattle.lists.specs.Tests.{pick, false-true}
 use Rattle.refusal.specs.declared.Refusal.{Refusal}
@@ -12,18 +12,18 @@ use Rattle.refusal.specs.Answer.{Answer, gives, refuses}
 use Rattle.document.specs.Names.{nameMatches}
 use Rattle.document.specs.View.{View}
 use Rattle.document.specs.Reader.{Attribute}
-use Rattle.document.specs.Scope.{Child, childrenOf, Piece, pieceOf}
+use Rattle.document.specs.Scope.{Child, childrenOf, pieceOf}
 use Rattle.document.specs.Text.{textOf}
 use Rattle.sheet.specs.declared.ShapeDepth.{ShapeDepth}
 use Rattle.sheet.specs.Settings.{Settings, isStrict, testsRootName}
 use Rattle.sheet.specs.Sheet.{Structure, structureOf}
 use Rattle.sheet.specs.Names.{rootName, attributeName, Indexed, membersOf, resolve}
-use Rattle.readings.specs.Output.{Room, Output, nothing, Reading, finished, refused, output, andThen, each, writeText, writePiece}
+use Rattle.readings.specs.Output.{Room, Output, nothing, Reading, finished, refused, output, andThen, each, writePiece}
 use Rattle.readings.specs.Opening.{Opened, Asked, endTest}
 use Rattle.readings.specs.Structure.{attributeOf, writeFound, readAttribute, readScalar, readMember, readChild, groupOf, readGroups, readMembers, rootPiece, writeRoot, readUnwrapped, withRootName, readOpened, structureReading}
 use Rattle.readings.specs.Fold.{not-both, refused-same, Within}
 use Rattle.readings.specs.Within.{attributes-within, children-within}
-use Rattle.readings.specs.Conditions.{OpenedAs, AskedAs, Refused, reading-refusal}
+use Rattle.readings.specs.Conditions.{AskedAs, Refused, reading-refusal}
 use Rattle.readings.specs.Full.{NoRoomFor, WriteRefused, no-room, write-refusal, AtElement, each-refusal}
 use Rattle.readings.specs.GroupConditions.{GroupsFull, GroupsRefused, groups-no-room, groups-refusal}
 use Rattle.readings.specs.Seen.{DrainFails, opened-fails, opened-passes}

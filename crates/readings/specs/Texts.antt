@@ -1,11 +1,11 @@
 -- What it means that there is no text where one is wanted: 6, 7, 8 and 9 "as met" (01, "Numbers": "6 element where text is wanted", "7 reference", "8 token
 -- error where text is wanted"; "In a text under strict reading a mismatched or unclosed tag gives 9").
 use Prim.Native.Nat.{ℕ}
-use mathlib.Core.Path.{_≡_, refl, sym, _∙_, ap, subst}
+use mathlib.Core.Path.{_≡_, refl, _∙_, ap, subst}
 use mathlib.Core.Logic.{_↔_}
 use mathlib.Core.Bool.{Bool, true, false, not}
 use mathlib.Core.List.{List, [], _∷_}
-use mathlib.Core.Option.{Option, none, some, Option·none-ne-some, Option·some-injective}
+use mathlib.Core.Option.{Option, none, some}
 use Rattle.lists.specs.Tests.{pick, false-true}
 use Rattle.refusal.specs.declared.Refusal.{Refusal}
 use Rattle.refusal.specs.Answer.{Answer, gives, refuses}

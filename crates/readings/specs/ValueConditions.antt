@@ -1,6 +1,6 @@
 -- 01, "Scalar": "A text taken from an entry is read by the same rules, with 10, 11 or 12 alone." Each is given exactly where its condition holds, on every
 -- text.
-use Prim.Native.Nat.{ℕ, zero, suc, _^_, _-_, _≤_, _<_}
+use Prim.Native.Nat.{ℕ, _^_, _-_, _≤_, _<_}
 use mathlib.Core.Path.{_≡_, refl, sym, _∙_, ap, subst, subst⁻¹}
 use mathlib.Core.Logic.{_↔_}
 use mathlib.Core.Bool.{Bool, true, false}

@@ -44,7 +44,7 @@ abbrev isFound : Next → Bool
 isFound (found el r) = true
 isFound (gone p) = false
 
-next-rest : (s : Scope) (o : StartEl) (d : Depth) (k : ℕ) (l : List Tok) {el : StartEl} {r : Reader} → next s o d k l ≡ found el r → {t : Tok} → List·Memᴰ t (r .rest) → List·Memᴰ t l
+pub next-rest : (s : Scope) (o : StartEl) (d : Depth) (k : ℕ) (l : List Tok) {el : StartEl} {r : Reader} → next s o d k l ≡ found el r → {t : Tok} → List·Memᴰ t (r .rest) → List·Memᴰ t l
 unfolding next
 next-rest s o d k [] e i = false-true (ap isFound e)
 next-rest s o d k (x ∷ l) {el} {r} e {t} i = go (turn s o d k x) e (λ (o' : StartEl) q. next-rest s o' (depthAfter x d) (suc k) l q i)
@@ -55,7 +55,7 @@ next-rest s o d k (x ∷ l) {el} {r} e {t} i = go (turn s o d k x) e (λ (o' : S
     go (complete o') e ih = List·Memᴰ·tail (subst⁻¹ (List·Memᴰ t) (ap (restIn []) e) i)
     go (over b) e ih = false-true (ap isFound e)
 
-root-rest : (toks : List Tok) (c : Child) → rootOf toks ≡ some c → (t : Tok) → List·Memᴰ t (c .inner .rest) → List·Memᴰ t toks
+pub root-rest : (toks : List Tok) (c : Child) → rootOf toks ≡ some c → (t : Tok) → List·Memᴰ t (c .inner .rest) → List·Memᴰ t toks
 unfolding rootOf
 root-rest toks c e t i = go (nextFrom document (fresh toks)) refl e
   where
@@ -64,14 +64,14 @@ root-rest toks c e t i = go (nextFrom document (fresh toks)) refl e
     go (gone q) p e = absurd (Option·none-ne-some c e)
 
 -- ---- what passes the drain unescapes
-abbrev Unescapes : List Tok → Type 0
+abbrev pub Unescapes : List Tok → Type 0
 Unescapes l = (v : List ℕ) → List·Memᴰ (text v) l → (b : List ℕ) × (unescaped v ≡ text.bytes b)
 
 member-parts : {t : Tok} {l : List Tok} → List·Memᴰ t l → (a : List Tok) × (b : List Tok) × (l ≡ a ++ (t ∷ b))
 member-parts {t} (List·Memᴰ·head {xs = l} e) = ([], l, ap (λ (x : Tok). x ∷ l) (sym e))
 member-parts {t} (List·Memᴰ·tail {x = x} i) = let w = member-parts i in (x ∷ w .0, w .1, ap (λ (k : List Tok). x ∷ k) (w .2))
 
-passed-unescapes : (body table : List ℕ) (final : ℕ) → drained body table final ≡ Drained.Passes → Unescapes (toksOf body (rowsOf table))
+pub passed-unescapes : (body table : List ℕ) (final : ℕ) → drained body table final ≡ Drained.Passes → Unescapes (toksOf body (rowsOf table))
 passed-unescapes body table final e v i =
     let w = member-parts i in
     valid-unescapes v (drained-passes-is body table final .0 e .wellFormed .textValues (w .0) v (w .1) (w .2))

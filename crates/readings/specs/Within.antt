@@ -1,11 +1,9 @@
 -- No reading writes more than there is room for, on any input: "An entry and its text are written only if both fit".
 use Prim.Native.Nat.{ℕ}
-use mathlib.Core.Path.{_≡_, ap, subst}
 use mathlib.Core.Bool.{Bool, true, false}
 use mathlib.Core.List.{List, [], _++_}
 use mathlib.Core.Option.{Option, none, some}
-use Rattle.lists.specs.Tests.{pick, pick-all}
-use Rattle.refusal.specs.declared.Refusal.{Refusal}
+use Rattle.lists.specs.Tests.{pick-all}
 use Rattle.refusal.specs.Answer.{Answer, gives, refuses}
 use Rattle.document.specs.View.{View}
 use Rattle.document.specs.Reader.{Attribute}
