@@ -1,5 +1,5 @@
 -- Worked examples of scopes and texts, over tokens; the Rust meets the same.
-use Prim.Native.Nat.{ℕ, zero}
+use Prim.Native.Nat.{ℕ}
 use Prim.Native.String.{String}
 use mathlib.Core.Path.{_≡_, refl}
 use mathlib.Core.List.{List, [], _∷_, map}

@@ -3,10 +3,6 @@ pub mod View
 pub mod Reader
 pub mod Scope
 pub mod Text
-pub mod Onward
-pub mod Fuel
-pub mod Steps
-pub mod One
-pub mod Met
-pub mod Passing
+pub mod Laws
+pub mod Passed
 pub mod Examples

@@ -33,12 +33,12 @@ dropped c = let rest = skipFrom (scopeOf (c .start)) (c .inner) in pick (c .star
 
 -- ---- the children of a scope, in order, and where the reader stands when there is none left
 pub data Level : Type 0 where
-  child : Child → Level → Level
-  over : Past → Level
+  meets : Child → Level → Level
+  done : Past → Level
 
 abbrev pub onNext : (Child → Reader) → (Reader → Level) → Next → Level
-onNext past more (found el r) = let c : Child = record { start = el; inner = r } in child c (more (past c))
-onNext past more (gone p) = over p
+onNext past more (found el r) = let c : Child = record { start = el; inner = r } in meets c (more (past c))
+onNext past more (gone p) = done p
 
 abbrev pub nextFrom : Scope → Reader → Next
 nextFrom s r = next s blank (r .depth) (r .row) (r .rest)
@@ -46,22 +46,22 @@ nextFrom s r = next s blank (r .depth) (r .row) (r .rest)
 -- the loop over `next_tag`; past says where the reader stands after a child, and the fuel is enough where it exceeds the tokens that are left
 unfoldable pub level : ℕ → (Child → Reader) → Scope → Reader → Level
 unfolding next
-level zero past s r = over (record { ended = false; reader = r })
+level zero past s r = done (record { ended = false; reader = r })
 level (suc fuel) past s r = onNext past (level fuel past s) (nextFrom s r)
 
 -- of an element; one that ended in `/>` has none
 abbrev pub levelIn : (Child → Reader) → Child → Level
 levelIn past c =
     let inside = level (suc (length (c .inner .rest))) past (scopeOf (c .start)) (c .inner) in
-    pick (c .start .closed) (over (shut (c .inner))) inside
+    pick (c .start .closed) (done (shut (c .inner))) inside
 
 unfoldable pub children : Level → List Child
-children (child c l) = c ∷ children l
-children (over p) = []
+children (meets c l) = c ∷ children l
+children (done p) = []
 
 unfoldable pub endOf : Level → Past
-endOf (child c l) = endOf l
-endOf (over p) = p
+endOf (meets c l) = endOf l
+endOf (done p) = p
 
 -- where nothing of a child's own children is asked
 abbrev pub dropping : Child → Reader

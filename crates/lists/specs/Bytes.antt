@@ -6,7 +6,7 @@ use Prim.Native.String as text
 use mathlib.Core.Path.{_≡_, refl}
 use mathlib.Core.Bool.{Bool, true, false}
 use mathlib.Core.List.{List, [], _∷_}
-use borrow.Author.Tests.{eqb-true}
+use borrow.Author.Tests.{eqb-true, eq-eqb}
 use lib.Dec.{eqb}
 use Rattle.lists.specs.Tests.{pick, false-true}
 
@@ -26,6 +26,11 @@ sameb (x ∷ xs) [] = false
 sameb (x ∷ xs) (y ∷ ys) = pick (eqb x y) (sameb xs ys) false
 
 -- the test says what it is named after
+pub same-self : (a : List ℕ) → sameb a a ≡ true
+unfolding sameb
+same-self [] = refl
+same-self (x ∷ a) = rw (eq-eqb x x refl) (same-self a)
+
 pub same-is : (a b : List ℕ) → sameb a b ≡ true → a ≡ b
 unfolding sameb
 same-is [] [] e = refl

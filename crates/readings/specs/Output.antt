@@ -67,12 +67,12 @@ each f (x ∷ l) out = andThen (f x out) (each f l)
 abbrev pub fits : Room → List ℕ → Output → Bool
 fits room bytes out = pick (ltb (length (out .entries)) (room .entries)) (leb (length (out .texts) + length bytes) (room .bytes)) false
 
--- the entry, made with the place where its bytes begin in the text buffer, and its bytes
+-- an entry more, made with the place where its bytes begin in the text buffer, and its bytes
+abbrev pub written : (ℕ → Entry) → List ℕ → Output → Output
+written entry bytes out = record { entries = out .entries ++ entry (length (out .texts)) ∷ []; texts = out .texts ++ bytes }
+
 abbrev pub write : Room → (ℕ → Entry) → List ℕ → Output → Reading
-write room entry bytes out =
-    pick (fits room bytes out)
-    (finished (record { entries = out .entries ++ entry (length (out .texts)) ∷ []; texts = out .texts ++ bytes }))
-    (refused Refusal.NoRoom out)
+write room entry bytes out = pick (fits room bytes out) (finished (written entry bytes out)) (refused Refusal.NoRoom out)
 
 -- ---- the entries of each kind, made with the place where their bytes begin in the text buffer
 -- an entry outside maps

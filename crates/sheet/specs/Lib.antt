@@ -2,10 +2,5 @@ pub mod Settings
 pub mod Front
 pub mod Sheet
 pub mod Names
-pub mod InLimits
-pub mod Written
-pub mod Bits
 pub mod Exact
-pub mod ExactStructure
-pub mod ExactCollections
 pub mod Examples

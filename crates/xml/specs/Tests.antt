@@ -4,17 +4,11 @@ use mathlib.Core.Path.{_≡_, refl, sym, _∙_}
 use mathlib.Core.Bool.{Bool, true, false}
 use mathlib.Core.List.{List, [], _∷_, List·Memᴰ, List·Memᴰ·head, List·Memᴰ·tail}
 use native.Mathlib.Omega.{arith}
-use borrow.Author.Tests.{eq-eqb}
 use Rattle.lists.specs.Tests.{pick, false-true}
-use Rattle.lists.specs.Bytes.{sameb, same-is}
+use Rattle.lists.specs.Bytes.{sameb, same-is, same-self}
 use Rattle.table.specs.Row.{Name}
 use Rattle.reference.specs.declared.Validated.{Validated}
 use Rattle.xml.specs.Drain.{sameName, seen}
-
-same-self : (a : List ℕ) → sameb a a ≡ true
-unfolding sameb
-same-self [] = refl
-same-self (x ∷ a) = rw (eq-eqb x x refl) (same-self a)
 
 -- `sameName` is equality of names
 pub same-name : (m n : Name) → sameName m n ≡ true → m ≡ n

@@ -22,7 +22,7 @@ use Rattle.document.specs.View.{whole}
 use Rattle.document.specs.Reader.{depth, deeper, document, element, StartEl, blank, begun, next}
 use Rattle.document.specs.Scope.{Child, childrenOf, rootOf, Piece, pieceOf}
 use Rattle.document.specs.Text.{firstText, textOf}
-use Rattle.document.specs.Met.{unescapes, asChild, contents, inside, with-name, with-depth, with-row, with-closed, next-element, dropped-element, children-are}
+use Rattle.document.specs.Passed.Walks.{unescapes, asChild, contents, inside, with-name, with-depth, with-row, with-closed, next-element, dropped-element, children-are}
 
 -- ---- an element of the tokens that was met in its own row
 pub data Met (all : List Tok) : Child → Type 0 where

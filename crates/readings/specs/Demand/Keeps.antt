@@ -14,10 +14,10 @@ use Rattle.refusal.specs.Answer.{refuses}
 use Rattle.table.specs.Row.{cut}
 use Rattle.xml.specs.Piece.{ElementPiece}
 use Rattle.document.specs.Scope.{Piece}
-use Rattle.document.specs.Passing.{IsElementPiece}
+use Rattle.document.specs.Passed.Pieces.{IsElementPiece}
 use Rattle.readings.specs.Output.{Entry, textKind, pieceKind, Room, Output, nothing, Reading, andThen, each, fits, write, textEntry, pieceEntry, groupEntry, failedEntry, keyTextEntry, keyPieceEntry, writeText, writePiece, writeGroup, writeFailed, writeKeyText, writeKeyPiece}
-use Rattle.readings.specs.Promise.{no-room, Elements, Group, Handed, AllHanded, Promised, finishes, refuses}
-use Rattle.readings.specs.Promise as promise
+use Rattle.readings.specs.Demand.Promise.{no-room, Elements, Group, Handed, AllHanded, Promised, finishes, refuses}
+use Rattle.readings.specs.Demand.Promise as promise
 
 -- ---- an output that grows
 -- a span of a text is the same once more is written after it

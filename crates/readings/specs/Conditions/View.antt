@@ -17,7 +17,7 @@ use Rattle.xml.specs.Drain.{walked, drained, drainedBy}
 use Rattle.xml.specs.First.{not-ill}
 use Rattle.document.specs.View.{view, failureOf, strictView, lenientView, errorAt}
 use Rattle.readings.specs.Opening.{Opened}
-use Rattle.readings.specs.Conditions.{OpenedAs}
+use Rattle.readings.specs.Conditions.Opening.{OpenedAs}
 
 -- answers of the drain are told apart
 abbrev isTable : Drained → Bool

@@ -9,10 +9,10 @@ use lib.ListN.{length}
 use Rattle.lists.specs.Bytes.{ascii}
 use Rattle.refusal.specs.declared.Refusal.{Refusal}
 use Rattle.sheet.specs.Settings.{Settings}
-use Rattle.readings.specs.Output.{textEntry, pieceEntry, keyTextEntry, Room, nothing, Reading, finished, refused}
-use Rattle.readings.specs.Promise.{Shape, structure, list, read}
-use Rattle.readings.specs.Promise as shape
-use Rattle.readings.specs.Edges.{named}
+use Rattle.readings.specs.Output.{textEntry, pieceEntry, keyTextEntry, nothing, Reading, finished, refused}
+use Rattle.readings.specs.Demand.Promise.{Shape, structure, list, read}
+use Rattle.readings.specs.Demand.Promise as shape
+use Rattle.readings.specs.Examples.Edges.{named}
 use Rattle.readings.specs.All.{computed}
 
 -- a reading of a body with its table, strict or not, with or without names of collection elements, at the outermost shape, with room enough

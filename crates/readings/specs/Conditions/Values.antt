@@ -10,19 +10,14 @@ use lib.Dec.{eqb, leb}
 use lib.IntN.{ℤ, pos}
 use lib.ListN.{length}
 use Rattle.lists.specs.Tests.{pick, false-true}
-use Rattle.lists.specs.Bytes.{ascii, sameb, same-is}
+use Rattle.lists.specs.Bytes.{ascii, sameb, same-is, same-self}
 use Rattle.refusal.specs.declared.Refusal.{Refusal}
 use Rattle.refusal.specs.Answer.{Answer, gives, refuses}
 use Rattle.reference.specs.Number.{digit, number}
 use Rattle.reference.specs.declared.Number.{Number}
 use Rattle.reference.specs.declared.Number.the-variants.{Value, No}
 use Rattle.readings.specs.Scalar.{booleanOf, digitsOf, minus, positive, negative, integerOf, stringIn}
-use Rattle.readings.specs.Conditions.{given-refused, refuses-same, gives-same}
-
-pub same-self : (a : List ℕ) → sameb a a ≡ true
-unfolding sameb
-same-self [] = refl
-same-self (x ∷ a) = rw (eq-eqb x x refl) (same-self a)
+use Rattle.readings.specs.Conditions.Opening.{given-refused, refuses-same, gives-same}
 
 -- "11 not a boolean": neither of the two words
 pub data NotABoolean (text : List ℕ) : Refusal → Type 0 where

@@ -12,10 +12,10 @@ use Rattle.refusal.specs.declared.Refusal.{Refusal}
 use Rattle.document.specs.View.{View}
 use Rattle.document.specs.Scope.{Child}
 use Rattle.sheet.specs.Sheet.{Structure}
-use Rattle.readings.specs.Output.{Room, Output, Reading, finished, refused, output, andThen, each, fits, writeGroup}
+use Rattle.readings.specs.Output.{groupEntry, written, Room, Output, Reading, finished, refused, output, andThen, each, fits, writeGroup}
 use Rattle.readings.specs.Structure.{groupOf, allOrNone, readGroups}
-use Rattle.readings.specs.Fold.{groupEntry, written, not-both, refused-same, Within, write-within}
-use Rattle.readings.specs.Full.{NoRoomFor, entries-full, bytes-full, no-room-is}
+use Rattle.readings.specs.Laws.Fold.{not-both, refused-same, Within, write-within}
+use Rattle.readings.specs.Conditions.Room.{NoRoomFor, entries-full, bytes-full, no-room-is}
 
 -- how many bytes the groups have together
 unfoldable pub together : (ℕ → List ℕ) → List ℕ → ℕ

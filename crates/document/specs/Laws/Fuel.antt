@@ -6,8 +6,8 @@ use native.Mathlib.Omega.{arith}
 use lib.ListN.{length}
 use Rattle.lists.specs.Tests.{pick-all}
 use Rattle.document.specs.Reader.{Reader, Scope, Past, blank, Next}
-use Rattle.document.specs.Scope.{Child, scopeOf, skipFrom, shut, Level, over, onNext, nextFrom, level, levelIn, endOf, dropping, leave, afterChildren}
-use Rattle.document.specs.Onward.{GoneOn, still, gone-on-on, skip-goes-on, Leaves, leaves-found, leaves-none, next-leaves}
+use Rattle.document.specs.Scope.{Child, scopeOf, skipFrom, shut, Level, done, onNext, nextFrom, level, levelIn, endOf, dropping, leave, afterChildren}
+use Rattle.document.specs.Laws.Onward.{GoneOn, still, gone-on-on, skip-goes-on, Leaves, leaves-found, leaves-none, next-leaves}
 
 -- ---- the loop over children does not depend on its fuel
 -- what is said of the reader after a child: it has no more tokens left than the child's content had
@@ -76,7 +76,7 @@ afterChildren-goes-on c = left (endOf (levelIn dropping c)) ended
     -- the children of the element, or none of one that ended in `/>`
     ended : GoneOn (c .inner) (endOf (levelIn dropping c) .reader)
     ended =
-        pick-all (λ l. GoneOn (c .inner) (endOf l .reader)) (c .start .closed) (over (shut (c .inner))) (level (suc (length (c .inner .rest))) dropping own (c .inner))
+        pick-all (λ l. GoneOn (c .inner) (endOf l .reader)) (c .start .closed) (done (shut (c .inner))) (level (suc (length (c .inner .rest))) dropping own (c .inner))
         (still (c .inner)) (level-goes-on dropping dropping-goes-on (suc (length (c .inner .rest))) own (c .inner))
 
     -- and then the rest of its scope

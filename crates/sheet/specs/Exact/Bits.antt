@@ -5,7 +5,7 @@ use mathlib.Core.Bool.{Bool, true, false}
 use native.Mathlib.Omega.{arith}
 use lib.Dec.{eqb}
 use Rattle.sheet.specs.Front.{bit}
-use Rattle.sheet.specs.Written.{standing, fourBits, fiveBits}
+use Rattle.sheet.specs.Exact.Written.{standing, fourBits, fiveBits}
 
 -- the bits 0 to 4 of a bit map of so many values, by the values of the bits
 pub record Bits (values b : ℕ) (x y z u w : Bool) : Type 0 where

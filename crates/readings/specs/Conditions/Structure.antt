@@ -21,12 +21,12 @@ use Rattle.sheet.specs.Names.{rootName, attributeName, Indexed, membersOf, reso
 use Rattle.readings.specs.Output.{Room, Output, nothing, Reading, finished, refused, output, andThen, each, writePiece}
 use Rattle.readings.specs.Opening.{Opened, Asked, endTest}
 use Rattle.readings.specs.Structure.{attributeOf, writeFound, readAttribute, readScalar, readMember, readChild, groupOf, readGroups, readMembers, rootPiece, writeRoot, readUnwrapped, withRootName, readOpened, structureReading}
-use Rattle.readings.specs.Fold.{not-both, refused-same, Within}
-use Rattle.readings.specs.Within.{attributes-within, children-within}
-use Rattle.readings.specs.Conditions.{AskedAs, Refused, reading-refusal}
-use Rattle.readings.specs.Full.{NoRoomFor, WriteRefused, no-room, write-refusal, AtElement, each-refusal}
-use Rattle.readings.specs.GroupConditions.{GroupsFull, GroupsRefused, groups-no-room, groups-refusal}
-use Rattle.readings.specs.Seen.{DrainFails, opened-fails, opened-passes}
+use Rattle.readings.specs.Laws.Fold.{not-both, refused-same, Within}
+use Rattle.readings.specs.Laws.Within.{attributes-within, children-within}
+use Rattle.readings.specs.Conditions.Opening.{AskedAs, Refused, reading-refusal}
+use Rattle.readings.specs.Conditions.Room.{NoRoomFor, WriteRefused, no-room, write-refusal, AtElement, each-refusal}
+use Rattle.readings.specs.Conditions.Groups.{GroupsFull, GroupsRefused, groups-no-room, groups-refusal}
+use Rattle.readings.specs.Conditions.View.{DrainFails, opened-fails, opened-passes}
 
 -- ---- "attribute members in sheet order"
 pub data AttributeRefused (room : Room) (attributes : List Attribute) (m : Indexed) (before : Output) : Refusal → Output → Type 0 where

@@ -8,10 +8,10 @@ use borrow.Author.Tests.{lt-ltb}
 use Rattle.lists.specs.Tests.{pick, false-true}
 use Rattle.sheet.specs.Front.{bit}
 use Rattle.sheet.specs.Sheet.{Item, ListSheet, itemOf, onlyWith, listOf, Value, MapSheet, valueOf, mapOf}
-use Rattle.sheet.specs.InLimits.{NameIfThere, ItemIfThere, ListInLimits, ValueIfThere, MapInLimits}
-use Rattle.sheet.specs.Written.{fourBits, fiveBits, isThere, nameIfWritten, listWith, listWritten, mapWith, mapWritten}
-use Rattle.sheet.specs.Bits.{Bits, four-read, read-four, five-read, read-five}
-use Rattle.sheet.specs.Exact.{AllBytes, front-value, front-rest, first-then, holds, bit-map-exact, name-if-exact, name-if-end, all-is}
+use Rattle.sheet.specs.Exact.InLimits.{NameIfThere, ItemIfThere, ListInLimits, ValueIfThere, MapInLimits}
+use Rattle.sheet.specs.Exact.Written.{fourBits, fiveBits, isThere, nameIfWritten, listWith, listWritten, mapWith, mapWritten}
+use Rattle.sheet.specs.Exact.Bits.{Bits, four-read, read-four, five-read, read-five}
+use Rattle.sheet.specs.Exact.Fields.{AllBytes, front-value, front-rest, first-then, holds, bit-map-exact, name-if-exact, name-if-end, all-is}
 
 -- ---- list
 -- "2 and 3 only with 0": the fields of a bit map that keeps to that, as a sheet has them

@@ -11,7 +11,7 @@ use Rattle.lists.specs.Tests.{pick}
 use Rattle.refusal.specs.declared.Refusal.{Refusal}
 use Rattle.readings.specs.Output.{Room, Output, nothing, Reading, finished, refused, andThen, each, fits}
 use Rattle.readings.specs.Opening.{endTest}
-use Rattle.readings.specs.Fold.{not-both, refused-same, Reached, each-refused, refused-each}
+use Rattle.readings.specs.Laws.Fold.{not-both, refused-same, Reached, each-refused, refused-each}
 
 -- "An entry and its text are written only if both fit; else 10": there is no room for a further entry, or none for its bytes
 pub data NoRoomFor (room : Room) (bytes : List ℕ) (out : Output) : Type 0 where

@@ -6,7 +6,7 @@ use mathlib.Core.Bool.{Bool, true, false}
 use mathlib.Core.List.{List, [], _∷_, List·Memᴰ, List·Memᴰ·head, List·Memᴰ·tail, List·Memᴰ·cases-cons, List·Memᴰ·not-nil}
 use mathlib.Core.Option.{Option, none, some, Option·some-ne-none}
 use Rattle.lists.specs.Tests.{pick, false-true}
-use Rattle.lists.specs.Bytes.{same-is}
+use Rattle.lists.specs.Bytes.{same-is, same-self}
 use Rattle.refusal.specs.declared.Refusal.{Refusal}
 use Rattle.refusal.specs.Answer.{Answer, gives, refuses, onward}
 use Rattle.table.specs.Row.{rowsOf, toksOf}
@@ -16,8 +16,7 @@ use Rattle.document.specs.View.{View, view}
 use Rattle.document.specs.Scope.{Child, rootOf, childrenOf, Piece, pieceOf}
 use Rattle.readings.specs.Opening.{withTable, present}
 use Rattle.readings.specs.Find.{hasLocal, firstChild, wholeBody, findIn, find}
-use Rattle.readings.specs.Conditions.{given-refused, refuses-same, TableBroken, NoRootSeen, obeyed, not-obeyed}
-use Rattle.readings.specs.ValueConditions.{same-self}
+use Rattle.readings.specs.Conditions.Opening.{given-refused, refuses-same, TableBroken, NoRootSeen, obeyed, not-obeyed}
 
 has-local : (name : List ℕ) (c : Child) → (hasLocal name c ≡ false) ↔ (c .start .name .local ≡ name → ⊥)
 has-local name c = (λ p e. false-true {A = ⊥} (sym p ∙ rw e (same-self name)), go (hasLocal name c) refl)

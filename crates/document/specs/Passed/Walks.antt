@@ -18,8 +18,7 @@ use Rattle.xml.specs.Tests.{name-same}
 use Rattle.xml.specs.Past.{pastAttributes, pastElement, pastContent, count, grow-content}
 use Rattle.document.specs.declared.Depth.{Depth}
 use Rattle.document.specs.Reader.{depth, deeper, Reader, reader, Scope, element, Past, skip, StartEl, blank, begun, withAttribute, asClosed, found, next}
-use Rattle.document.specs.Scope.{Child, shut, dropped, Level, over, level, levelIn, children, endOf, dropping, childrenOf, afterChildren}
-use Rattle.document.specs.Scope as scope
+use Rattle.document.specs.Scope.{Child, shut, dropped, Level, meets, done, level, levelIn, children, endOf, dropping, childrenOf, afterChildren}
 
 -- ---- what a text stands for, where all its references are right
 abbrev pub meaning : Out → List ℕ
@@ -44,10 +43,10 @@ asChild (full-element n {m = m} a c) d k =
 -- the direct children of a content at depth d that begins at row k, and then the end of the level
 unfoldable pub asLevel : {l r : List Tok} → Content l r → Depth → ℕ → Past → Level
 unfolding asChild pastElement
-asLevel no-content d k p = over p
+asLevel no-content d k p = done p
 asLevel (chars e c) d k p = asLevel c d (suc k) p
 asLevel (other c) d k p = asLevel c d (suc k) p
-asLevel (child x c) d k p = scope.child (asChild x d k) (asLevel c d (pastElement x k) p)
+asLevel (child x c) d k p = meets (asChild x d k) (asLevel c d (pastElement x k) p)
 
 -- attributes change neither name nor depth nor row, and do not close a tag
 pub with-name : {s : List Name} {l r : List Tok} (a : Attributes s l r) (o : StartEl) → withAttributes a o .name ≡ o .name
@@ -138,11 +137,11 @@ dropping-past = record { after = λ e d k. ap (λ (p : Past). p .reader) (droppe
 module _ (past : Child → Reader) (goes : PastElements past) (own : Depth) (n : Name) where
   level-child : {l r : List Tok} (e : Element l r) (f k : ℕ)
       → level (suc f) past (element own n) (reader (deeper own) k l)
-      ≡ scope.child (asChild e (deeper own) k) (level f past (element own n) (reader (deeper own) (pastElement e k) r))
+      ≡ meets (asChild e (deeper own) k) (level f past (element own n) (reader (deeper own) (pastElement e k) r))
   unfolding level
   level-child e f k = rw (next-element (element own n) e, goes .after e (deeper own) k)
 
-  level-done : (f k : ℕ) (r : List Tok) → level (suc f) past (element own n) (reader (deeper own) k (close n ∷ r)) ≡ over (shut (reader own (suc k) r))
+  level-done : (f k : ℕ) (r : List Tok) → level (suc f) past (element own n) (reader (deeper own) k (close n ∷ r)) ≡ done (shut (reader own (suc k) r))
   unfolding level
   level-done f k r = rw (eq-eqb (own .0) (own .0) refl, name-same n)
 
@@ -156,7 +155,7 @@ module _ (past : Child → Reader) (goes : PastElements past) (own : Depth) (n :
   level-content (other c) (suc f) k h = level-content c (suc f) (suc k) h
   level-content {r = r} (child x c) (suc f) k h =
       level-child x f k
-      ∙ ap {B = Level} (λ t. scope.child (asChild x (deeper own) k) t) (level-content c f (pastElement x k) (omega (arith, h)))
+      ∙ ap {B = Level} (λ t. meets (asChild x (deeper own) k) t) (level-content c f (pastElement x k) (omega (arith, h)))
 
 -- the children of an element, by the grammar
 unfoldable pub contents : {l r : List Tok} → Content l r → Depth → ℕ → List Child

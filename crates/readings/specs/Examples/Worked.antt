@@ -17,8 +17,8 @@ use Rattle.sheet.specs.Settings.{Settings}
 use Rattle.readings.specs.Output.{textEntry, pieceEntry, groupEntry, keyTextEntry, Room, Output, finished}
 use Rattle.readings.specs.Structure.{structureReading}
 use Rattle.readings.specs.Collection.{listReading, mapReading}
-use Rattle.readings.specs.Promise.{structure, AllHanded, promised-output}
-use Rattle.readings.specs.Demand.{demand-3}
+use Rattle.readings.specs.Demand.Promise.{structure, AllHanded, promised-output}
+use Rattle.readings.specs.Demand.Theorem.{demand-3}
 use Rattle.readings.specs.All.{computed}
 
 -- ---- the upload

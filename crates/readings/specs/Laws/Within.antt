@@ -14,11 +14,11 @@ use Rattle.sheet.specs.Settings.{Settings, testsRootName}
 use Rattle.sheet.specs.Sheet.{Structure, structureOf, ListSheet, listOf, MapSheet, mapOf}
 use Rattle.sheet.specs.Names.{rootName, attributeName, Indexed, membersOf, resolve, itemName, entryName}
 use Rattle.document.specs.Names.{nameMatches}
-use Rattle.readings.specs.Output.{Room, Output, nothing, Reading, finished, refused, output, andThen, each, writeGroup}
+use Rattle.readings.specs.Output.{textEntry, pieceEntry, groupEntry, failedEntry, keyTextEntry, keyPieceEntry, Room, Output, nothing, Reading, finished, refused, output, andThen, each, writeGroup}
 use Rattle.readings.specs.Opening.{Opened, Asked, asked, reading, endTest}
 use Rattle.readings.specs.Structure.{attributeOf, writeFound, readAttribute, readScalar, readMember, readChild, groupOf, allOrNone, readGroups, readMembers, rootPiece, writeRoot, readUnwrapped, withRootName, readOpened, structureReading}
 use Rattle.readings.specs.Collection.{isWanted, readItem, readItems, listReading, writeAnswer, readString, readStrings, stringListReading, MapValue, text, piece, Fields, noFields, readFields, writeFields, writeEntry, readEntry, entriesOf, readEntries, mapReading}
-use Rattle.readings.specs.Fold.{textEntry, pieceEntry, groupEntry, failedEntry, keyTextEntry, keyPieceEntry, Within, nothing-within, write-within, each-keeps, andThen-keeps}
+use Rattle.readings.specs.Laws.Fold.{Within, nothing-within, write-within, each-keeps, andThen-keeps}
 
 module _ (room : Room) where
   -- what a reading has written is within the room

@@ -19,16 +19,16 @@ use Rattle.readings.specs.Structure.{structureReading}
 use Rattle.readings.specs.Collection.{listReading, stringListReading, mapReading}
 use Rattle.readings.specs.Scalar.{booleanReading, integerReading, stringReading, wholeText}
 use Rattle.readings.specs.Find.{find}
-use Rattle.readings.specs.Conditions.{broken-table, no-root, by-table, by-sheet, by-depth, by-root, before, while}
-use Rattle.readings.specs.Full.{as-met, last, at-element}
-use Rattle.readings.specs.Seen.{Stopped, at-drain, at-error}
-use Rattle.readings.specs.Texts.{NoText, element-inside, bad-reference, rows-end, passed}
-use Rattle.readings.specs.CollectionConditions.{item-no-room, ListRefused, list-refusal, string-no-text, string-no-room, StringListRefused, string-list-refusal, entry-no-text, entry-no-room, MapRefused, map-refusal}
-use Rattle.readings.specs.StructureConditions.{attribute-no-room, child-no-room, at-attribute, at-child, after-children, at-groups, unwrapped-ill-formed, unwrapped-no-room, root-name, unwrapped, wrapped, StructureRefused, structure-refusal}
-use Rattle.readings.specs.ValueConditions.{NotABoolean, not-boolean, NotAnInteger, not-integer, StringTooLong, too-long}
-use Rattle.readings.specs.ScalarConditions.{not-opened, no-text, after-the-rest, Unread, not-read, wrong, boolean-refusal, integer-refusal, string-refusal}
-use Rattle.readings.specs.FindConditions.{FindRefused, find-table, find-no-root, find-none, find-refusal}
-use Rattle.readings.specs.WholeConditions.{WholeRefused, whole-table, whole-ill-formed, whole-no-root, whole-has-element, whole-no-room, whole-text-refusal}
+use Rattle.readings.specs.Conditions.Opening.{broken-table, no-root, by-table, by-sheet, by-depth, by-root, before, while}
+use Rattle.readings.specs.Conditions.Room.{as-met, last, at-element}
+use Rattle.readings.specs.Conditions.View.{Stopped, at-drain, at-error}
+use Rattle.readings.specs.Conditions.Text.{NoText, element-inside, bad-reference, rows-end, passed}
+use Rattle.readings.specs.Conditions.Collection.{item-no-room, ListRefused, list-refusal, string-no-text, string-no-room, StringListRefused, string-list-refusal, entry-no-text, entry-no-room, MapRefused, map-refusal}
+use Rattle.readings.specs.Conditions.Structure.{attribute-no-room, child-no-room, at-attribute, at-child, after-children, at-groups, unwrapped-ill-formed, unwrapped-no-room, root-name, unwrapped, wrapped, StructureRefused, structure-refusal}
+use Rattle.readings.specs.Conditions.Values.{NotABoolean, not-boolean, NotAnInteger, not-integer, StringTooLong, too-long}
+use Rattle.readings.specs.Conditions.Scalar.{not-opened, no-text, after-the-rest, Unread, not-read, wrong, boolean-refusal, integer-refusal, string-refusal}
+use Rattle.readings.specs.Conditions.Find.{FindRefused, find-table, find-no-root, find-none, find-refusal}
+use Rattle.readings.specs.Conditions.Whole.{WholeRefused, whole-table, whole-ill-formed, whole-no-root, whole-has-element, whole-no-room, whole-text-refusal}
 
 -- the refusal's number is one of these
 abbrev pub Only : List ℕ → Refusal → Type 0

@@ -19,11 +19,11 @@ use Rattle.sheet.specs.Names.{itemName, entryName, keyName, valueName, valueAgg
 use Rattle.readings.specs.Output.{Room, Output, finished, refused, writePiece}
 use Rattle.readings.specs.Opening.{Asked}
 use Rattle.readings.specs.Collection.{isWanted, readItem, readItems, listReading, writeAnswer, readString, readStrings, stringListReading, MapValue, text, piece, Fields, noFields, valueIn, readField, readFields, writeFields, writeEntry, readEntry, entriesOf, readEntries, mapReading}
-use Rattle.readings.specs.Fold.{not-both, refused-same}
-use Rattle.readings.specs.Conditions.{given-refused, refuses-same, AskedAs, Refused, reading-refusal}
-use Rattle.readings.specs.Full.{NoRoomFor, WriteRefused, no-room, write-refusal, Collected, collected-refusal}
-use Rattle.readings.specs.Seen.{DrainFails, Stopped, opened-fails}
-use Rattle.readings.specs.Texts.{NoTextIn, opened-text-refusal}
+use Rattle.readings.specs.Laws.Fold.{not-both, refused-same}
+use Rattle.readings.specs.Conditions.Opening.{given-refused, refuses-same, AskedAs, Refused, reading-refusal}
+use Rattle.readings.specs.Conditions.Room.{NoRoomFor, WriteRefused, no-room, write-refusal, Collected, collected-refusal}
+use Rattle.readings.specs.Conditions.View.{DrainFails, Stopped, opened-fails}
+use Rattle.readings.specs.Conditions.Text.{NoTextIn, opened-text-refusal}
 
 -- ---- list
 -- an item is refused: "10 as met", where there is no room for its piece, which takes no text bytes

@@ -10,10 +10,10 @@ use lib.Dec.{leb}
 use lib.ListN.{length}
 use Rattle.sheet.specs.Front.{front, bit, times}
 use Rattle.sheet.specs.Sheet.{mostMembers, Member, Structure, member, memberList, structureOf}
-use Rattle.sheet.specs.InLimits.{Each, MemberInLimits, StructureInLimits}
-use Rattle.sheet.specs.Written.{fourBits, fiveBits, isThere, nameWritten, nameIfWritten, eachWritten, memberWritten, memberListWritten, structureWritten}
-use Rattle.sheet.specs.Bits.{Bits, five-read, read-five, four-read, read-four}
-use Rattle.sheet.specs.Exact.{AllBytes, front-value, front-rest, Exact, first-then, holds, byte-exact, bit-map-exact, name-exact, name-if-exact, times-exact, all-is}
+use Rattle.sheet.specs.Exact.InLimits.{Each, MemberInLimits, StructureInLimits}
+use Rattle.sheet.specs.Exact.Written.{fourBits, fiveBits, isThere, nameWritten, nameIfWritten, eachWritten, memberWritten, memberListWritten, structureWritten}
+use Rattle.sheet.specs.Exact.Bits.{Bits, five-read, read-five, four-read, read-four}
+use Rattle.sheet.specs.Exact.Fields.{AllBytes, front-value, front-rest, Exact, first-then, holds, byte-exact, bit-map-exact, name-exact, name-if-exact, times-exact, all-is}
 
 -- ---- members: "bits 0 XML name, 1 member name, 2 attribute, 3 flattened, 4 aggregate"
 member-exact : Exact member memberWritten MemberInLimits

@@ -11,10 +11,10 @@ use Rattle.sheet.specs.declared.ShapeDepth.{ShapeDepth}
 use Rattle.sheet.specs.Settings.{Settings, isStrict}
 use Rattle.readings.specs.Opening.{Opened, opened}
 use Rattle.readings.specs.Scalar.{booleanOf, integerOf, stringIn, unlessIllFormed, scalarText, booleanReading, integerReading, stringReading}
-use Rattle.readings.specs.Conditions.{given-refused, refuses-same, OpenedRefused, OpenedAs, opened-refusal, opened-given}
-use Rattle.readings.specs.Seen.{DrainFails, Stopped, opened-fails}
-use Rattle.readings.specs.Texts.{NoTextIn, opened-text-refusal}
-use Rattle.readings.specs.ValueConditions.{NotABoolean, boolean-text-refusal, NotAnInteger, integer-text-refusal, StringTooLong, string-text-refusal}
+use Rattle.readings.specs.Conditions.Opening.{given-refused, refuses-same, OpenedRefused, OpenedAs, opened-refusal, opened-given}
+use Rattle.readings.specs.Conditions.View.{DrainFails, Stopped, opened-fails}
+use Rattle.readings.specs.Conditions.Text.{NoTextIn, opened-text-refusal}
+use Rattle.readings.specs.Conditions.Values.{NotABoolean, boolean-text-refusal, NotAnInteger, integer-text-refusal, StringTooLong, string-text-refusal}
 
 module _ (body table : List ℕ) (final : ℕ) (settings : Settings) (depth : ShapeDepth) where
   abbrev strict : Bool

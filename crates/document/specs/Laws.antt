@@ -1,0 +1,4 @@
+-- Laws of the walks on every input: they go on, they do not depend on their fuel, and their step equations.
+pub mod Onward
+pub mod Fuel
+pub mod Steps

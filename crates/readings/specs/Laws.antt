@@ -1,0 +1,4 @@
+-- Laws of outputs: what was written stays, what is written fits the room, and the groups have an order.
+pub mod Fold
+pub mod Within
+pub mod Order
