@@ -2,3 +2,4 @@
 pub mod Fold
 pub mod Within
 pub mod Order
+pub mod Fuel

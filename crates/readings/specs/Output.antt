@@ -58,6 +58,27 @@ abbrev pub andThen : Reading → (Output → Reading) → Reading
 andThen (finished out) f = f out
 andThen (refused r out) f = refused r out
 
+-- ---- what is told of a reading: its number, 0 where it finished; the entries, counted, as six numbers each; and the text bytes
+abbrev pub sixNumbers : Entry → List ℕ
+sixNumbers e = e .kind ∷ e .member ∷ e .keyStart ∷ e .keyLen ∷ e .start ∷ e .len ∷ []
+
+unfoldable pub numbersOf : List Entry → List ℕ
+numbersOf [] = []
+numbersOf (e ∷ l) = sixNumbers e ++ numbersOf l
+
+pub record Told : Type 0 where
+  pub number : ℕ
+  pub count : ℕ
+  pub entries : List ℕ
+  pub texts : List ℕ
+
+abbrev pub outcome : Reading → ℕ
+outcome (finished out) = 0
+outcome (refused r out) = number r
+
+abbrev pub told : Reading → Told
+told r = record { number = outcome r; count = length (output r .entries); entries = numbersOf (output r .entries); texts = output r .texts }
+
 -- one after another, to the first refusal
 unfoldable pub each : {A : Type 0} → (A → Output → Reading) → List A → Output → Reading
 each f [] out = finished out
