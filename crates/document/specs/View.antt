@@ -28,7 +28,8 @@ positionAt final [] k = final
 positionAt final (r ∷ rest) zero = r .position
 positionAt final (r ∷ rest) (suc k) = positionAt final rest k
 
--- "In a text under strict reading a mismatched or unclosed tag gives 9"; so does a repeated attribute
+-- what a text meets: "In a text under strict reading a mismatched or unclosed tag gives 9". (A text never meets a repeated attribute: the start row before
+-- it gives 6.)
 abbrev pub failureOf : Cause → Refusal
 failureOf Cause.TokenError = Refusal.TokenError
 failureOf Cause.MismatchedEnd = Refusal.IllFormed
@@ -36,8 +37,7 @@ failureOf Cause.UnclosedElement = Refusal.IllFormed
 failureOf Cause.RepeatedAttribute = Refusal.IllFormed
 failureOf Cause.BadReference = Refusal.BadReference
 
--- strict: the rows before the one that fails the drain; the tokenizer stands after that one. (The walk of a table that obeys the rules never
--- says `Table`.)
+-- strict: the rows before the one that fails the drain; the tokenizer then stands after that one. (A walk over tokens never says `Table`.)
 abbrev pub strictView : List Row → ℕ → Drained → View
 strictView rows final Drained.Passes = whole rows final
 strictView rows final Drained.Table = whole rows final
@@ -63,7 +63,7 @@ unfoldable pub errorAt : List Tok → Option ℕ
 errorAt [] = none
 errorAt (t ∷ l) = laterError (isError t) (errorAt l)
 
--- lenient: the rows before a token error; "a kind 8 row's position" is the tokenizer's last
+-- lenient: the rows before a token error; "at the final position when the rows run out", wherever the row of kind 8 stands
 abbrev pub lenientView : List Row → ℕ → Option ℕ → View
 lenientView rows final none = whole rows final
 lenientView rows final (some k) = record { rows = take k rows; failure = some Refusal.TokenError; illFormed = false; ends = final }

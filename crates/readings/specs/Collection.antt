@@ -66,7 +66,7 @@ unfolding asked listOf readStrings
 stringListReading body table final sheet settings depth room = reading (asked body table final (listOf sheet) settings depth) (readStrings settings room)
 
 -- ---- map
--- what a map entry has come to: "the first key or value wins (the last does)"
+-- what a map entry has come to: of several keys or values the last wins
 pub data MapValue : Type 0 where
   text : List ℕ → MapValue
   piece : Piece → MapValue
@@ -83,7 +83,7 @@ abbrev pub valueIn : List ℕ → View → Bool → Child → Answer MapValue
 valueIn body v true c = gives (piece (pieceOf body v c))
 valueIn body v false c = onward (textOf (v .failure) c) (λ (t : List ℕ). gives (text t))
 
--- "a child named as both is a value (it is a key)": key first
+-- a child that has both names is a key
 unfoldable pub readField : List ℕ → View → MapSheet → Fields → Child → Answer Fields
 unfolding sameb pieceOf textOf
 readField body v m f c =

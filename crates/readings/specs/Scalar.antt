@@ -71,7 +71,7 @@ scalarText body table final settings depth =
     onward (opened (isStrict settings depth) body table final) (λ (o : Opened).
     onward (textOf (o .seen .failure) (o .root)) (unlessIllFormed (o .seen .illFormed)))
 
--- "then 11 or 12", "10 for a string"
+-- "10 for a string; 11 or 12"
 unfoldable pub booleanReading : List ℕ → List ℕ → ℕ → Settings → ShapeDepth → Answer Bool
 unfolding scalarText booleanOf
 booleanReading body table final settings depth = onward (scalarText body table final settings depth) booleanOf

@@ -158,3 +158,7 @@ unfoldable pub structureReading : List ℕ → List ℕ → ℕ → List ℕ →
 unfolding asked structureOf readOpened
 structureReading body table final sheet settings depth room order =
     reading (asked body table final (structureOf sheet) settings depth) (readOpened body settings depth room order)
+
+-- what the order must be that a program chooses: of the groups of the sheet that is read and of the root's children, where the reading comes so far
+pub record OrderFor (body table : List ℕ) (final : ℕ) (sheet : List ℕ) (settings : Settings) (depth : ShapeDepth) (order : List ℕ) : Type 0 where
+  pub is : (a : Asked Structure) → asked body table final (structureOf sheet) settings depth ≡ gives a → GroupOrder (a .sheet) (childrenOf (a .opened .root)) order

@@ -19,10 +19,8 @@ use Rattle.xml.specs.Past.{pastElement}
 use Rattle.xml.specs.Again.{againElement, is-element}
 use Rattle.xml.specs.Closing.{element-at, element-toks, element-last}
 
--- the piece of a body and its table that begins at `from` and is `len` bytes long
-pub record ElementPiece (body table : List ℕ) (from len : ℕ) : Type 0 where
-  -- the row that its element starts in
-  pub row : ℕ
+-- `from` and `len` are the piece of the element that starts in a row
+pub record PieceAt (body table : List ℕ) (row from len : ℕ) : Type 0 where
   -- it is a start row whose last `<` before its local name stands at `from`, and a later row closes its element
   pub element : ElementAt body (rowsOf table) row from
   -- the piece ends at the position of the row that closes the element
@@ -30,6 +28,11 @@ pub record ElementPiece (body table : List ℕ) (from len : ℕ) : Type 0 where
   pub inside : from + len ≤ length body
   -- the element's rows, counted from the piece's first byte, with the piece as body and its length as final position, pass the drain
   pub again : drained (cut body from len) (tableOf (pieceRows body (elementRows (rowsOf table) row))) len ≡ Drained.Passes
+
+-- the piece of an element of the table, in whatever row it starts
+pub record ElementPiece (body table : List ℕ) (from len : ℕ) : Type 0 where
+  pub row : ℕ
+  pub is : PieceAt body table row from len
 
 -- an element's bytes are those that the table's definitions cut out
 module _ {body : List ℕ} {rows : List Row} {k from : ℕ} (a : ElementAt body rows k from) where
@@ -41,7 +44,7 @@ module _ {body : List ℕ} {rows : List Row} {k from : ℕ} (a : ElementAt body 
       let n : len ≡ lastPosition 0 (elementRows rows k) - from = omega arith in
       rw (begins-at, n)
 
-pub piece-bytes : {body table : List ℕ} {from len : ℕ} (p : ElementPiece body table from len) → cut body from len ≡ pieceBytes body (elementRows (rowsOf table) (p .row))
+pub piece-bytes : {body table : List ℕ} {row from len : ℕ} (p : PieceAt body table row from len) → cut body from len ≡ pieceBytes body (elementRows (rowsOf table) row)
 piece-bytes {len = len} p = bytes-are (p .element) len (p .ends)
 
 -- the table of an element of a document passes the drain
@@ -61,7 +64,7 @@ alone {body} {table} {final} {from} len t e k h a ends inside =
 
 -- THEOREM: in a table that passes, each element of the grammar, in whatever row it starts, is such a piece
 pub element-piece : {body table : List ℕ} (final : ℕ) → drained body table final ≡ Drained.Passes → {l r : List Tok} (e : Element l r) (k : ℕ) → drop k (toksOf body (rowsOf table)) ≡ l
-    → ElementPiece body table (pieceStart body (drop k (rowsOf table))) (lastPosition 0 (take (pastElement e k) (rowsOf table)) - pieceStart body (drop k (rowsOf table)))
+    → PieceAt body table k (pieceStart body (drop k (rowsOf table))) (lastPosition 0 (take (pastElement e k) (rowsOf table)) - pieceStart body (drop k (rowsOf table)))
 element-piece {body} {table} final passes e k h =
     let rows = rowsOf table in
     let t = drained-document-is body table final .0 passes .0 in
@@ -71,11 +74,11 @@ element-piece {body} {table} final passes e k h =
     let len = lastPosition 0 (take (pastElement e k) rows) - from in
     let ends : from + len ≡ lastPosition 0 (elementRows rows k) = omega (arith, b .rises, element-last body rows e k h) in
     let inside : from + len ≤ length body = omega (arith, b .rises, b .within) in
-    record { row = k; element = a; ends = ends; inside = inside; again = alone len t e k h a ends inside }
+    record { element = a; ends = ends; inside = inside; again = alone len t e k h a ends inside }
 
 -- a piece of a table that passes is not empty, begins with `<` and ends with `>`
-pub piece-ends : {body table : List ℕ} {from len : ℕ} (final : ℕ) → drained body table final ≡ Drained.Passes → ElementPiece body table from len → Bounds (cut body from len) 0 len
-piece-ends {body} {table} {from} {len} final passes p =
+pub piece-ends : {body table : List ℕ} {row from len : ℕ} (final : ℕ) → drained body table final ≡ Drained.Passes → PieceAt body table row from len → Bounds (cut body from len) 0 len
+piece-ends {body} {table} {row} {from} {len} final passes p =
     let b : Bounds body from (from + len) = rw (p .ends) (piece-bounds (drained-document-is body table final .0 passes .0 .rules) (p .element)) in
     let first : from - from ≡ 0 = omega arith in
     let last : from + len - 1 - from ≡ len - 1 = omega (arith, b .rises) in

@@ -16,7 +16,7 @@ use Rattle.xml.specs.Grammar as grammar
 use Rattle.xml.specs.Drain.{drained}
 use Rattle.xml.specs.Tests.{name-same}
 use Rattle.xml.specs.Past.{pastAttributes, pastElement, pastMiscs, at-next, in-content, past-element, past-miscs}
-use Rattle.xml.specs.Piece.{ElementPiece, element-piece}
+use Rattle.xml.specs.Piece.{PieceAt, element-piece}
 use Rattle.document.specs.declared.Depth.{Depth}
 use Rattle.document.specs.View.{whole}
 use Rattle.document.specs.Reader.{depth, deeper, document, element, StartEl, blank, begun, next}
@@ -95,11 +95,13 @@ unfolding asChild
 element-row (empty-element n a) d k = with-row a (begun blank n d k)
 element-row (full-element n a c) d k = with-row a (begun blank n d k)
 
+-- a piece is the one of the element that starts in a row
+abbrev pub IsPieceAt : List ℕ → List ℕ → ℕ → Piece → Type 0
+IsPieceAt body table row p = PieceAt body table row (p .start) (p .len)
+
 -- what is handed out as the piece of a child is that element's piece
-abbrev pub IsElementPiece : List ℕ → List ℕ → Piece → Type 0
-IsElementPiece body table p = ElementPiece body table (p .start) (p .len)
 
 pub piece-met : {body table : List ℕ} (final : ℕ) → drained body table final ≡ Drained.Passes → (c : Child) → Met (toksOf body (rowsOf table)) c
-    → IsElementPiece body table (pieceOf body (whole (rowsOf table) final) c)
+    → IsPieceAt body table (c .start .row) (pieceOf body (whole (rowsOf table) final) c)
 unfolding pieceOf
 piece-met final passes c (met e d k h) = rw (element-row e d k, dropped-element e d k) (element-piece final passes e k h)

@@ -4,13 +4,13 @@ use Prim.Native.Nat.{ℕ}
 use mathlib.Core.Path.{_≡_, refl}
 use mathlib.Core.Logic.{_⊎_}
 use mathlib.Core.Bool.{Bool, true, false}
-use mathlib.Core.List.{List, [], _∷_, List·Memᴰ, List·Memᴰ·head, List·Memᴰ·tail}
+use mathlib.Core.List.{List, [], _∷_, _++_, List·Memᴰ, List·Memᴰ·head, List·Memᴰ·tail}
 use mathlib.Core.Option.{Option, none, some}
-use Rattle.lists.specs.Tests.{pick-all}
+use Rattle.lists.specs.Tests.{pick, pick-all}
 use Rattle.lists.specs.Bytes.{sameb}
 use Rattle.refusal.specs.declared.Refusal.{Refusal}
 use Rattle.refusal.specs.Answer.{Answer, gives, refuses, onward}
-use Rattle.table.specs.Row.{Tok, rowsOf, toksOf}
+use Rattle.table.specs.Row.{Tok, cut, rowsOf, toksOf}
 use Rattle.table.specs.Rules.{TableRules}
 use Rattle.table.specs.Test.{decTable}
 use Rattle.xml.specs.declared.Drained.{Drained}
@@ -23,15 +23,15 @@ use Rattle.xml.specs.Closing.{element-closed, element-last}
 use Rattle.xml.specs.Piece.{element-piece}
 use Rattle.document.specs.Names.{nameMatches}
 use Rattle.document.specs.View.{View, whole, view}
-use Rattle.document.specs.Scope.{Child, childrenOf, dropping, afterChildren, Piece, pieceOf}
+use Rattle.document.specs.Scope.{Child, childrenOf, dropping, afterChildren, rootOf, Piece, pieceOf}
 use Rattle.document.specs.Passed.View.{view-passed}
 use Rattle.document.specs.Passed.Walks.{either-past, PastElements, level-in, dropping-past, after-children-past}
-use Rattle.document.specs.Passed.Pieces.{Met, met, inside-met, children-met, RootMet, root-met, no-root, document-root, TextOrElement, is-text, is-element, text-met, element-row, IsElementPiece, piece-met}
+use Rattle.document.specs.Passed.Pieces.{Met, met, inside-met, children-met, RootMet, root-met, no-root, document-root, TextOrElement, is-text, is-element, text-met, element-row, IsPieceAt, piece-met}
 use Rattle.sheet.specs.declared.ShapeDepth.{ShapeDepth}
 use Rattle.sheet.specs.Settings.{Settings, isStrict, tooDeep, testsRootName}
 use Rattle.sheet.specs.Sheet.{Structure, structureOf, listOf, MapSheet, mapOf}
 use Rattle.sheet.specs.Names.{rootName, Indexed, membersOf, resolve, itemName, entryName, attributeName, keyName, valueName, valueAggregate}
-use Rattle.readings.specs.Output.{Room, Output, nothing, Reading}
+use Rattle.readings.specs.Output.{Room, Output, nothing, Reading, refused}
 use Rattle.readings.specs.Opening.{Opened, Asked, asked, reading, present, rooted, withDepth, withTable}
 use Rattle.readings.specs.Structure.{
   attributeOf,
@@ -78,117 +78,126 @@ use Rattle.readings.specs.Collection.{
   readEntries,
   mapReading,
 }
-use Rattle.readings.specs.Demand.Promise.{Shape, structure, list, map, strings, read, broken-sheet, depth-limit, root-name, element-in-text, Elements, no-more, sibling, AllHanded, Promised, finishes, refuses}
+use Rattle.readings.specs.Demand.Promise.{Shape, structure, list, map, strings, read, Condition, broken-sheet, depth-limit, root-name, element-in-text, Siblings, no-child, sibling, stranger, AllHanded, Promised, finishes, refuses}
 use Rattle.readings.specs.Demand.Promise as promise
-use Rattle.readings.specs.Demand.Keeps.{none-handed, then-keeps, each-keeps, text-keeps, key-text-keeps, piece-keeps, key-piece-keeps, failed-keeps, group-keeps}
+use Rattle.readings.specs.Conditions.Structure.{structure-refusal}
+use Rattle.readings.specs.Conditions.Collection.{list-refusal, map-refusal, string-list-refusal}
+use Rattle.readings.specs.Demand.Keeps.{Kept, none-handed, then-keeps, each-keeps, text-keeps, key-text-keeps, piece-keeps, key-piece-keeps, failed-keeps, group-keeps}
 
-module _ (body table : List ℕ) (final : ℕ) (passes : drained body table final ≡ Drained.Passes) where
+module _ (body table sheet : List ℕ) (final : ℕ) (passes : drained body table final ≡ Drained.Passes) where
   toks : List Tok
   toks = toksOf body (rowsOf table)
 
   seen : View
   seen = whole (rowsOf table) final
 
-  piece-of : (c : Child) → Met toks c → IsElementPiece body table (pieceOf body seen c)
+  piece-of : (c : Child) → Met toks c → IsPieceAt body table (c .start .row) (pieceOf body seen c)
   unfolding toks seen
   piece-of c m = piece-met final passes c m
 
   -- ---- structures
-  found-keeps : (room : Room) (index : ℕ) (v : Option (List ℕ)) (out : Output) → AllHanded body table out → Promised body table (writeFound room index v out)
+  found-keeps : (room : Room) (index : ℕ) (v : Option (List ℕ)) (out : Output) → AllHanded body table sheet out → Kept body table sheet (writeFound room index v out)
   found-keeps room index none out a = finishes a
-  found-keeps room index (some v) out a = text-keeps body table room index v out a
+  found-keeps room index (some v) out a = text-keeps body table sheet room index v out a
 
-  attribute-keeps : (room : Room) (o : Opened) (m : Indexed) (out : Output) → AllHanded body table out → Promised body table (readAttribute room (o .root .start .attributes) m out)
+  attribute-keeps : (room : Room) (o : Opened) (m : Indexed) (out : Output) → AllHanded body table sheet out → Kept body table sheet (readAttribute room (o .root .start .attributes) m out)
   unfolding readAttribute
   attribute-keeps room o m out a =
-      pick-all (Promised body table) (m .member .attribute) _ _
+      pick-all (Kept body table sheet) (m .member .attribute) _ _
       (found-keeps room (m .index) (attributeOf (o .root .start .attributes) (attributeName (m .member))) out a)
       (finishes a)
 
-  scalar-keeps : (room : Room) (index : ℕ) {t : Answer (List ℕ)} → TextOrElement t → (out : Output) → AllHanded body table out → Promised body table (readScalar room index t out)
-  scalar-keeps room index (is-text t) out a = text-keeps body table room index t out a
-  scalar-keeps room index is-element out a = failed-keeps body table room index out a
+  scalar-keeps : (room : Room) (index : ℕ) {t : Answer (List ℕ)} → TextOrElement t → (out : Output) → AllHanded body table sheet out → Kept body table sheet (readScalar room index t out)
+  scalar-keeps room index (is-text t) out a = text-keeps body table sheet room index t out a
+  scalar-keeps room index is-element out a = failed-keeps body table sheet room index out a
 
-  member-keeps : (room : Room) (c : Child) → Met toks c → (m : Option Indexed) (out : Output) → AllHanded body table out → Promised body table (readMember body seen room c m out)
+  member-keeps : (room : Room) (c : Child) → Met toks c → (m : Option Indexed) (out : Output) → AllHanded body table sheet out → Kept body table sheet (readMember body seen room c m out)
   unfolding seen
   member-keeps room c x none out a = finishes a
   member-keeps room c x (some m) out a =
-      pick-all (Promised body table) (m .member .aggregate) _ _
-      (pick-all (Promised body table) (m .member .flattened) _ _ (finishes a) (piece-keeps body table room (m .index) (pieceOf body seen c) out a (piece-of c x)))
+      pick-all (Kept body table sheet) (m .member .aggregate) _ _
+      (pick-all (Kept body table sheet) (m .member .flattened) _ _ (finishes a) (piece-keeps body table sheet room (m .index) (pieceOf body seen c) out a (piece-of c x)))
       (scalar-keeps room (m .index) (text-met c x) out a)
 
-  child-keeps : (s : Structure) (room : Room) (c : Child) → Met toks c → (out : Output) → AllHanded body table out → Promised body table (readChild body seen s room c out)
+  child-keeps : (s : Structure) (room : Room) (c : Child) → Met toks c → (out : Output) → AllHanded body table sheet out → Kept body table sheet (readChild body seen s room c out)
   unfolding readChild
   child-keeps s room c x out a = member-keeps room c x (resolve s (c .start .name .local)) out a
 
-  -- the siblings of a group are elements
-  siblings-are : (s : Structure) (i : ℕ) (l : List Child) → ((c : Child) → List·Memᴰ c l → Met toks c) → Elements body table (siblings body seen s i l)
+  -- the siblings of a group are elements, and the others are no siblings
+  siblings-are : (s : Structure) (i : ℕ) (l : List Child) → ((c : Child) → List·Memᴰ c l → Met toks c) → Siblings body table s i l (siblings body seen s i l)
   unfolding siblings
-  siblings-are s i [] f = no-more
-  siblings-are s i (c ∷ l) f =
-      let more = siblings-are s i l (λ x m. f x (List·Memᴰ·tail m)) in
-      pick-all (Elements body table) (inGroup s i c) _ _ (sibling (piece-of c (f c (List·Memᴰ·head refl))) more) more
+  siblings-are s i [] f = no-child
+  siblings-are s i (c ∷ l) f = go (inGroup s i c) refl (siblings-are s i l (λ x m. f x (List·Memᴰ·tail m)))
+    where
+      bytes : List ℕ
+      bytes = let p = pieceOf body seen c in cut body (p .start) (p .len)
 
-  all-or-none : {r : Reading} (out : Output) → AllHanded body table out → Promised body table r → Promised body table (allOrNone out r)
+      go : (t : Bool) → inGroup s i c ≡ t → Siblings body table s i l (siblings body seen s i l)
+          → Siblings body table s i (c ∷ l) (pick t (bytes ++ siblings body seen s i l) (siblings body seen s i l))
+      go true q more = sibling q (piece-of c (f c (List·Memᴰ·head refl))) more
+      go false q more = stranger q more
+
+  all-or-none : {r : Reading} (out : Output) → AllHanded body table sheet out → Kept body table sheet r → Kept body table sheet (allOrNone out r)
   all-or-none out a (finishes b) = finishes b
-  all-or-none out a (refuses m b) = refuses m a
+  all-or-none out a (refuses m h b) = refuses m h a
 
-  groups-keep : (s : Structure) (room : Room) (order : List ℕ) (l : List Child) → ((c : Child) → List·Memᴰ c l → Met toks c) → (out : Output) → AllHanded body table out
-      → Promised body table (readGroups body seen s l room order out)
-  unfolding readGroups groupOf
-  groups-keep s room order l f out a =
-      all-or-none out a (each-keeps body table _ order (λ i x. group-keeps body table room i (siblings-are s i l f)) out a)
+  groups-keep : {s : Structure} → structureOf sheet ≡ some s → {root : Child} → rootOf toks ≡ some root → Met toks root → (room : Room) (order : List ℕ) (out : Output)
+      → AllHanded body table sheet out → Kept body table sheet (readGroups body seen s (childrenOf root) room order out)
+  unfolding readGroups groupOf toks
+  groups-keep {s} says {root} isRoot m room order out a =
+      all-or-none out a
+      (each-keeps body table sheet _ order
+      (λ i x. group-keeps body table sheet room i says isRoot (siblings-are s i (childrenOf root) (children-met toks root m))) out a)
 
-  members-keep : (s : Structure) (room : Room) (order : List ℕ) (root : Child) → Met toks root
-      → Promised body table (readMembers body s room order (record { seen = seen; root = root }))
+  members-keep : {s : Structure} → structureOf sheet ≡ some s → (room : Room) (order : List ℕ) {root : Child} → rootOf toks ≡ some root → Met toks root
+      → Kept body table sheet (readMembers body s room order (record { seen = seen; root = root }))
   unfolding readMembers seen
-  members-keep s room order root m =
-      let kids : (c : Child) → List·Memᴰ c (childrenOf root) → Met toks c = children-met toks root m in
-      then-keeps body table _
-      (each-keeps body table _ (membersOf s) (λ x i. attribute-keeps room (record { seen = seen; root = root }) x) nothing (none-handed body table))
-      (λ out a. then-keeps body table _
-      (each-keeps body table _ (childrenOf root) (λ c i. child-keeps s room c (kids c i)) out a)
-      (λ out a. groups-keep s room order (childrenOf root) kids out a))
+  members-keep {s} says room order {root} isRoot m =
+      then-keeps body table sheet _
+      (each-keeps body table sheet _ (membersOf s) (λ x i. attribute-keeps room (record { seen = seen; root = root }) x) nothing (none-handed body table sheet))
+      (λ out a. then-keeps body table sheet _
+      (each-keeps body table sheet _ (childrenOf root) (λ c i. child-keeps s room c (children-met toks root m c i)) out a)
+      (λ out a. groups-keep says isRoot m room order out a))
 
-  root-piece : (root : Child) → Met toks root → IsElementPiece body table (rootPiece body (record { seen = seen; root = root }))
+  root-piece : (root : Child) → Met toks root → IsPieceAt body table (root .start .row) (rootPiece body (record { seen = seen; root = root }))
   unfolding rootPiece seen toks
   root-piece root (met e d k h) =
       rw (element-row e d k, element-closed body (rowsOf table) e k h, element-last body (rowsOf table) e k h) (element-piece final passes e k h)
 
-  write-root-keeps : (room : Room) {p : Piece} → IsElementPiece body table p → (m : Option Indexed) → Promised body table (writeRoot room p m nothing)
-  write-root-keeps room x none = finishes (none-handed body table)
-  write-root-keeps room {p} x (some m) = piece-keeps body table room (m .index) p nothing (none-handed body table) x
+  write-root-keeps : (room : Room) {p : Piece} {row : ℕ} → IsPieceAt body table row p → (m : Option Indexed) → Kept body table sheet (writeRoot room p m nothing)
+  write-root-keeps room x none = finishes (none-handed body table sheet)
+  write-root-keeps room {p} x (some m) = piece-keeps body table sheet room (m .index) p nothing (none-handed body table sheet) x
 
-  unwrapped-keeps : (s : Structure) (room : Room) (root : Child) → Met toks root → Promised body table (readUnwrapped body s room (record { seen = seen; root = root }))
+  unwrapped-keeps : (s : Structure) (room : Room) (root : Child) → Met toks root → Kept body table sheet (readUnwrapped body s room (record { seen = seen; root = root }))
   unfolding readUnwrapped seen
   unwrapped-keeps s room root m = write-root-keeps room (root-piece root m) (resolve s (root .start .name .local))
 
-  root-name-keeps : (tests matches : Bool) {r : Reading} → Promised body table r → Promised body table (withRootName tests matches r)
+  root-name-keeps : (tests matches : Bool) {r : Reading} → Kept body table sheet r → Kept body table sheet (withRootName tests matches r)
   root-name-keeps false matches p = p
   root-name-keeps true true p = p
-  root-name-keeps true false p = refuses root-name (none-handed body table)
+  root-name-keeps true false p = refuses root-name tt (none-handed body table sheet)
 
   -- ---- lists
-  item-keeps : (name : Option (List ℕ)) (room : Room) (c : Child) → Met toks c → (out : Output) → AllHanded body table out → Promised body table (readItem body seen name room c out)
+  item-keeps : (name : Option (List ℕ)) (room : Room) (c : Child) → Met toks c → (out : Output) → AllHanded body table sheet out → Kept body table sheet (readItem body seen name room c out)
   unfolding readItem
   item-keeps name room c m out a =
-      pick-all (Promised body table) (isWanted name c) _ _ (piece-keeps body table room 0 (pieceOf body seen c) out a (piece-of c m)) (finishes a)
+      pick-all (Kept body table sheet) (isWanted name c) _ _ (piece-keeps body table sheet room 0 (pieceOf body seen c) out a (piece-of c m)) (finishes a)
 
-  answer-keeps : (room : Room) {t : Answer (List ℕ)} → TextOrElement t → (out : Output) → AllHanded body table out → Promised body table (writeAnswer room t out)
-  answer-keeps room (is-text t) out a = text-keeps body table room 0 t out a
-  answer-keeps room is-element out a = refuses element-in-text a
+  answer-keeps : (room : Room) {t : Answer (List ℕ)} → TextOrElement t → (out : Output) → AllHanded body table sheet out → Kept body table sheet (writeAnswer room t out)
+  answer-keeps room (is-text t) out a = text-keeps body table sheet room 0 t out a
+  answer-keeps room is-element out a = refuses element-in-text tt a
 
-  string-keeps : (name : Option (List ℕ)) (room : Room) (c : Child) → Met toks c → (out : Output) → AllHanded body table out → Promised body table (readString seen name room c out)
+  string-keeps : (name : Option (List ℕ)) (room : Room) (c : Child) → Met toks c → (out : Output) → AllHanded body table sheet out → Kept body table sheet (readString seen name room c out)
   unfolding readString seen
   string-keeps name room c m out a =
-      pick-all (Promised body table) (isWanted name c) _ _ (answer-keeps room (text-met c m) out a) (finishes a)
+      pick-all (Kept body table sheet) (isWanted name c) _ _ (answer-keeps room (text-met c m) out a) (finishes a)
 
   -- ---- maps
   -- a value that is a piece is an element's
   data ValueMet : Option MapValue → Type 0 where
     no-value : ValueMet none
     text-value : {t : List ℕ} → ValueMet (some (text t))
-    piece-value : {p : Piece} → IsElementPiece body table p → ValueMet (some (piece p))
+    piece-value : {p : Piece} {row : ℕ} → IsPieceAt body table row p → ValueMet (some (piece p))
 
   -- the fields of an entry; or 6
   data FieldsMet : Answer Fields → Type 0 where
@@ -226,22 +235,22 @@ module _ (body table : List ℕ) (final : ℕ) (passes : drained body table fina
       go (fields-met {f = f} v) more = more f v
       go field-element more = field-element
 
-  write-fields-keep : (room : Room) (key : Option (List ℕ)) {value : Option MapValue} → ValueMet value → (out : Output) → AllHanded body table out
-      → Promised body table (writeFields room key value out)
+  write-fields-keep : (room : Room) (key : Option (List ℕ)) {value : Option MapValue} → ValueMet value → (out : Output) → AllHanded body table sheet out
+      → Kept body table sheet (writeFields room key value out)
   write-fields-keep room none v out a = finishes a
   write-fields-keep room (some k) no-value out a = finishes a
-  write-fields-keep room (some k) (text-value {t = t}) out a = key-text-keeps body table room k t out a
-  write-fields-keep room (some k) (piece-value {p = p} x) out a = key-piece-keeps body table room k p out a x
+  write-fields-keep room (some k) (text-value {t = t}) out a = key-text-keeps body table sheet room k t out a
+  write-fields-keep room (some k) (piece-value {p = p} x) out a = key-piece-keeps body table sheet room k p out a x
 
-  write-entry-keeps : (room : Room) {f : Answer Fields} → FieldsMet f → (out : Output) → AllHanded body table out → Promised body table (writeEntry room f out)
+  write-entry-keeps : (room : Room) {f : Answer Fields} → FieldsMet f → (out : Output) → AllHanded body table sheet out → Kept body table sheet (writeEntry room f out)
   write-entry-keeps room (fields-met {f = f} v) out a = write-fields-keep room (f .key) v out a
-  write-entry-keeps room field-element out a = refuses element-in-text a
+  write-entry-keeps room field-element out a = refuses element-in-text tt a
 
-  entry-keeps : (s : MapSheet) (name : Option (List ℕ)) (room : Room) (c : Child) → Met toks c → (out : Output) → AllHanded body table out
-      → Promised body table (readEntry body seen s name room c out)
+  entry-keeps : (s : MapSheet) (name : Option (List ℕ)) (room : Room) (c : Child) → Met toks c → (out : Output) → AllHanded body table sheet out
+      → Kept body table sheet (readEntry body seen s name room c out)
   unfolding readEntry
   entry-keeps s name room c m out a =
-      pick-all (Promised body table) (isWanted name c) _ _
+      pick-all (Kept body table sheet) (isWanted name c) _ _
       (write-entry-keeps room (fields-are s (childrenOf c) (children-met toks c m) noFields no-value) out a)
       (finishes a)
 
@@ -255,24 +264,26 @@ module _ (body table : List ℕ) (final : ℕ) (passes : drained body table fina
   entries-met name root (met e d k h) c i = inside-met toks e d k h c (rw (level-in (afterEntry name) (after-entry-past name) e d k) at i)
 
   -- ---- the openings
-  -- a reading that keeps the promise of whatever root it meets
-  Keeping : {S : Type 0} → (Asked S → Reading) → Type 0
-  Keeping {S} f = (s : S) (root : Child) → Met toks root → Promised body table (f (record { sheet = s; opened = record { seen = seen; root = root } }))
+  -- a reading that keeps the promise, of whatever sheet it is told and root it meets
+  Keeping : {S : Type 0} → Option S → (Asked S → Reading) → Type 0
+  Keeping {S} said f =
+      (s : S) (root : Child) → said ≡ some s → rootOf toks ≡ some root → Met toks root
+      → Kept body table sheet (f (record { sheet = s; opened = record { seen = seen; root = root } }))
 
-  root-keeps : {S : Type 0} (f : Asked S → Reading) → Keeping f → (s : S) {c : Option Child} → RootMet toks c
-      → Promised body table (reading (onward (onward (present Refusal.NoRoot c) (λ (c : Child). gives (record { seen = seen; root = c }))) (λ (o : Opened). gives (record { sheet = s; opened = o }))) f)
+  root-keeps : {S : Type 0} (said : Option S) (f : Asked S → Reading) → Keeping said f → (s : S) → said ≡ some s → {c : Option Child} → rootOf toks ≡ c → RootMet toks c
+      → Kept body table sheet (reading (onward (onward (present Refusal.NoRoot c) (λ (c : Child). gives (record { seen = seen; root = c }))) (λ (o : Opened). gives (record { sheet = s; opened = o }))) f)
   unfolding Keeping
-  root-keeps f g s (root-met {c = c} m) = g s c m
-  root-keeps f g s no-root = refuses promise.no-root (none-handed body table)
+  root-keeps said f g s says isRoot (root-met {c = c} m) = g s c says isRoot m
+  root-keeps said f g s says isRoot no-root = refuses promise.no-root tt (none-handed body table sheet)
 
-  depth-keeps : {A : Type 0} (deep : Bool) (a : Answer A) (f : A → Reading) → Promised body table (reading a f) → Promised body table (reading (withDepth deep a) f)
-  depth-keeps true a f p = refuses depth-limit (none-handed body table)
+  depth-keeps : {A : Type 0} (deep : Bool) (a : Answer A) (f : A → Reading) → Kept body table sheet (reading a f) → Kept body table sheet (reading (withDepth deep a) f)
+  depth-keeps true a f p = refuses depth-limit tt (none-handed body table sheet)
   depth-keeps false a f p = p
 
-  asked-keeps : {S : Type 0} (sheet : Option S) (settings : Settings) (depth : ShapeDepth) (f : Asked S → Reading) → Keeping f
-      → Promised body table (reading (asked body table final sheet settings depth) f)
+  asked-keeps : {S : Type 0} (said : Option S) (settings : Settings) (depth : ShapeDepth) (f : Asked S → Reading) → Keeping said f
+      → Kept body table sheet (reading (asked body table final said settings depth) f)
   unfolding asked Keeping toks seen
-  asked-keeps {S} sheet settings depth f g = go (decTable body table final) sheet
+  asked-keeps {S} said settings depth f g = go (decTable body table final) said refl
     where
       both : TableRules body table final × (Document toks ⊎ Miscs toks [])
       both = drained-document-is body table final .0 passes
@@ -282,52 +293,64 @@ module _ (body table : List ℕ) (final : ℕ) (passes : drained body table fina
           withDepth (tooDeep settings depth)
           (onward (rooted body (view (isStrict settings depth) body (rowsOf table) final)) (λ (o : Opened). gives (record { sheet = s; opened = o })))
 
-      go : (d : Dec (TableRules body table final)) (s : Option S) → Promised body table (reading (withTable d (onward (present Refusal.Sheet s) opening)) f)
-      go (no broken) s = absurd (broken (both .0))
-      go (yes rules) none = refuses broken-sheet (none-handed body table)
-      go (yes rules) (some s) =
+      go : (d : Dec (TableRules body table final)) (s : Option S) → said ≡ s → Kept body table sheet (reading (withTable d (onward (present Refusal.Sheet s) opening)) f)
+      go (no broken) s e = absurd (broken (both .0))
+      go (yes rules) none e = refuses broken-sheet tt (none-handed body table sheet)
+      go (yes rules) (some s) e =
           depth-keeps (tooDeep settings depth) _ f
-          (rw (view-passed body table final passes (isStrict settings depth)) (root-keeps f g s (document-root toks (both .1))))
+          (rw (view-passed body table final passes (isStrict settings depth)) (root-keeps said f g s e refl (document-root toks (both .1))))
 
   -- ---- the four readings
-  structure-keeps : (sheet : List ℕ) (settings : Settings) (depth : ShapeDepth) (room : Room) (order : List ℕ)
-      → Promised body table (structureReading body table final sheet settings depth room order)
+  structure-keeps : (settings : Settings) (depth : ShapeDepth) (room : Room) (order : List ℕ) → Kept body table sheet (structureReading body table final sheet settings depth room order)
   unfolding structureReading Keeping readOpened
-  structure-keeps sheet settings depth room order =
+  structure-keeps settings depth room order =
       asked-keeps (structureOf sheet) settings depth (readOpened body settings depth room order)
-      (λ s root m. root-name-keeps (testsRootName settings depth) (nameMatches (root .start .name) (rootName s))
-      (pick-all (Promised body table) (s .unwrapped) _ _ (unwrapped-keeps s room root m) (members-keep s room order root m)))
+      (λ s root says isRoot m. root-name-keeps (testsRootName settings depth) (nameMatches (root .start .name) (rootName s))
+      (pick-all (Kept body table sheet) (s .unwrapped) _ _ (unwrapped-keeps s room root m) (members-keep says room order isRoot m)))
 
-  list-keeps : (sheet : List ℕ) (settings : Settings) (depth : ShapeDepth) (room : Room) → Promised body table (listReading body table final sheet settings depth room)
+  list-keeps : (settings : Settings) (depth : ShapeDepth) (room : Room) → Kept body table sheet (listReading body table final sheet settings depth room)
   unfolding listReading Keeping readItems seen
-  list-keeps sheet settings depth room =
+  list-keeps settings depth room =
       asked-keeps (listOf sheet) settings depth (readItems body settings room)
-      (λ s root m. then-keeps body table _
-      (each-keeps body table _ (childrenOf root) (λ c i. item-keeps (itemName settings s) room c (children-met toks root m c i)) nothing (none-handed body table))
+      (λ s root says isRoot m. then-keeps body table sheet _
+      (each-keeps body table sheet _ (childrenOf root) (λ c i. item-keeps (itemName settings s) room c (children-met toks root m c i)) nothing (none-handed body table sheet))
       (λ out a. finishes a))
 
-  strings-keep : (sheet : List ℕ) (settings : Settings) (depth : ShapeDepth) (room : Room) → Promised body table (stringListReading body table final sheet settings depth room)
+  strings-keep : (settings : Settings) (depth : ShapeDepth) (room : Room) → Kept body table sheet (stringListReading body table final sheet settings depth room)
   unfolding stringListReading Keeping readStrings seen
-  strings-keep sheet settings depth room =
+  strings-keep settings depth room =
       asked-keeps (listOf sheet) settings depth (readStrings settings room)
-      (λ s root m. then-keeps body table _
-      (each-keeps body table _ (childrenOf root) (λ c i. string-keeps (itemName settings s) room c (children-met toks root m c i)) nothing (none-handed body table))
+      (λ s root says isRoot m. then-keeps body table sheet _
+      (each-keeps body table sheet _ (childrenOf root) (λ c i. string-keeps (itemName settings s) room c (children-met toks root m c i)) nothing (none-handed body table sheet))
       (λ out a. finishes a))
 
-  map-keeps : (sheet : List ℕ) (settings : Settings) (depth : ShapeDepth) (room : Room) → Promised body table (mapReading body table final sheet settings depth room)
+  map-keeps : (settings : Settings) (depth : ShapeDepth) (room : Room) → Kept body table sheet (mapReading body table final sheet settings depth room)
   unfolding mapReading Keeping readEntries seen
-  map-keeps sheet settings depth room =
+  map-keeps settings depth room =
       asked-keeps (mapOf sheet) settings depth (readEntries body settings room)
-      (λ s root m. then-keeps body table _
-      (each-keeps body table _ (entriesOf (entryName settings s) root)
-      (λ c i. entry-keeps s (entryName settings s) room c (entries-met (entryName settings s) root m c i)) nothing (none-handed body table))
+      (λ s root says isRoot m. then-keeps body table sheet _
+      (each-keeps body table sheet _ (entriesOf (entryName settings s) root)
+      (λ c i. entry-keeps s (entryName settings s) room c (entries-met (entryName settings s) root m c i)) nothing (none-handed body table sheet))
       (λ out a. finishes a))
+
+-- and of a refusal its condition, which is known of every reading
+with-condition : {Holds : Refusal → Output → Type 0} {body table sheet : List ℕ} {x : Reading} → ((r : Refusal) (out : Output) → x ≡ refused r out → Holds r out) → Kept body table sheet x
+    → Promised Holds body table sheet x
+with-condition c (finishes a) = finishes a
+with-condition c (refuses {r = r} {out = out} m h a) = refuses m (c r out refl) a
 
 -- THE THEOREM, demand 3: of a body and table that passed, each reading, with any sheet, settings, depth, room and order of groups, keeps its promise
-pub demand-3 : {body table : List ℕ} {final : ℕ} → Passed body table final
-    → (shape : Shape) (sheet : List ℕ) (settings : Settings) (depth : ShapeDepth) (room : Room) → Promised body table (read shape body table final sheet settings depth room)
+pub demand-3 : {body table : List ℕ} {final : ℕ} → Passed body table final → (shape : Shape) (sheet : List ℕ) (settings : Settings) (depth : ShapeDepth) (room : Room)
+    → Promised (Condition shape body table final sheet settings depth room) body table sheet (read shape body table final sheet settings depth room)
 demand-3 {body} {table} {final} p (structure order) sheet settings depth room =
-    structure-keeps body table final (drained-passes-is body table final .1 p) sheet settings depth room order
-demand-3 {body} {table} {final} p list sheet settings depth room = list-keeps body table final (drained-passes-is body table final .1 p) sheet settings depth room
-demand-3 {body} {table} {final} p map sheet settings depth room = map-keeps body table final (drained-passes-is body table final .1 p) sheet settings depth room
-demand-3 {body} {table} {final} p strings sheet settings depth room = strings-keep body table final (drained-passes-is body table final .1 p) sheet settings depth room
+    with-condition (λ r out. structure-refusal body table final sheet settings depth room order r out .0)
+    (structure-keeps body table sheet final (drained-passes-is body table final .1 p) settings depth room order)
+demand-3 {body} {table} {final} p list sheet settings depth room =
+    with-condition (λ r out. list-refusal body table final sheet settings depth room r out .0)
+    (list-keeps body table sheet final (drained-passes-is body table final .1 p) settings depth room)
+demand-3 {body} {table} {final} p map sheet settings depth room =
+    with-condition (λ r out. map-refusal body table final sheet settings depth room r out .0)
+    (map-keeps body table sheet final (drained-passes-is body table final .1 p) settings depth room)
+demand-3 {body} {table} {final} p strings sheet settings depth room =
+    with-condition (λ r out. string-list-refusal body table final sheet settings depth room r out .0)
+    (strings-keep body table sheet final (drained-passes-is body table final .1 p) settings depth room)

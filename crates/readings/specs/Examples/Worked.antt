@@ -15,10 +15,13 @@ use Rattle.xml.specs.Piece.{ElementPiece}
 use Rattle.sheet.specs.declared.ShapeDepth.{ShapeDepth}
 use Rattle.sheet.specs.Settings.{Settings}
 use Rattle.readings.specs.Output.{textEntry, pieceEntry, groupEntry, keyTextEntry, Room, Output, finished}
+use Rattle.sheet.specs.Sheet.{structureOf}
+use Rattle.readings.specs.Opening.{asked}
 use Rattle.readings.specs.Structure.{structureReading}
 use Rattle.readings.specs.Collection.{listReading, mapReading}
 use Rattle.readings.specs.Demand.Promise.{structure, AllHanded, promised-output}
 use Rattle.readings.specs.Demand.Theorem.{demand-3}
+use Rattle.readings.specs.Laws.Order.{hasGroup, grouped, orderIn}
 use Rattle.readings.specs.All.{computed}
 
 -- ---- the upload
@@ -107,8 +110,13 @@ pub core-is : structureReading body table final coreSheet settings (shape 0) roo
 unfolding computed
 core-is = refl
 
+-- the group of the rings is the only one, so that is an order
+pub core-order : orderIn (asked body table final (structureOf coreSheet) settings (shape 0)) ≡ 3 ∷ []
+unfolding computed hasGroup grouped
+core-order = refl
+
 -- ---- the theorem, used on its pieces
-pub core-handed : AllHanded body table core
+pub core-handed : AllHanded body table coreSheet core
 core-handed =
     promised-output (rw core-is at (demand-3 (drained-passes-is body table final .0 passes) (structure (3 ∷ [])) coreSheet settings (shape 0) room))
 

@@ -8,10 +8,14 @@ use mathlib.Core.Option.{Option, none, some}
 use native.Mathlib.Omega.{arith}
 use borrow.Author.Tests.{eqb-true}
 use Rattle.lists.specs.Tests.{pick, false-true}
-use Rattle.document.specs.Scope.{Child}
-use Rattle.sheet.specs.Sheet.{Member, Structure}
+use Rattle.refusal.specs.Answer.{Answer, gives, refuses}
+use Rattle.document.specs.Scope.{Child, childrenOf}
+use Rattle.sheet.specs.declared.ShapeDepth.{ShapeDepth}
+use Rattle.sheet.specs.Settings.{Settings}
+use Rattle.sheet.specs.Sheet.{Member, Structure, structureOf}
 use Rattle.sheet.specs.Names.{nameOf, isNamed, Indexed, indexed, firstNamed, membersOf}
-use Rattle.readings.specs.Structure.{flatMember, isIndex, inGroup, Once, once-none, once-more, GroupOrder}
+use Rattle.readings.specs.Opening.{Asked, asked}
+use Rattle.readings.specs.Structure.{flatMember, isIndex, inGroup, Once, once-none, once-more, GroupOrder, OrderFor}
 
 -- a child is in the group of member i
 unfoldable pub hasGroup : Structure → ℕ → List Child → Bool
@@ -130,3 +134,12 @@ member-order s children =
             rw (g .index) at (in-order s children (membersOf s) (g .member) (g .inSheet) (rw (g .index) (has-child s children i children (x .0) (x .1 .0) (x .1 .1)))),
       );
     }
+
+-- so there is an order for each reading
+abbrev pub orderIn : Answer (Asked Structure) → List ℕ
+orderIn (gives a) = memberOrder (a .sheet) (childrenOf (a .opened .root))
+orderIn (refuses r) = []
+
+pub an-order : (body table : List ℕ) (final : ℕ) (sheet : List ℕ) (settings : Settings) (depth : ShapeDepth)
+    → OrderFor body table final sheet settings depth (orderIn (asked body table final (structureOf sheet) settings depth))
+an-order body table final sheet settings depth = record { is = λ a e. rw e (member-order (a .sheet) (childrenOf (a .opened .root))) }
