@@ -12,6 +12,12 @@ module _ {A : Type 0} {P : A → Type 0} where
   every-in none x i = absurd (List·Memᴰ·not-nil i)
   every-in (and p e) x i = ⊎-elim (λ q. rw q p) (λ j. every-in e x j) (List·Memᴰ·cases-cons i)
 
+  pub every-first : {x : A} {l : List A} → Every P (x ∷ l) → P x
+  every-first (and p e) = p
+
+  pub every-rest : {x : A} {l : List A} → Every P (x ∷ l) → Every P l
+  every-rest (and p e) = e
+
   -- of one more at the end
   pub every-snoc : {l : List A} {x : A} → Every P l → P x → Every P (l ++ x ∷ [])
   every-snoc none p = and p none

@@ -11,7 +11,9 @@ use lib.ListN.{length, getD, take, drop, length-append, take-append-drop}
 use lib.Seq.{length-take-le, take-append-seam, drop-append-seam, getD-append-add}
 use Rattle.lists.specs.Tests.{pick, false-true}
 use Rattle.sheet.specs.Front.{Front, front, broken, then, where-holds, byte, bitMap, name, nameIf, times, all}
-use Rattle.sheet.specs.Exact.InLimits.{NameInLimits, NameIfThere, Each}
+use Rattle.lists.specs.Every.{Every, and, every-first, every-rest}
+use Rattle.lists.specs.Every as every
+use Rattle.sheet.specs.Exact.InLimits.{NameInLimits, NameIfThere}
 use Rattle.sheet.specs.Exact.Written.{isThere, nameWritten, nameIfWritten, eachWritten}
 
 -- ---- bytes: each number is below 256, as those of a slice of bytes are
@@ -116,32 +118,32 @@ name-if-exact false = record { reads = reads; exact = exact }
 
 -- so many fields of one kind
 pub times-exact : {A : Type 0} {field : List ℕ → Front A} {write : A → List ℕ} {Limits : A → Type 0} → Exact field write Limits → (n : ℕ)
-    → Exact (times field n) (eachWritten write) (λ l. (length l ≡ n) × Each Limits l)
+    → Exact (times field n) (eachWritten write) (λ l. (length l ≡ n) × Every Limits l)
 unfolding times eachWritten
 times-exact {A} {field} {write} {Limits} x zero = record { reads = reads; exact = exact }
   where
-    reads : (l : List A) (rest : List ℕ) → (length l ≡ zero) × Each Limits l → times field zero (eachWritten write l ++ rest) ≡ front l rest
+    reads : (l : List A) (rest : List ℕ) → (length l ≡ zero) × Every Limits l → times field zero (eachWritten write l ++ rest) ≡ front l rest
     reads [] rest h = refl
     reads (a ∷ l) rest h = absurd (omega (arith, h .0))
 
-    exact : (s : List ℕ) (l : List A) (rest : List ℕ) → AllBytes s → front [] s ≡ front l rest → ((length l ≡ zero) × Each Limits l) × (s ≡ eachWritten write l ++ rest)
-    exact s l rest h e = rw (← front-value e) ((refl, tt), front-rest e)
+    exact : (s : List ℕ) (l : List A) (rest : List ℕ) → AllBytes s → front [] s ≡ front l rest → ((length l ≡ zero) × Every Limits l) × (s ≡ eachWritten write l ++ rest)
+    exact s l rest h e = rw (← front-value e) ((refl, every.none), front-rest e)
 times-exact {A} {field} {write} {Limits} x (suc n) = next (times-exact x n)
   where
-    next : Exact (times field n) (eachWritten write) (λ l. (length l ≡ n) × Each Limits l) → Exact (times field (suc n)) (eachWritten write) (λ l. (length l ≡ suc n) × Each Limits l)
+    next : Exact (times field n) (eachWritten write) (λ l. (length l ≡ n) × Every Limits l) → Exact (times field (suc n)) (eachWritten write) (λ l. (length l ≡ suc n) × Every Limits l)
     next y = record { reads = reads; exact = exact }
       where
-        reads : (l : List A) (rest : List ℕ) → (length l ≡ suc n) × Each Limits l → times field (suc n) (eachWritten write l ++ rest) ≡ front l rest
+        reads : (l : List A) (rest : List ℕ) → (length l ≡ suc n) × Every Limits l → times field (suc n) (eachWritten write l ++ rest) ≡ front l rest
         reads [] rest h = absurd (omega (arith, h .0))
         reads (a ∷ l) rest h =
-            rw (append-assoc (write a) (eachWritten write l) rest, x .reads a (eachWritten write l ++ rest) (h .1 .0), y .reads l rest (omega (arith, h .0), h .1 .1))
+            rw (append-assoc (write a) (eachWritten write l) rest, x .reads a (eachWritten write l ++ rest) (every-first (h .1)), y .reads l rest (omega (arith, h .0), every-rest (h .1)))
 
-        exact : (s : List ℕ) (l : List A) (rest : List ℕ) → AllBytes s → times field (suc n) s ≡ front l rest → ((length l ≡ suc n) × Each Limits l) × (s ≡ eachWritten write l ++ rest)
+        exact : (s : List ℕ) (l : List A) (rest : List ℕ) → AllBytes s → times field (suc n) s ≡ front l rest → ((length l ≡ suc n) × Every Limits l) × (s ≡ eachWritten write l ++ rest)
         exact s l rest h e =
             first-then x (λ a r. then (times field n r) (λ k end. front (a ∷ k) end)) s l rest h e
             (λ a r limits is bytes onward. first-then y (λ k end. front (a ∷ k) end) r l rest bytes onward
             (λ k end others these bytes onward. rw (← front-value onward, ← front-rest onward)
-            ((omega (arith, others .0), (limits, others .1)), rw (append-assoc (write a) (eachWritten write k) end, ← these) is)))
+            ((omega (arith, others .0), and limits (others .1)), rw (append-assoc (write a) (eachWritten write k) end, ← these) is)))
 
 -- ---- sheets
 -- an answer is not both

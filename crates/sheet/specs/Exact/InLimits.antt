@@ -3,6 +3,7 @@ use Prim.Native.Nat.{ℕ, _≤_}
 use mathlib.Core.List.{List, [], _∷_}
 use mathlib.Core.Option.{Option, none, some}
 use lib.ListN.{length}
+use Rattle.lists.specs.Every.{Every}
 use Rattle.sheet.specs.Sheet.{mostMembers, Member, Structure, Item, ListSheet, Value, MapSheet}
 
 -- a name: "a length byte 1..255"
@@ -14,11 +15,6 @@ pub record NameInLimits (n : List ℕ) : Type 0 where
 abbrev pub NameIfThere : Option (List ℕ) → Type 0
 NameIfThere none = Unit
 NameIfThere (some n) = NameInLimits n
-
--- each of a list
-abbrev pub Each : {A : Type 0} → (A → Type 0) → List A → Type 0
-Each P [] = Unit
-Each P (a ∷ l) = P a × Each P l
 
 -- ---- structure
 pub record MemberInLimits (m : Member) : Type 0 where
@@ -32,7 +28,7 @@ pub record StructureInLimits (s : Structure) : Type 0 where
   pub shapeName : NameInLimits (s .shapeName)
   -- "a count 0..64"
   pub fewMembers : length (s .members) ≤ mostMembers
-  pub members : Each MemberInLimits (s .members)
+  pub members : Every MemberInLimits (s .members)
 
 -- ---- list
 pub record ItemInLimits (i : Item) : Type 0 where

@@ -10,7 +10,8 @@ use lib.Dec.{leb}
 use lib.ListN.{length}
 use Rattle.sheet.specs.Front.{front, bit, times}
 use Rattle.sheet.specs.Sheet.{mostMembers, Member, Structure, member, memberList, structureOf}
-use Rattle.sheet.specs.Exact.InLimits.{Each, MemberInLimits, StructureInLimits}
+use Rattle.lists.specs.Every.{Every}
+use Rattle.sheet.specs.Exact.InLimits.{MemberInLimits, StructureInLimits}
 use Rattle.sheet.specs.Exact.Written.{fourBits, fiveBits, isThere, nameWritten, nameIfWritten, eachWritten, memberWritten, memberListWritten, structureWritten}
 use Rattle.sheet.specs.Exact.Bits.{Bits, five-read, read-five, four-read, read-four}
 use Rattle.sheet.specs.Exact.Fields.{AllBytes, front-value, front-rest, Exact, first-then, holds, byte-exact, bit-map-exact, name-exact, name-if-exact, times-exact, all-is}
@@ -49,15 +50,15 @@ member-exact = record { reads = reads; exact = exact }
         ))))
 
 -- "a count 0..64, and members"
-member-list-exact : Exact memberList memberListWritten (λ l. (length l ≤ mostMembers) × Each MemberInLimits l)
+member-list-exact : Exact memberList memberListWritten (λ l. (length l ≤ mostMembers) × Every MemberInLimits l)
 unfolding times eachWritten
 member-list-exact = record { reads = reads; exact = exact }
   where
-    reads : (l : List Member) (rest : List ℕ) → (length l ≤ mostMembers) × Each MemberInLimits l → memberList (memberListWritten l ++ rest) ≡ front l rest
+    reads : (l : List Member) (rest : List ℕ) → (length l ≤ mostMembers) × Every MemberInLimits l → memberList (memberListWritten l ++ rest) ≡ front l rest
     reads l rest h = rw (le-leb (length l) mostMembers (h .0)) (times-exact member-exact (length l) .reads l rest (refl, h .1))
 
     exact : (s : List ℕ) (l : List Member) (rest : List ℕ) → AllBytes s → memberList s ≡ front l rest
-        → ((length l ≤ mostMembers) × Each MemberInLimits l) × (s ≡ memberListWritten l ++ rest)
+        → ((length l ≤ mostMembers) × Every MemberInLimits l) × (s ≡ memberListWritten l ++ rest)
     exact s l rest h e =
         first-then byte-exact _ s l rest h e
         (λ n r limits is bytes onward.
@@ -66,7 +67,7 @@ member-list-exact = record { reads = reads; exact = exact }
         ((omega (arith, leb-true n mostMembers (few .0), p .0 .0), p .0 .1), rw (is, p .1, p .0 .0)))
 
 -- at the end of a sheet
-member-list-end : (l : List Member) → (length l ≤ mostMembers) × Each MemberInLimits l → memberList (memberListWritten l) ≡ front l []
+member-list-end : (l : List Member) → (length l ≤ mostMembers) × Every MemberInLimits l → memberList (memberListWritten l) ≡ front l []
 unfolding eachWritten
 member-list-end l h = rw (append-nil (eachWritten memberWritten l)) at (member-list-exact .reads l [] h)
 
