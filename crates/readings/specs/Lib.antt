@@ -4,3 +4,4 @@ pub mod Structure
 pub mod Collection
 pub mod Scalar
 pub mod Find
+pub mod All
