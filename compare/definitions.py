@@ -236,7 +236,7 @@ use mathlib.Core.List.{List, [], _∷_, map}
 use Rattle.readings.specs.All.{computed}
 use Rattle.faith.specs.Fast.{closing', isClosed', rootPieceBy, readUnwrappedBy, readOpenedBy, structureBy}
 use Rattle.faith.specs.Ask.{
-  flat, Case, Body, at, answer, answer', answer-is, computes, ask-struct, ask-list, ask-map, ask-strings, ask-bool, ask-int, ask-string, ask-find, ask-whole, ask-drain,
+  flat, Case, Body, at, answer, answer', computes, ask-struct, ask-list, ask-map, ask-strings, ask-bool, ask-int, ask-string, ask-find, ask-whole, ask-drain,
   ask-textbool, ask-textint, ask-textstring,
 }
 """
@@ -364,6 +364,21 @@ def failing(lines):
     return out
 
 
+def chunked(asked, answers, most):
+    """Files of so many cases, and of fewer where tables are long: a proof has a limit of steps."""
+    chunks, weight = [], most
+    for item in asked:
+        case = item[0]
+        rows = 0 if case.kind.startswith("text") else len(answers.table(case.body)[0])
+        own = 1 + rows * rows // 1000
+        if weight + own > most:
+            chunks.append([])
+            weight = 0
+        chunks[-1].append(item)
+        weight += own
+    return chunks
+
+
 def shown(case):
     line = question(case)
     extra = ("" if case.room is None else " room %d %d" % case.room) + ("" if case.table is None else " table %s final %d" % case.table)
@@ -378,6 +393,7 @@ def main():
     parser.add_argument("--no-targeted", action="store_true")
     parser.add_argument("--groups", default="", help="only these groups of targeted cases, by commas")
     parser.add_argument("--every", type=int, default=1, help="only each so many'th case")
+    parser.add_argument("--skip", type=int, default=0, help="leave out the first so many cases")
     parser.add_argument("--chunk", type=int, default=400, help="cases in a file")
     parser.add_argument("--files", type=int, default=8, help="files in one run of rt")
     parser.add_argument("--folder", default=os.path.join(ROOT, "target", "definitions"))
@@ -412,8 +428,9 @@ def main():
 
     world = World(words.folder)
     passed, differs = collections.Counter(), []
-    chunks = [asked[at:at + words.chunk] for at in range(0, len(asked), words.chunk)]
-    began = time.time()
+    asked = asked[words.skip:]
+    chunks = chunked(asked, answers, words.chunk)
+    done, began = 0, time.time()
     for at in range(0, len(chunks), words.files):
         part = {"Cases%d" % i: chunks[i] for i in range(at, min(at + words.files, len(chunks)))}
         modules = {}
@@ -443,7 +460,8 @@ def main():
                     print("differs: %s %s: %s\n    the Rust %s\n    %s" % (case.origin, case.group, shown(case), numbers, wrong[(name, i)]))
                 else:
                     passed[(case.origin, case.group, word)] += 1
-        print("%d of %d, %d differ, %.0f s" % (min((at + words.files) * words.chunk, len(asked)), len(asked), len(differs), time.time() - began), flush=True)
+        done += sum(map(len, part.values()))
+        print("%d of %d, %d differ, %.0f s" % (done, len(asked), len(differs), time.time() - began), flush=True)
 
     for origin in ("targeted", "random", "tables"):
         for title, place in (("kind", 2), ("group", 1)):

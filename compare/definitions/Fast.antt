@@ -4,7 +4,6 @@ use Prim.Native.Nat.{ℕ, zero, suc, _-_}
 use mathlib.Core.Path.{_≡_, refl, ap}
 use mathlib.Core.Bool.{Bool, true, false}
 use mathlib.Core.List.{List, [], _∷_}
-use mathlib.Core.Option.{Option}
 use lib.Dec.{eqb}
 use lib.ListN.{take, drop}
 use Rattle.lists.specs.Tests.{pick}
