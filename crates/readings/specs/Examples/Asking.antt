@@ -3,7 +3,7 @@ use Prim.Native.Nat.{ℕ}
 use Prim.Native.String.{String}
 use mathlib.Core.Path.{_≡_}
 use mathlib.Core.Bool.{Bool, true, false}
-use mathlib.Core.List.{List, _∷_, map}
+use mathlib.Core.List.{List, _∷_, _++_, map}
 use lib.ListN.{length}
 use Rattle.lists.specs.Bytes.{ascii}
 use Rattle.sheet.specs.declared.ShapeDepth.{ShapeDepth}
@@ -43,6 +43,10 @@ enough = room 8 64
 -- a name in a sheet
 abbrev pub named : String → List ℕ
 named s = length (ascii s) ∷ ascii s
+
+-- a structure sheet of which no bit stands, of shape `s`: its count and members follow
+abbrev pub plain : List ℕ → List ℕ
+plain members = 0 ∷ named "s" ++ members
 
 -- ---- a question and its answer
 pub data Question : Type 0 where
