@@ -13,7 +13,7 @@ use Rattle.document.specs.Scope.{Child, rootOf, childrenOf}
 use Rattle.sheet.specs.Sheet.{Structure, structureOf}
 use Rattle.readings.specs.Structure.{inGroup}
 use Rattle.readings.specs.Demand.Promise.{structure}
-use Rattle.readings.specs.Examples.Asking.{reading, ask, answer, case, Answered, plain, settings, lenient, strict, rootNames, room, enough, named}
+use Rattle.readings.specs.Examples.Asking.{reading, ask, answer, case, Answered, plain, settings, lenient, strict, rootNames, room, enough, named, scalarA, scalarsAB, unwrappedA}
 use Rattle.readings.specs.Examples.Tables.{empty, bare, one, two, four, nested, nested-text, nested-empty, two-unclosed, behind-comment, comment, prefixed, prefixed-one, prefixed-end, attribute, attribute-empty, attribute-child, attributes-two, attributes-prefixed, attribute-second, one-text4, element-text, second-error, blank}
 use Rattle.readings.specs.All.{computed}
 
@@ -60,8 +60,9 @@ pub root-names : Answered ask (
     -- the shape name alone
     ∷ case (reading (structure []) "<s/>" empty 4 (plain (0 ∷ [])) rootNames 0 enough) (answer 0 0 [] "")
     ∷ case (reading (structure []) "<r/>" empty 4 (plain (0 ∷ [])) rootNames 0 enough) (answer 5 0 [] "")
-    -- "attributes, the root and list items use `Name::matches`": `s` finds `p:s`, and `p:x` does not find `q:x`
+    -- "attributes, the root and list items use `Name::matches`": `s` finds `p:s`; `p:x` finds `p:x`, and not `q:x`
     ∷ case (reading (structure []) "<p:s/>" prefixed 6 (plain (0 ∷ [])) rootNames 0 enough) (answer 0 0 [] "")
+    ∷ case (reading (structure []) "<p:x/>" prefixed 6 (1 ∷ named "p:x" ++ (named "s" ++ (0 ∷ []))) rootNames 0 enough) (answer 0 0 [] "")
     ∷ case (reading (structure []) "<q:x/>" prefixed 6 (1 ∷ named "p:x" ++ (named "s" ++ (0 ∷ []))) rootNames 0 enough) (answer 5 0 [] "")
     -- not asked at shape depth 1, nor without the flag
     ∷ case (reading (structure []) "<r/>" empty 4 (plain (0 ∷ [])) rootNames 1 enough) (answer 0 0 [] "")
@@ -111,15 +112,12 @@ pub children : Answered ask (
     ∷ case (reading (structure []) "<r><a><b>1</b></a></r>" nested-text 22 (plain (2 ∷ 2 ∷ named "b" ++ (18 ∷ named "a"))) lenient 0 enough)
     (answer 0 1 (2 ∷ 1 ∷ 0 ∷ 0 ∷ 3 ∷ 15 ∷ []) "")
     -- "" where there is no text: what follows `/>` is not in it
-    ∷ case (reading (structure []) "<r><a/>1</r>" element-text 12 (plain (1 ∷ 2 ∷ named "a")) lenient 0 enough)
-    (answer 0 1 (1 ∷ 0 ∷ 0 ∷ 0 ∷ 0 ∷ 0 ∷ []) "")
-    ∷ case (reading (structure []) "<r><a></a></r>" one 14 (plain (1 ∷ 2 ∷ named "a")) lenient 0 enough)
-    (answer 0 1 (1 ∷ 0 ∷ 0 ∷ 0 ∷ 0 ∷ 0 ∷ []) "")
+    ∷ case (reading (structure []) "<r><a/>1</r>" element-text 12 scalarA lenient 0 enough) (answer 0 1 (1 ∷ 0 ∷ 0 ∷ 0 ∷ 0 ∷ 0 ∷ []) "")
+    ∷ case (reading (structure []) "<r><a></a></r>" one 14 scalarA lenient 0 enough) (answer 0 1 (1 ∷ 0 ∷ 0 ∷ 0 ∷ 0 ∷ 0 ∷ []) "")
     -- unescaped
-    ∷ case (reading (structure []) "<r><a>&lt;</a></r>" one-text4 18 (plain (1 ∷ 2 ∷ named "a")) lenient 0 enough)
-    (answer 0 1 (1 ∷ 0 ∷ 0 ∷ 0 ∷ 0 ∷ 1 ∷ []) "<")
+    ∷ case (reading (structure []) "<r><a>&lt;</a></r>" one-text4 18 scalarA lenient 0 enough) (answer 0 1 (1 ∷ 0 ∷ 0 ∷ 0 ∷ 0 ∷ 1 ∷ []) "<")
     -- a root that ends in `/>` has no children
-    ∷ case (reading (structure []) "<r/>" empty 4 (plain (1 ∷ 2 ∷ named "a")) lenient 0 enough) (answer 0 0 [] "")
+    ∷ case (reading (structure []) "<r/>" empty 4 scalarA lenient 0 enough) (answer 0 0 [] "")
     ∷ [])
 unfolding computed
 children = refl
@@ -127,28 +125,23 @@ children = refl
 -- "A scalar that fails is an entry of kind 4"; "In a text under strict reading a mismatched or unclosed tag gives 9"
 pub failed-texts : Answered ask (
     -- 6
-    case (reading (structure []) "<r><a>1</a><b><c/></b></r>" nested-empty 26 (plain (2 ∷ 2 ∷ named "a" ++ (2 ∷ named "b"))) lenient 0 enough)
+    case (reading (structure []) "<r><a>1</a><b><c/></b></r>" nested-empty 26 scalarsAB lenient 0 enough)
     (answer 0 2 (1 ∷ 0 ∷ 0 ∷ 0 ∷ 0 ∷ 1 ∷ 4 ∷ 1 ∷ 0 ∷ 0 ∷ 6 ∷ 0 ∷ []) "1")
     -- 7, and the next child is read; strict it is the last that is met, and the refusal keeps it
-    ∷ case (reading (structure []) "<r><a>&</a><b>2</b></r>" two 23 (plain (2 ∷ 2 ∷ named "a" ++ (2 ∷ named "b"))) lenient 0 enough)
+    ∷ case (reading (structure []) "<r><a>&</a><b>2</b></r>" two 23 scalarsAB lenient 0 enough)
     (answer 0 2 (4 ∷ 0 ∷ 0 ∷ 0 ∷ 7 ∷ 0 ∷ 1 ∷ 1 ∷ 0 ∷ 0 ∷ 0 ∷ 1 ∷ []) "2")
-    ∷ case (reading (structure []) "<r><a>&</a><b>2</b></r>" two 23 (plain (2 ∷ 2 ∷ named "a" ++ (2 ∷ named "b"))) strict 0 enough)
-    (answer 9 1 (4 ∷ 0 ∷ 0 ∷ 0 ∷ 7 ∷ 0 ∷ []) "")
+    ∷ case (reading (structure []) "<r><a>&</a><b>2</b></r>" two 23 scalarsAB strict 0 enough) (answer 9 1 (4 ∷ 0 ∷ 0 ∷ 0 ∷ 7 ∷ 0 ∷ []) "")
     -- 8, lenient and strict
-    ∷ case (reading (structure []) "<r><a>1</a><b><" second-error 15 (plain (2 ∷ 2 ∷ named "a" ++ (2 ∷ named "b"))) lenient 0 enough)
+    ∷ case (reading (structure []) "<r><a>1</a><b><" second-error 15 scalarsAB lenient 0 enough)
     (answer 0 2 (1 ∷ 0 ∷ 0 ∷ 0 ∷ 0 ∷ 1 ∷ 4 ∷ 1 ∷ 0 ∷ 0 ∷ 8 ∷ 0 ∷ []) "1")
-    ∷ case (reading (structure []) "<r><a>1</a><b><" second-error 15 (plain (2 ∷ 2 ∷ named "a" ++ (2 ∷ named "b"))) strict 0 enough)
+    ∷ case (reading (structure []) "<r><a>1</a><b><" second-error 15 scalarsAB strict 0 enough)
     (answer 9 2 (1 ∷ 0 ∷ 0 ∷ 0 ∷ 0 ∷ 1 ∷ 4 ∷ 1 ∷ 0 ∷ 0 ∷ 8 ∷ 0 ∷ []) "1")
     -- 9 at a mismatched tag, strict; lenient there is an empty text
-    ∷ case (reading (structure []) "<r><a></b></r>" one 14 (plain (1 ∷ 2 ∷ named "a")) strict 0 enough)
-    (answer 9 1 (4 ∷ 0 ∷ 0 ∷ 0 ∷ 9 ∷ 0 ∷ []) "")
-    ∷ case (reading (structure []) "<r><a></b></r>" one 14 (plain (1 ∷ 2 ∷ named "a")) lenient 0 enough)
-    (answer 0 1 (1 ∷ 0 ∷ 0 ∷ 0 ∷ 0 ∷ 0 ∷ []) "")
+    ∷ case (reading (structure []) "<r><a></b></r>" one 14 scalarA strict 0 enough) (answer 9 1 (4 ∷ 0 ∷ 0 ∷ 0 ∷ 9 ∷ 0 ∷ []) "")
+    ∷ case (reading (structure []) "<r><a></b></r>" one 14 scalarA lenient 0 enough) (answer 0 1 (1 ∷ 0 ∷ 0 ∷ 0 ∷ 0 ∷ 0 ∷ []) "")
     -- 9 at an unclosed tag
-    ∷ case (reading (structure []) "<r><a>" two-unclosed 6 (plain (1 ∷ 2 ∷ named "a")) strict 0 enough)
-    (answer 9 1 (4 ∷ 0 ∷ 0 ∷ 0 ∷ 9 ∷ 0 ∷ []) "")
-    ∷ case (reading (structure []) "<r><a>" two-unclosed 6 (plain (1 ∷ 2 ∷ named "a")) lenient 0 enough)
-    (answer 0 1 (1 ∷ 0 ∷ 0 ∷ 0 ∷ 0 ∷ 0 ∷ []) "")
+    ∷ case (reading (structure []) "<r><a>" two-unclosed 6 scalarA strict 0 enough) (answer 9 1 (4 ∷ 0 ∷ 0 ∷ 0 ∷ 9 ∷ 0 ∷ []) "")
+    ∷ case (reading (structure []) "<r><a>" two-unclosed 6 scalarA lenient 0 enough) (answer 0 1 (1 ∷ 0 ∷ 0 ∷ 0 ∷ 0 ∷ 0 ∷ []) "")
     ∷ [])
 unfolding computed
 failed-texts = refl
@@ -162,8 +155,7 @@ pub nine-after-the-children : Answered ask (
     ∷ case (reading (structure []) "<r><a>1</a><b>2</b></x>" two 23 (plain (2 ∷ 18 ∷ named "a" ++ (2 ∷ named "b"))) lenient 0 enough)
     (answer 0 2 (2 ∷ 0 ∷ 0 ∷ 0 ∷ 3 ∷ 8 ∷ 1 ∷ 1 ∷ 0 ∷ 0 ∷ 0 ∷ 1 ∷ []) "2")
     -- a bad reference in a child that no member asks for
-    ∷ case (reading (structure []) "<r><a>1</a><b>&</b></r>" two 23 (plain (1 ∷ 2 ∷ named "a")) strict 0 enough)
-    (answer 9 1 (1 ∷ 0 ∷ 0 ∷ 0 ∷ 0 ∷ 1 ∷ []) "1")
+    ∷ case (reading (structure []) "<r><a>1</a><b>&</b></r>" two 23 scalarA strict 0 enough) (answer 9 1 (1 ∷ 0 ∷ 0 ∷ 0 ∷ 0 ∷ 1 ∷ []) "1")
     -- a piece whose rows run out in a strict reading ends at the position of the row that failed
     ∷ case (reading (structure []) "<r><a></b></r>" one 14 (plain (1 ∷ 18 ∷ named "a")) strict 0 enough)
     (answer 9 1 (2 ∷ 0 ∷ 0 ∷ 0 ∷ 3 ∷ 7 ∷ []) "")
@@ -177,7 +169,7 @@ nine-after-the-children = refl
 -- the ends of levels and scopes in lenient readings
 pub levels : Answered ask (
     -- "Lenient `<r><a x=\"&zz;\">1</a><b>2</b></r>`: no entry at all": a bad attribute ends the level
-    case (reading (structure []) "<r><a>1</a><b x=\"&lt\"/></r>" attribute-second 27 (plain (2 ∷ 2 ∷ named "a" ++ (2 ∷ named "b"))) lenient 0 enough)
+    case (reading (structure []) "<r><a>1</a><b x=\"&lt\"/></r>" attribute-second 27 scalarsAB lenient 0 enough)
     (answer 0 1 (1 ∷ 0 ∷ 0 ∷ 0 ∷ 0 ∷ 1 ∷ []) "1")
     -- an end tag of another name does not end a scope, so `b` is not met; the tag of its own name and depth ends it
     ∷ case (reading (structure []) "<r><a>1</x><b>2</b></r>" two 23 (plain (2 ∷ 18 ∷ named "a" ++ (2 ∷ named "b"))) lenient 0 enough)
@@ -229,12 +221,10 @@ groups = refl
 -- "An entry and its text are written only if both fit; else 10" (no Rust reference): at the limit, and below it by one entry and by one byte
 pub room-for-entries : Answered ask (
     -- children
-    case (reading (structure []) "<r><a>1</a><b>2</b></r>" two 23 (plain (2 ∷ 2 ∷ named "a" ++ (2 ∷ named "b"))) lenient 0 (room 2 2))
+    case (reading (structure []) "<r><a>1</a><b>2</b></r>" two 23 scalarsAB lenient 0 (room 2 2))
     (answer 0 2 (1 ∷ 0 ∷ 0 ∷ 0 ∷ 0 ∷ 1 ∷ 1 ∷ 1 ∷ 0 ∷ 0 ∷ 1 ∷ 1 ∷ []) "12")
-    ∷ case (reading (structure []) "<r><a>1</a><b>2</b></r>" two 23 (plain (2 ∷ 2 ∷ named "a" ++ (2 ∷ named "b"))) lenient 0 (room 1 2))
-    (answer 10 1 (1 ∷ 0 ∷ 0 ∷ 0 ∷ 0 ∷ 1 ∷ []) "1")
-    ∷ case (reading (structure []) "<r><a>1</a><b>2</b></r>" two 23 (plain (2 ∷ 2 ∷ named "a" ++ (2 ∷ named "b"))) lenient 0 (room 2 1))
-    (answer 10 1 (1 ∷ 0 ∷ 0 ∷ 0 ∷ 0 ∷ 1 ∷ []) "1")
+    ∷ case (reading (structure []) "<r><a>1</a><b>2</b></r>" two 23 scalarsAB lenient 0 (room 1 2)) (answer 10 1 (1 ∷ 0 ∷ 0 ∷ 0 ∷ 0 ∷ 1 ∷ []) "1")
+    ∷ case (reading (structure []) "<r><a>1</a><b>2</b></r>" two 23 scalarsAB lenient 0 (room 2 1)) (answer 10 1 (1 ∷ 0 ∷ 0 ∷ 0 ∷ 0 ∷ 1 ∷ []) "1")
     -- attributes
     ∷ case (reading (structure []) "<r a=\"1\" b=\"2\"/>" attributes-two 16 (plain (2 ∷ 6 ∷ named "a" ++ (6 ∷ named "b"))) lenient 0 (room 2 2))
     (answer 0 2 (1 ∷ 0 ∷ 0 ∷ 0 ∷ 0 ∷ 1 ∷ 1 ∷ 1 ∷ 0 ∷ 0 ∷ 1 ∷ 1 ∷ []) "12")
@@ -248,11 +238,10 @@ pub room-for-entries : Answered ask (
     ∷ case (reading (structure []) "<r><a>1</a><b>2</b></r>" two 23 (plain (2 ∷ 18 ∷ named "a" ++ (18 ∷ named "b"))) lenient 0 (room 1 0))
     (answer 10 1 (2 ∷ 0 ∷ 0 ∷ 0 ∷ 3 ∷ 8 ∷ []) "")
     -- so does a text that failed
-    ∷ case (reading (structure []) "<r><a>&lt </a></r>" one-text4 18 (plain (1 ∷ 2 ∷ named "a")) lenient 0 (room 1 0))
-    (answer 0 1 (4 ∷ 0 ∷ 0 ∷ 0 ∷ 7 ∷ 0 ∷ []) "")
-    ∷ case (reading (structure []) "<r><a>&lt </a></r>" one-text4 18 (plain (1 ∷ 2 ∷ named "a")) lenient 0 (room 0 0)) (answer 10 0 [] "")
+    ∷ case (reading (structure []) "<r><a>&lt </a></r>" one-text4 18 scalarA lenient 0 (room 1 0)) (answer 0 1 (4 ∷ 0 ∷ 0 ∷ 0 ∷ 7 ∷ 0 ∷ []) "")
+    ∷ case (reading (structure []) "<r><a>&lt </a></r>" one-text4 18 scalarA lenient 0 (room 0 0)) (answer 10 0 [] "")
     -- and "10 as met" comes before 9
-    ∷ case (reading (structure []) "<r><a>1</a><b>2</b></x>" two 23 (plain (1 ∷ 2 ∷ named "a")) strict 0 (room 0 0)) (answer 10 0 [] "")
+    ∷ case (reading (structure []) "<r><a>1</a><b>2</b></x>" two 23 scalarA strict 0 (room 0 0)) (answer 10 0 [] "")
     ∷ [])
 unfolding computed
 room-for-entries = refl
@@ -263,33 +252,25 @@ pub unwrapped : Answered ask (
     case (reading (structure []) "<p:a/>" prefixed 6 (8 ∷ named "s" ++ (2 ∷ 18 ∷ named "b" ++ (18 ∷ named "a"))) lenient 0 enough)
     (answer 0 1 (2 ∷ 1 ∷ 0 ∷ 0 ∷ 0 ∷ 6 ∷ []) "")
     -- none: a root of no member
-    ∷ case (reading (structure []) "<r/>" empty 4 (8 ∷ named "s" ++ (1 ∷ 18 ∷ named "a")) lenient 0 enough) (answer 0 0 [] "")
+    ∷ case (reading (structure []) "<r/>" empty 4 unwrappedA lenient 0 enough) (answer 0 0 [] "")
     -- the root element alone
-    ∷ case (reading (structure []) "<!--c--><a/>" behind-comment 12 (8 ∷ named "s" ++ (1 ∷ 18 ∷ named "a")) lenient 0 enough)
-    (answer 0 1 (2 ∷ 0 ∷ 0 ∷ 0 ∷ 8 ∷ 4 ∷ []) "")
+    ∷ case (reading (structure []) "<!--c--><a/>" behind-comment 12 unwrappedA lenient 0 enough) (answer 0 1 (2 ∷ 0 ∷ 0 ∷ 0 ∷ 8 ∷ 4 ∷ []) "")
     -- by its rows, to the one that closes it, whatever its name (01's words: the Rust goes to the final position in these two)
-    ∷ case (reading (structure []) "<a></b> " bare 8 (8 ∷ named "s" ++ (1 ∷ 18 ∷ named "a")) lenient 0 enough)
-    (answer 0 1 (2 ∷ 0 ∷ 0 ∷ 0 ∷ 0 ∷ 7 ∷ []) "")
-    ∷ case (reading (structure []) "<a><b></a></b> " one 15 (8 ∷ named "s" ++ (1 ∷ 18 ∷ named "a")) lenient 0 enough)
-    (answer 0 1 (2 ∷ 0 ∷ 0 ∷ 0 ∷ 0 ∷ 14 ∷ []) "")
+    ∷ case (reading (structure []) "<a></b> " bare 8 unwrappedA lenient 0 enough) (answer 0 1 (2 ∷ 0 ∷ 0 ∷ 0 ∷ 0 ∷ 7 ∷ []) "")
+    ∷ case (reading (structure []) "<a><b></a></b> " one 15 unwrappedA lenient 0 enough) (answer 0 1 (2 ∷ 0 ∷ 0 ∷ 0 ∷ 0 ∷ 14 ∷ []) "")
     -- a root that no row closes goes to the final position
-    ∷ case (reading (structure []) "<a><b>" two-unclosed 6 (8 ∷ named "s" ++ (1 ∷ 18 ∷ named "a")) lenient 0 enough)
-    (answer 0 1 (2 ∷ 0 ∷ 0 ∷ 0 ∷ 0 ∷ 6 ∷ []) "")
+    ∷ case (reading (structure []) "<a><b>" two-unclosed 6 unwrappedA lenient 0 enough) (answer 0 1 (2 ∷ 0 ∷ 0 ∷ 0 ∷ 0 ∷ 6 ∷ []) "")
     -- strict: 9 and no piece, where it is ill-formed
-    ∷ case (reading (structure []) "<a></b>" bare 7 (8 ∷ named "s" ++ (1 ∷ 18 ∷ named "a")) strict 0 enough) (answer 9 0 [] "")
-    ∷ case (reading (structure []) "<a></a>" bare 7 (8 ∷ named "s" ++ (1 ∷ 18 ∷ named "a")) strict 0 enough)
-    (answer 0 1 (2 ∷ 0 ∷ 0 ∷ 0 ∷ 0 ∷ 7 ∷ []) "")
+    ∷ case (reading (structure []) "<a></b>" bare 7 unwrappedA strict 0 enough) (answer 9 0 [] "")
+    ∷ case (reading (structure []) "<a></a>" bare 7 unwrappedA strict 0 enough) (answer 0 1 (2 ∷ 0 ∷ 0 ∷ 0 ∷ 0 ∷ 7 ∷ []) "")
     -- at shape depth 1 a reading is not strict
-    ∷ case (reading (structure []) "<a></b>" bare 7 (8 ∷ named "s" ++ (1 ∷ 18 ∷ named "a")) strict 1 enough)
-    (answer 0 1 (2 ∷ 0 ∷ 0 ∷ 0 ∷ 0 ∷ 7 ∷ []) "")
+    ∷ case (reading (structure []) "<a></b>" bare 7 unwrappedA strict 1 enough) (answer 0 1 (2 ∷ 0 ∷ 0 ∷ 0 ∷ 0 ∷ 7 ∷ []) "")
     -- "5 root name" goes before
-    ∷ case (reading (structure []) "<a></b>" bare 7 (8 ∷ named "s" ++ (1 ∷ 18 ∷ named "a")) (settings 128 true true false) 0 enough)
-    (answer 5 0 [] "")
+    ∷ case (reading (structure []) "<a></b>" bare 7 unwrappedA (settings 128 true true false) 0 enough) (answer 5 0 [] "")
     -- 9 before 10; and 10 (no Rust reference): a piece takes an entry
-    ∷ case (reading (structure []) "<a></b>" bare 7 (8 ∷ named "s" ++ (1 ∷ 18 ∷ named "a")) strict 0 (room 0 0)) (answer 9 0 [] "")
-    ∷ case (reading (structure []) "<a></a>" bare 7 (8 ∷ named "s" ++ (1 ∷ 18 ∷ named "a")) strict 0 (room 0 0)) (answer 10 0 [] "")
-    ∷ case (reading (structure []) "<a></a>" bare 7 (8 ∷ named "s" ++ (1 ∷ 18 ∷ named "a")) strict 0 (room 1 0))
-    (answer 0 1 (2 ∷ 0 ∷ 0 ∷ 0 ∷ 0 ∷ 7 ∷ []) "")
+    ∷ case (reading (structure []) "<a></b>" bare 7 unwrappedA strict 0 (room 0 0)) (answer 9 0 [] "")
+    ∷ case (reading (structure []) "<a></a>" bare 7 unwrappedA strict 0 (room 0 0)) (answer 10 0 [] "")
+    ∷ case (reading (structure []) "<a></a>" bare 7 unwrappedA strict 0 (room 1 0)) (answer 0 1 (2 ∷ 0 ∷ 0 ∷ 0 ∷ 0 ∷ 7 ∷ []) "")
     ∷ [])
 unfolding computed
 unwrapped = refl

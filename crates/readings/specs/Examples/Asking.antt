@@ -48,6 +48,20 @@ named s = length (ascii s) ∷ ascii s
 abbrev pub plain : List ℕ → List ℕ
 plain members = 0 ∷ named "s" ++ members
 
+-- sheets that many questions have: a scalar `a`; scalars `a` and `b`; an unwrapped structure with an aggregate `a`; a map whose key and value are named
+-- `k` and `v`
+abbrev pub scalarA : List ℕ
+scalarA = plain (1 ∷ 2 ∷ named "a")
+
+abbrev pub scalarsAB : List ℕ
+scalarsAB = plain (2 ∷ 2 ∷ named "a" ++ (2 ∷ named "b"))
+
+abbrev pub unwrappedA : List ℕ
+unwrappedA = 8 ∷ named "s" ++ (1 ∷ 18 ∷ named "a")
+
+abbrev pub keyed : List ℕ
+keyed = 14 ∷ named "k" ++ named "v"
+
 -- ---- a question and its answer
 pub data Question : Type 0 where
   reading : (shape : Shape) (body : String) (table : List ℕ) (final : ℕ) (sheet : List ℕ) (settings : Settings) (depth : ℕ) (room : Room) → Question

@@ -3,7 +3,7 @@
 use mathlib.Core.Path.{refl}
 use mathlib.Core.List.{[], _∷_, _++_}
 use Rattle.readings.specs.Demand.Promise.{list, map, strings}
-use Rattle.readings.specs.Examples.Asking.{reading, ask, answer, case, Answered, lenient, strict, itemNames, room, enough, named}
+use Rattle.readings.specs.Examples.Asking.{reading, ask, answer, case, Answered, lenient, strict, itemNames, room, enough, named, keyed}
 use Rattle.readings.specs.Examples.Tables.{empty, one, two, nested, nested-text, nested-empty, two-unclosed, comment, prefixed-item, attribute-second, second-error, entry1, entry1-closed, entry1-names, entry1-prefixed, entry1-fields, entry1-empty, entry1-nested, entry1-error, entry2, entry2-prefixed, entry2-nested, entry2-open, entry2-field-attribute, entry2-attribute, early}
 use Rattle.readings.specs.All.{computed}
 
@@ -57,7 +57,8 @@ pub list-refusals : Answered ask (
     ∷ case (reading list "<r><a>1</a><b>2</b></x>" two 23 (0 ∷ []) strict 0 (room 2 0))
     (answer 9 2 (2 ∷ 0 ∷ 0 ∷ 0 ∷ 3 ∷ 8 ∷ 2 ∷ 0 ∷ 0 ∷ 0 ∷ 11 ∷ 8 ∷ []) "")
     ∷ case (reading list "<r><a>1</a><b>2</b></x>" two 23 (0 ∷ []) strict 0 (room 1 0)) (answer 10 1 (2 ∷ 0 ∷ 0 ∷ 0 ∷ 3 ∷ 8 ∷ []) "")
-    -- a lent table whose token error stands at 6, before the final position 8 (no Rust reference): "A piece ends at the position of the last row read for it, or at the final position when the rows run out"; lenient, and strict, where the row that fails is read
+    -- a lent table whose token error stands at 6, before the final position 8 (no Rust reference): "A piece ends at the position of the last row read for it, or
+    -- at the final position when the rows run out"; lenient, and strict, where the row that fails is the last one read
     ∷ case (reading list "<r><a>12" early 8 (0 ∷ []) lenient 0 enough) (answer 0 1 (2 ∷ 0 ∷ 0 ∷ 0 ∷ 3 ∷ 5 ∷ []) "")
     ∷ case (reading list "<r><a>12" early 8 (0 ∷ []) strict 0 enough) (answer 9 1 (2 ∷ 0 ∷ 0 ∷ 0 ∷ 3 ∷ 3 ∷ []) "")
     ∷ [])
@@ -102,10 +103,10 @@ pub string-lists : Answered ask (
 unfolding computed
 string-lists = refl
 
--- map entries, with the key and value names `k` and `v` where none is said: "A map writes the key before the value"
+-- "A map writes the key before the value"
 pub map-entries : Answered ask (
     -- in both orders of the fields
-    case (reading map "<m><e><k>1</k><v>2</v></e><e><v>3</v><k>4</k></e></m>" entry2 53 (14 ∷ named "k" ++ named "v") lenient 0 enough)
+    case (reading map "<m><e><k>1</k><v>2</v></e><e><v>3</v><k>4</k></e></m>" entry2 53 keyed lenient 0 enough)
     (answer 0 2 (1 ∷ 0 ∷ 0 ∷ 1 ∷ 1 ∷ 1 ∷ 1 ∷ 0 ∷ 2 ∷ 1 ∷ 3 ∷ 1 ∷ []) "1243")
     -- `key` and `value` without XML names: without a value in the sheet, and with one
     ∷ case (reading map "<m><e><key>1</key><value>2</value></e></m>" entry1-names 42 (0 ∷ []) lenient 0 enough)
@@ -113,30 +114,28 @@ pub map-entries : Answered ask (
     ∷ case (reading map "<m><e><key>1</key><value>2</value></e></m>" entry1-names 42 (4 ∷ []) lenient 0 enough)
     (answer 0 1 (1 ∷ 0 ∷ 0 ∷ 1 ∷ 1 ∷ 1 ∷ []) "12")
     -- `entry` is asked for with the flag, by `Name::matches`; not in a flattened map
-    ∷ case (reading map "<m><p:entry><k>1</k><v>2</v></p:entry><e><k>3</k><v>4</v></e></m>" entry2-prefixed 65 (14 ∷ named "k" ++ named "v") itemNames 0 enough)
+    ∷ case (reading map "<m><p:entry><k>1</k><v>2</v></p:entry><e><k>3</k><v>4</v></e></m>" entry2-prefixed 65 keyed itemNames 0 enough)
     (answer 0 1 (1 ∷ 0 ∷ 0 ∷ 1 ∷ 1 ∷ 1 ∷ []) "12")
-    ∷ case (reading map "<m><p:entry><k>1</k><v>2</v></p:entry><e><k>3</k><v>4</v></e></m>" entry2-prefixed 65 (14 ∷ named "k" ++ named "v") lenient 0 enough)
+    ∷ case (reading map "<m><p:entry><k>1</k><v>2</v></p:entry><e><k>3</k><v>4</v></e></m>" entry2-prefixed 65 keyed lenient 0 enough)
     (answer 0 2 (1 ∷ 0 ∷ 0 ∷ 1 ∷ 1 ∷ 1 ∷ 1 ∷ 0 ∷ 2 ∷ 1 ∷ 3 ∷ 1 ∷ []) "1234")
     ∷ case (reading map "<m><p:entry><k>1</k><v>2</v></p:entry><e><k>3</k><v>4</v></e></m>" entry2-prefixed 65 (15 ∷ named "k" ++ named "v") itemNames 0 enough)
     (answer 0 2 (1 ∷ 0 ∷ 0 ∷ 1 ∷ 1 ∷ 1 ∷ 1 ∷ 0 ∷ 2 ∷ 1 ∷ 3 ∷ 1 ∷ []) "1234")
     -- "Members and map keys compare the local name exactly": `k` finds `p:k`, `p:k` does not
-    ∷ case (reading map "<m><e><p:k>1</p:k><p:v>2</p:v></e></m>" entry1-prefixed 38 (14 ∷ named "k" ++ named "v") lenient 0 enough)
+    ∷ case (reading map "<m><e><p:k>1</p:k><p:v>2</p:v></e></m>" entry1-prefixed 38 keyed lenient 0 enough)
     (answer 0 1 (1 ∷ 0 ∷ 0 ∷ 1 ∷ 1 ∷ 1 ∷ []) "12")
     ∷ case (reading map "<m><e><p:k>1</p:k><p:v>2</p:v></e></m>" entry1-prefixed 38 (14 ∷ named "p:k" ++ named "v") lenient 0 enough)
     (answer 0 0 [] "")
     ∷ case (reading map "<m><e><p:k>1</p:k><p:v>2</p:v></e></m>" entry1-prefixed 38 (14 ∷ named "k" ++ named "p:v") lenient 0 enough)
     (answer 0 0 [] "")
     -- a key alone writes nothing, and a value alone
-    ∷ case (reading map "<m><e><k>1</k><x>2</x></e><e><v>3</v><x>4</x></e></m>" entry2 53 (14 ∷ named "k" ++ named "v") lenient 0 enough)
-    (answer 0 0 [] "")
+    ∷ case (reading map "<m><e><k>1</k><x>2</x></e><e><v>3</v><x>4</x></e></m>" entry2 53 keyed lenient 0 enough) (answer 0 0 [] "")
     -- an aggregate value is a piece; the key alone is in the text buffer
     ∷ case (reading map "<m><e><k>1</k><v>2</v></e><e><k>3</k><v><w/></v></e></m>" entry2-nested 56 (30 ∷ named "k" ++ named "v") lenient 0 enough)
     (answer 0 2 (2 ∷ 0 ∷ 0 ∷ 1 ∷ 14 ∷ 8 ∷ 2 ∷ 0 ∷ 1 ∷ 1 ∷ 37 ∷ 11 ∷ []) "13")
     -- an empty key and an empty value
-    ∷ case (reading map "<m><e><k/><v/></e></m>" entry1-empty 22 (14 ∷ named "k" ++ named "v") lenient 0 enough)
-    (answer 0 1 (1 ∷ 0 ∷ 0 ∷ 0 ∷ 0 ∷ 0 ∷ []) "")
+    ∷ case (reading map "<m><e><k/><v/></e></m>" entry1-empty 22 keyed lenient 0 enough) (answer 0 1 (1 ∷ 0 ∷ 0 ∷ 0 ∷ 0 ∷ 0 ∷ []) "")
     -- an entry that ends in `/>` has no fields: what follows is not in it
-    ∷ case (reading map "<m><e/><k>1</k><v>2</v></m>" entry1-closed 27 (14 ∷ named "k" ++ named "v") lenient 0 enough) (answer 0 0 [] "")
+    ∷ case (reading map "<m><e/><k>1</k><v>2</v></m>" entry1-closed 27 keyed lenient 0 enough) (answer 0 0 [] "")
     ∷ [])
 unfolding computed
 map-entries = refl
@@ -144,55 +143,52 @@ map-entries = refl
 -- map entries in ill-formed bodies, lenient: of an entry the fields are read, and each field to the end of its own scope
 pub map-scopes : Answered ask (
     -- the first `k` ends with the second entry's, so that entry is never met and its `v` is the first's
-    case (reading map "<m><entry><k>1</x></entry><entry><k>2</k><v>3</v></entry></m>" entry2-open 61 (14 ∷ named "k" ++ named "v") lenient 0 enough)
+    case (reading map "<m><entry><k>1</x></entry><entry><k>2</k><v>3</v></entry></m>" entry2-open 61 keyed lenient 0 enough)
     (answer 0 1 (1 ∷ 0 ∷ 0 ∷ 1 ∷ 1 ∷ 1 ∷ []) "13")
     -- with the flag, a child that is not asked for is passed over at once, to the end tag of its own depth and name
-    ∷ case (reading map "<m><other><k>1</x></other><entry><k>2</k><v>3</v></entry></m>" entry2-open 61 (14 ∷ named "k" ++ named "v") itemNames 0 enough)
+    ∷ case (reading map "<m><other><k>1</x></other><entry><k>2</k><v>3</v></entry></m>" entry2-open 61 keyed itemNames 0 enough)
     (answer 0 1 (1 ∷ 0 ∷ 0 ∷ 1 ∷ 1 ∷ 1 ∷ []) "23")
     -- a bad attribute in a field ends the entry's level: its key is there, its value is not; the next entry is read
-    ∷ case (reading map "<m><e><k>1</k><v x=\"&lt\"/><v>2</v></e><e><k>3</k><v>4</v></e></m>" entry2-field-attribute 65 (14 ∷ named "k" ++ named "v") lenient 0 enough)
+    ∷ case (reading map "<m><e><k>1</k><v x=\"&lt\"/><v>2</v></e><e><k>3</k><v>4</v></e></m>" entry2-field-attribute 65 keyed lenient 0 enough)
     (answer 0 1 (1 ∷ 0 ∷ 0 ∷ 1 ∷ 1 ∷ 1 ∷ []) "34")
     -- a bad attribute in an entry ends the map's level
-    ∷ case (reading map "<m><e x=\"&lt\"/><e><k>1</k><v>2</v></e></m>" entry2-attribute 42 (14 ∷ named "k" ++ named "v") lenient 0 enough)
-    (answer 0 0 [] "")
+    ∷ case (reading map "<m><e x=\"&lt\"/><e><k>1</k><v>2</v></e></m>" entry2-attribute 42 keyed lenient 0 enough) (answer 0 0 [] "")
     ∷ [])
 unfolding computed
 map-scopes = refl
 
--- "The same, with 6, 7, 8, 9 as met in a key or value; room is tested at the end of each map entry, for its key and value together, so these come before its 10"
+-- "The same, with 6, 7, 8, 9 as met in a key or value; room is tested at the end of each map entry, for its key and value together, so these come before its
+-- 10"
 pub map-refusals : Answered ask (
     -- 6 in a value and in a key; the entries before it stay
-    case (reading map "<m><e><k>1</k><v>2</v></e><e><k>3</k><v><w/></v></e></m>" entry2-nested 56 (14 ∷ named "k" ++ named "v") lenient 0 enough)
+    case (reading map "<m><e><k>1</k><v>2</v></e><e><k>3</k><v><w/></v></e></m>" entry2-nested 56 keyed lenient 0 enough)
     (answer 6 1 (1 ∷ 0 ∷ 0 ∷ 1 ∷ 1 ∷ 1 ∷ []) "12")
-    ∷ case (reading map "<m><e><k><w/></k></e></m>" entry1-nested 25 (14 ∷ named "k" ++ named "v") lenient 0 enough) (answer 6 0 [] "")
+    ∷ case (reading map "<m><e><k><w/></k></e></m>" entry1-nested 25 keyed lenient 0 enough) (answer 6 0 [] "")
     -- 7, where the entry has no key; strict the same, before 9
-    ∷ case (reading map "<m><e><v>&</v></e></m>" nested-text 22 (14 ∷ named "k" ++ named "v") lenient 0 enough) (answer 7 0 [] "")
-    ∷ case (reading map "<m><e><v>&</v></e></m>" nested-text 22 (14 ∷ named "k" ++ named "v") strict 0 enough) (answer 7 0 [] "")
+    ∷ case (reading map "<m><e><v>&</v></e></m>" nested-text 22 keyed lenient 0 enough) (answer 7 0 [] "")
+    ∷ case (reading map "<m><e><v>&</v></e></m>" nested-text 22 keyed strict 0 enough) (answer 7 0 [] "")
     -- 8 and 9
-    ∷ case (reading map "<m><e><k><" entry1-error 10 (14 ∷ named "k" ++ named "v") lenient 0 enough) (answer 8 0 [] "")
-    ∷ case (reading map "<m><e><k></v></e></m>" nested 21 (14 ∷ named "k" ++ named "v") strict 0 enough) (answer 9 0 [] "")
+    ∷ case (reading map "<m><e><k><" entry1-error 10 keyed lenient 0 enough) (answer 8 0 [] "")
+    ∷ case (reading map "<m><e><k></v></e></m>" nested 21 keyed strict 0 enough) (answer 9 0 [] "")
     -- lenient there is no 9, and no entry
-    ∷ case (reading map "<m><e><k></v></e></m>" nested 21 (14 ∷ named "k" ++ named "v") lenient 0 enough) (answer 0 0 [] "")
+    ∷ case (reading map "<m><e><k></v></e></m>" nested 21 keyed lenient 0 enough) (answer 0 0 [] "")
     -- 9 last
-    ∷ case (reading map "<m><e><k>1</k><v>2</v></e></x>" entry1 30 (14 ∷ named "k" ++ named "v") strict 0 enough)
-    (answer 9 1 (1 ∷ 0 ∷ 0 ∷ 1 ∷ 1 ∷ 1 ∷ []) "12")
-    ∷ case (reading map "<m><e><k>1</k><v>2</v></e></x>" entry1 30 (14 ∷ named "k" ++ named "v") strict 1 enough)
-    (answer 0 1 (1 ∷ 0 ∷ 0 ∷ 1 ∷ 1 ∷ 1 ∷ []) "12")
+    ∷ case (reading map "<m><e><k>1</k><v>2</v></e></x>" entry1 30 keyed strict 0 enough) (answer 9 1 (1 ∷ 0 ∷ 0 ∷ 1 ∷ 1 ∷ 1 ∷ []) "12")
+    ∷ case (reading map "<m><e><k>1</k><v>2</v></e></x>" entry1 30 keyed strict 1 enough) (answer 0 1 (1 ∷ 0 ∷ 0 ∷ 1 ∷ 1 ∷ 1 ∷ []) "12")
     -- 10 (no Rust reference): key and value together at the limit, and below it
-    ∷ case (reading map "<m><e><k>1</k><v>2</v></e><e><v>3</v><k>4</k></e></m>" entry2 53 (14 ∷ named "k" ++ named "v") lenient 0 (room 2 4))
+    ∷ case (reading map "<m><e><k>1</k><v>2</v></e><e><v>3</v><k>4</k></e></m>" entry2 53 keyed lenient 0 (room 2 4))
     (answer 0 2 (1 ∷ 0 ∷ 0 ∷ 1 ∷ 1 ∷ 1 ∷ 1 ∷ 0 ∷ 2 ∷ 1 ∷ 3 ∷ 1 ∷ []) "1243")
-    ∷ case (reading map "<m><e><k>1</k><v>2</v></e><e><v>3</v><k>4</k></e></m>" entry2 53 (14 ∷ named "k" ++ named "v") lenient 0 (room 2 3))
+    ∷ case (reading map "<m><e><k>1</k><v>2</v></e><e><v>3</v><k>4</k></e></m>" entry2 53 keyed lenient 0 (room 2 3))
     (answer 10 1 (1 ∷ 0 ∷ 0 ∷ 1 ∷ 1 ∷ 1 ∷ []) "12")
-    ∷ case (reading map "<m><e><k>1</k><v>2</v></e><e><v>3</v><k>4</k></e></m>" entry2 53 (14 ∷ named "k" ++ named "v") lenient 0 (room 1 4))
+    ∷ case (reading map "<m><e><k>1</k><v>2</v></e><e><v>3</v><k>4</k></e></m>" entry2 53 keyed lenient 0 (room 1 4))
     (answer 10 1 (1 ∷ 0 ∷ 0 ∷ 1 ∷ 1 ∷ 1 ∷ []) "12")
     -- with an aggregate value: the key's bytes alone
     ∷ case (reading map "<m><e><k>1</k><v>2</v></e></m>" entry1 30 (30 ∷ named "k" ++ named "v") lenient 0 (room 1 1))
     (answer 0 1 (2 ∷ 0 ∷ 0 ∷ 1 ∷ 14 ∷ 8 ∷ []) "1")
     ∷ case (reading map "<m><e><k>1</k><v>2</v></e></m>" entry1 30 (30 ∷ named "k" ++ named "v") lenient 0 (room 1 0)) (answer 10 0 [] "")
     -- 7 before 10, and 10 before 9
-    ∷ case (reading map "<m><e><k>1</k><v>2</v><v>3</v><k>&</k></e></m>" entry1-fields 46 (14 ∷ named "k" ++ named "v") lenient 0 (room 0 0))
-    (answer 7 0 [] "")
-    ∷ case (reading map "<m><e><k>1</k><v>2</v></e></x>" entry1 30 (14 ∷ named "k" ++ named "v") strict 0 (room 0 0)) (answer 10 0 [] "")
+    ∷ case (reading map "<m><e><k>1</k><v>2</v><v>3</v><k>&</k></e></m>" entry1-fields 46 keyed lenient 0 (room 0 0)) (answer 7 0 [] "")
+    ∷ case (reading map "<m><e><k>1</k><v>2</v></e></x>" entry1 30 keyed strict 0 (room 0 0)) (answer 10 0 [] "")
     -- 1 (no Rust reference), 2, 3, 4
     ∷ case (reading map "<r/>" (1 ∷ []) 4 (32 ∷ []) strict 128 enough) (answer 1 0 [] "")
     ∷ case (reading map "<!--c-->" comment 8 (32 ∷ []) strict 128 enough) (answer 2 0 [] "")

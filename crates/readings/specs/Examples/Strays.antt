@@ -3,7 +3,7 @@
 use mathlib.Core.Path.{refl}
 use mathlib.Core.List.{[], _∷_, _++_}
 use Rattle.readings.specs.Demand.Promise.{structure, map}
-use Rattle.readings.specs.Examples.Asking.{reading, ask, answer, case, Answered, plain, lenient, strict, enough, named}
+use Rattle.readings.specs.Examples.Asking.{reading, ask, answer, case, Answered, plain, lenient, strict, enough, named, keyed}
 use Rattle.readings.specs.Examples.Tables.{two, prefixed-one, attribute-type, attribute-child, entry1-fields, entry1-nested}
 use Rattle.readings.specs.All.{computed}
 
@@ -18,7 +18,7 @@ pub strays : Answered ask (
     ∷ case (reading (structure []) "<r a=\"1\"><a>2</a></r>" attribute-child 21 (plain (2 ∷ 6 ∷ named "a" ++ (2 ∷ named "a"))) lenient 0 enough)
     (answer 0 2 (1 ∷ 0 ∷ 0 ∷ 0 ∷ 0 ∷ 1 ∷ 1 ∷ 0 ∷ 0 ∷ 0 ∷ 1 ∷ 1 ∷ []) "12")
     -- "the first key or value wins (the last does)"
-    ∷ case (reading map "<m><e><k>1</k><v>2</v><v>3</v><k>4</k></e></m>" entry1-fields 46 (14 ∷ named "k" ++ named "v") lenient 0 enough)
+    ∷ case (reading map "<m><e><k>1</k><v>2</v><v>3</v><k>4</k></e></m>" entry1-fields 46 keyed lenient 0 enough)
     (answer 0 1 (1 ∷ 0 ∷ 0 ∷ 1 ∷ 1 ∷ 1 ∷ []) "43")
     -- "a child named as both is a value (it is a key)": as a key it has an element where text is wanted; as a value it would be a piece
     ∷ case (reading map "<m><e><k><w/></k></e></m>" entry1-nested 25 (30 ∷ named "k" ++ named "k") lenient 0 enough) (answer 6 0 [] "")
