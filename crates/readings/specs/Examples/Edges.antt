@@ -1,9 +1,8 @@
 -- 01, "Bodies at the edges". The P bodies, all twelve marks, in one statement over one list; and the others, computed by the definitions as well (a program
--- will run them too). The tables are the tokenizer's own.
+-- will run them too). The tables are the tokenizer's own, and the answers are 01's.
 use Prim.Native.Nat.{ℕ}
 use Prim.Native.String.{String}
 use mathlib.Core.Path.{_≡_, refl}
-use mathlib.Core.Bool.{Bool, true, false}
 use mathlib.Core.List.{List, [], _∷_, _++_, map}
 use lib.IntN.{pos, negsuc}
 use lib.ListN.{length}
@@ -16,39 +15,12 @@ use Rattle.reference.specs.declared.Validated.the-variants.{Valid, BadReference
 use Rattle.xml.specs.declared.Cause.{Cause}
 use Rattle.xml.specs.declared.Drained.{Drained}
 use Rattle.xml.specs.Drain.{drained}
-use Rattle.sheet.specs.declared.ShapeDepth.{ShapeDepth}
-use Rattle.sheet.specs.Settings.{Settings}
-use Rattle.readings.specs.Output.{Entry, textEntry, pieceEntry, groupEntry, Room, Output, nothing, Reading, finished, refused}
-use Rattle.readings.specs.Structure.{structureReading}
-use Rattle.readings.specs.Collection.{listReading}
+use Rattle.readings.specs.Output.{Told}
+use Rattle.readings.specs.Demand.Promise.{Shape, structure}
 use Rattle.readings.specs.Scalar.{integerOf}
+use Rattle.readings.specs.Examples.Asking.{reading, ask, answer, case, Answered, plain, lenient, strict, enough, named, scalarsAB}
+use Rattle.readings.specs.Examples.Tables.{empty, one, one-text, two, unclosed, attributes-two, attribute-first}
 use Rattle.readings.specs.All.{computed}
-
--- ---- what the bodies are read with
--- strict or lenient, with 01's maximum depth in the edges
-abbrev settings : Bool → Settings
-settings strict = record { maxDepth = 128; validateDocument = strict; validateRootName = false; strictCollectionElementNames = false }
-
-abbrev shape : ℕ → ShapeDepth
-shape d = record { 0 = d }
-
--- room enough
-abbrev room : Room
-room = record { entries = 8; bytes = 64 }
-
-abbrev output : List Entry → List ℕ → Output
-output entries texts = record { entries = entries; texts = texts }
-
--- a name in a sheet
-abbrev pub named : String → List ℕ
-named s = length (ascii s) ∷ ascii s
-
--- a structure sheet of shape `s`, without members, and a list sheet without a member
-abbrev emptyStructure : List ℕ
-emptyStructure = 0 ∷ named "s" ++ (0 ∷ [])
-
-abbrev plainList : List ℕ
-plainList = 0 ∷ []
 
 -- ---- the P marks
 pub data Mark : Type 0 where
@@ -59,17 +31,17 @@ pub data Mark : Type 0 where
   -- a body and its table for a strict list reading
   list : String → List ℕ → Mark
 
-pub data Told : Type 0 where
-  references : Validated → Out → Told
-  drain : Drained → Reading → Told
-  list : Reading → Told
+pub data Reply : Type 0 where
+  references : Validated → Out → Reply
+  drain : Drained → Told → Reply
+  list : Told → Reply
 
-abbrev tell : Mark → Told
-tell (Mark.references text) = Told.references (validated (ascii text)) (unescaped (ascii text))
+abbrev tell : Mark → Reply
+tell (Mark.references text) = Reply.references (validated (ascii text)) (unescaped (ascii text))
 tell (Mark.drain body table) =
-    Told.drain (drained (ascii body) table (length (ascii body)))
-    (structureReading (ascii body) table (length (ascii body)) emptyStructure (settings true) (shape 0) room [])
-tell (Mark.list body table) = Told.list (listReading (ascii body) table (length (ascii body)) plainList (settings true) (shape 0) room)
+    Reply.drain (drained (ascii body) table (length (ascii body)))
+    (ask (reading (structure []) body table (length (ascii body)) (plain (0 ∷ [])) strict 0 enough))
+tell (Mark.list body table) = Reply.list (ask (reading Shape.list body table (length (ascii body)) (0 ∷ []) strict 0 enough))
 
 pub examples :
     map tell (
@@ -81,171 +53,48 @@ pub examples :
     ∷ Mark.references "&#x10FFFF;"
     ∷ Mark.references "&#xFFFE;"
     ∷ Mark.references "a&b"
-    ∷ Mark.drain "<a><b></a></b>" (
-    1 ∷ 0 ∷ 0 ∷ 1 ∷ 1 ∷ 0 ∷ 0 ∷ 2 ∷
-    3 ∷ 0 ∷ 0 ∷ 0 ∷ 0 ∷ 0 ∷ 0 ∷ 3 ∷
-    1 ∷ 0 ∷ 0 ∷ 4 ∷ 1 ∷ 0 ∷ 0 ∷ 5 ∷
-    3 ∷ 0 ∷ 0 ∷ 0 ∷ 0 ∷ 0 ∷ 0 ∷ 6 ∷
-    4 ∷ 0 ∷ 0 ∷ 8 ∷ 1 ∷ 0 ∷ 0 ∷ 10 ∷
-    4 ∷ 0 ∷ 0 ∷ 12 ∷ 1 ∷ 0 ∷ 0 ∷ 14 ∷ [])
-    ∷ Mark.drain "<a>" (
-    1 ∷ 0 ∷ 0 ∷ 1 ∷ 1 ∷ 0 ∷ 0 ∷ 2 ∷
-    3 ∷ 0 ∷ 0 ∷ 0 ∷ 0 ∷ 0 ∷ 0 ∷ 3 ∷ [])
+    ∷ Mark.drain "<a><b></a></b>" one
+    ∷ Mark.drain "<a>" unclosed
     ∷ Mark.drain "" []
-    ∷ Mark.list "<r><b>7</b></r>" (
-    1 ∷ 0 ∷ 0 ∷ 1 ∷ 1 ∷ 0 ∷ 0 ∷ 2 ∷
-    3 ∷ 0 ∷ 0 ∷ 0 ∷ 0 ∷ 0 ∷ 0 ∷ 3 ∷
-    1 ∷ 0 ∷ 0 ∷ 4 ∷ 1 ∷ 0 ∷ 0 ∷ 5 ∷
-    3 ∷ 0 ∷ 0 ∷ 0 ∷ 0 ∷ 0 ∷ 0 ∷ 6 ∷
-    6 ∷ 0 ∷ 0 ∷ 0 ∷ 0 ∷ 6 ∷ 1 ∷ 7 ∷
-    4 ∷ 0 ∷ 0 ∷ 9 ∷ 1 ∷ 0 ∷ 0 ∷ 11 ∷
-    4 ∷ 0 ∷ 0 ∷ 13 ∷ 1 ∷ 0 ∷ 0 ∷ 15 ∷ [])
+    ∷ Mark.list "<r><b>7</b></r>" one-text
     ∷ [])
-    ≡ Told.references Valid (bytes (ascii "A<"))
-    ∷ Told.references BadReference (bytes (ascii "A"))
-    ∷ Told.references BadReference (bytes (0 ∷ []))
-    ∷ Told.references BadReference (bad 0)
-    ∷ Told.references BadReference (bad 0)
-    ∷ Told.references Valid (bytes (0xF4 ∷ 0x8F ∷ 0xBF ∷ 0xBF ∷ []))
-    ∷ Told.references BadReference (bytes (0xEF ∷ 0xBF ∷ 0xBE ∷ []))
-    ∷ Told.references BadReference (bad 1)
-    ∷ Told.drain (Drained.IllFormed 4 Cause.MismatchedEnd) (refused Refusal.IllFormed nothing)
-    ∷ Told.drain (Drained.IllFormed 2 Cause.UnclosedElement) (refused Refusal.IllFormed nothing)
-    ∷ Told.drain Drained.Passes (refused Refusal.NoRoot nothing)
-    ∷ Told.list (finished (output (pieceEntry 0 (record { start = 3; len = 8 }) 0 ∷ []) []))
+    ≡ Reply.references Valid (bytes (ascii "A<"))
+    ∷ Reply.references BadReference (bytes (ascii "A"))
+    ∷ Reply.references BadReference (bytes (0 ∷ []))
+    ∷ Reply.references BadReference (bad 0)
+    ∷ Reply.references BadReference (bad 0)
+    ∷ Reply.references Valid (bytes (0xF4 ∷ 0x8F ∷ 0xBF ∷ 0xBF ∷ []))
+    ∷ Reply.references BadReference (bytes (0xEF ∷ 0xBF ∷ 0xBE ∷ []))
+    ∷ Reply.references BadReference (bad 1)
+    ∷ Reply.drain (Drained.IllFormed 4 Cause.MismatchedEnd) (answer 9 0 [] "")
+    ∷ Reply.drain (Drained.IllFormed 2 Cause.UnclosedElement) (answer 9 0 [] "")
+    ∷ Reply.drain Drained.Passes (answer 4 0 [] "")
+    ∷ Reply.list (answer 0 1 (2 ∷ 0 ∷ 0 ∷ 0 ∷ 3 ∷ 8 ∷ []) "")
     ∷ []
 unfolding computed
 examples = refl
 
 -- ---- the others
--- a structure reading of a body with its table: strict or not, at a shape depth, with a sheet and an order of groups
-pub record Question : Type 0 where
-  pub body : String
-  pub table : List ℕ
-  pub strict : Bool
-  pub depth : ℕ
-  pub sheet : List ℕ
-  pub order : List ℕ
-
-abbrev ask : Question → Reading
-ask q = structureReading (ascii (q .body)) (q .table) (length (ascii (q .body))) (q .sheet) (settings (q .strict)) (shape (q .depth)) room (q .order)
-
--- a structure sheet of shape `s` with members that have a member name: flattened aggregate `n`; scalars `a` and `b`; scalars `a` and `c`
-abbrev flattened : List ℕ
-flattened = 0 ∷ named "s" ++ (1 ∷ 26 ∷ named "n")
-
-abbrev scalars : String → String → List ℕ
-scalars a b = 0 ∷ named "s" ++ (2 ∷ 2 ∷ named a ++ (2 ∷ named b))
-
-pub edges :
-    map ask (
-    record {
-      body = "<r/>";
-      table = (
-          1 ∷ 0 ∷ 0 ∷ 1 ∷ 1 ∷ 0 ∷ 0 ∷ 2 ∷
-          5 ∷ 0 ∷ 0 ∷ 0 ∷ 0 ∷ 0 ∷ 0 ∷ 4 ∷ []);
-      strict = false;
-      depth = 127;
-      sheet = emptyStructure;
-      order = [];
-    }
-    ∷ record {
-      body = "<r/>";
-      table = (
-          1 ∷ 0 ∷ 0 ∷ 1 ∷ 1 ∷ 0 ∷ 0 ∷ 2 ∷
-          5 ∷ 0 ∷ 0 ∷ 0 ∷ 0 ∷ 0 ∷ 0 ∷ 4 ∷ []);
-      strict = false;
-      depth = 128;
-      sheet = emptyStructure;
-      order = [];
-    }
-    ∷ record {
-      body = "<r><n>1</n><n>2</n></r>";
-      table = (
-          1 ∷ 0 ∷ 0 ∷ 1 ∷ 1 ∷ 0 ∷ 0 ∷ 2 ∷
-          3 ∷ 0 ∷ 0 ∷ 0 ∷ 0 ∷ 0 ∷ 0 ∷ 3 ∷
-          1 ∷ 0 ∷ 0 ∷ 4 ∷ 1 ∷ 0 ∷ 0 ∷ 5 ∷
-          3 ∷ 0 ∷ 0 ∷ 0 ∷ 0 ∷ 0 ∷ 0 ∷ 6 ∷
-          6 ∷ 0 ∷ 0 ∷ 0 ∷ 0 ∷ 6 ∷ 1 ∷ 7 ∷
-          4 ∷ 0 ∷ 0 ∷ 9 ∷ 1 ∷ 0 ∷ 0 ∷ 11 ∷
-          1 ∷ 0 ∷ 0 ∷ 12 ∷ 1 ∷ 0 ∷ 0 ∷ 13 ∷
-          3 ∷ 0 ∷ 0 ∷ 0 ∷ 0 ∷ 0 ∷ 0 ∷ 14 ∷
-          6 ∷ 0 ∷ 0 ∷ 0 ∷ 0 ∷ 14 ∷ 1 ∷ 15 ∷
-          4 ∷ 0 ∷ 0 ∷ 17 ∷ 1 ∷ 0 ∷ 0 ∷ 19 ∷
-          4 ∷ 0 ∷ 0 ∷ 21 ∷ 1 ∷ 0 ∷ 0 ∷ 23 ∷ []);
-      strict = true;
-      depth = 0;
-      sheet = flattened;
-      order = 0 ∷ [];
-    }
-    ∷ record {
-      body = "<r x=\"1\" x=\"2\"/>";
-      table = (
-          1 ∷ 0 ∷ 0 ∷ 1 ∷ 1 ∷ 0 ∷ 0 ∷ 2 ∷
-          2 ∷ 0 ∷ 0 ∷ 3 ∷ 1 ∷ 6 ∷ 1 ∷ 8 ∷
-          2 ∷ 0 ∷ 0 ∷ 9 ∷ 1 ∷ 12 ∷ 1 ∷ 14 ∷
-          5 ∷ 0 ∷ 0 ∷ 0 ∷ 0 ∷ 0 ∷ 0 ∷ 16 ∷ []);
-      strict = true;
-      depth = 0;
-      sheet = emptyStructure;
-      order = [];
-    }
-    ∷ record {
-      body = "<r><a x=\"&zz;\">1</a><b>2</b></r>";
-      table = (
-          1 ∷ 0 ∷ 0 ∷ 1 ∷ 1 ∷ 0 ∷ 0 ∷ 2 ∷
-          3 ∷ 0 ∷ 0 ∷ 0 ∷ 0 ∷ 0 ∷ 0 ∷ 3 ∷
-          1 ∷ 0 ∷ 0 ∷ 4 ∷ 1 ∷ 0 ∷ 0 ∷ 5 ∷
-          2 ∷ 0 ∷ 0 ∷ 6 ∷ 1 ∷ 9 ∷ 4 ∷ 14 ∷
-          3 ∷ 0 ∷ 0 ∷ 0 ∷ 0 ∷ 0 ∷ 0 ∷ 15 ∷
-          6 ∷ 0 ∷ 0 ∷ 0 ∷ 0 ∷ 15 ∷ 1 ∷ 16 ∷
-          4 ∷ 0 ∷ 0 ∷ 18 ∷ 1 ∷ 0 ∷ 0 ∷ 20 ∷
-          1 ∷ 0 ∷ 0 ∷ 21 ∷ 1 ∷ 0 ∷ 0 ∷ 22 ∷
-          3 ∷ 0 ∷ 0 ∷ 0 ∷ 0 ∷ 0 ∷ 0 ∷ 23 ∷
-          6 ∷ 0 ∷ 0 ∷ 0 ∷ 0 ∷ 23 ∷ 1 ∷ 24 ∷
-          4 ∷ 0 ∷ 0 ∷ 26 ∷ 1 ∷ 0 ∷ 0 ∷ 28 ∷
-          4 ∷ 0 ∷ 0 ∷ 30 ∷ 1 ∷ 0 ∷ 0 ∷ 32 ∷ []);
-      strict = false;
-      depth = 0;
-      sheet = scalars "a" "b";
-      order = [];
-    }
-    ∷ record {
-      body = "<r><a>1</b><c>2</c></r>";
-      table = (
-          1 ∷ 0 ∷ 0 ∷ 1 ∷ 1 ∷ 0 ∷ 0 ∷ 2 ∷
-          3 ∷ 0 ∷ 0 ∷ 0 ∷ 0 ∷ 0 ∷ 0 ∷ 3 ∷
-          1 ∷ 0 ∷ 0 ∷ 4 ∷ 1 ∷ 0 ∷ 0 ∷ 5 ∷
-          3 ∷ 0 ∷ 0 ∷ 0 ∷ 0 ∷ 0 ∷ 0 ∷ 6 ∷
-          6 ∷ 0 ∷ 0 ∷ 0 ∷ 0 ∷ 6 ∷ 1 ∷ 7 ∷
-          4 ∷ 0 ∷ 0 ∷ 9 ∷ 1 ∷ 0 ∷ 0 ∷ 11 ∷
-          1 ∷ 0 ∷ 0 ∷ 12 ∷ 1 ∷ 0 ∷ 0 ∷ 13 ∷
-          3 ∷ 0 ∷ 0 ∷ 0 ∷ 0 ∷ 0 ∷ 0 ∷ 14 ∷
-          6 ∷ 0 ∷ 0 ∷ 0 ∷ 0 ∷ 14 ∷ 1 ∷ 15 ∷
-          4 ∷ 0 ∷ 0 ∷ 17 ∷ 1 ∷ 0 ∷ 0 ∷ 19 ∷
-          4 ∷ 0 ∷ 0 ∷ 21 ∷ 1 ∷ 0 ∷ 0 ∷ 23 ∷ []);
-      strict = false;
-      depth = 0;
-      sheet = scalars "a" "c";
-      order = [];
-    }
+pub edges : Answered ask (
+    -- "Depth 127 of 128 is entered; 128 gives 3."
+    case (reading (structure []) "<r/>" empty 4 (plain (0 ∷ [])) lenient 127 enough) (answer 0 0 [] "")
+    ∷ case (reading (structure []) "<r/>" empty 4 (plain (0 ∷ [])) lenient 128 enough) (answer 3 0 [] "")
+    -- "`<r><n>1</n><n>2</n></r>`, n flattened aggregate: one group of 33 bytes."
+    ∷ case (reading (structure (0 ∷ [])) "<r><n>1</n><n>2</n></r>" two 23 (plain (1 ∷ 26 ∷ named "n")) strict 0 enough)
+    (answer 0 1 (3 ∷ 0 ∷ 0 ∷ 0 ∷ 0 ∷ 33 ∷ []) "<__flat><n>1</n><n>2</n></__flat>")
+    -- "Strict `<r x=\"1\" x=\"2\"/>`: 4 from a structure reading, 9 from the drain."
+    ∷ case (reading (structure []) "<r x=\"1\" x=\"2\"/>" attributes-two 16 (plain (0 ∷ [])) strict 0 enough) (answer 4 0 [] "")
+    -- "Lenient `<r><a x=\"&zz;\">1</a><b>2</b></r>`: no entry at all, success."
+    ∷ case (reading (structure []) "<r><a x=\"&zz;\">1</a><b>2</b></r>" attribute-first 32 scalarsAB lenient 0 enough) (answer 0 0 [] "")
+    -- "Lenient `<r><a>1</b><c>2</c></r>`, a and c scalar: one text `1`; c is never seen."
+    ∷ case (reading (structure []) "<r><a>1</b><c>2</c></r>" two 23 (plain (2 ∷ 2 ∷ named "a" ++ (2 ∷ named "c"))) lenient 0 enough)
+    (answer 0 1 (1 ∷ 0 ∷ 0 ∷ 0 ∷ 0 ∷ 1 ∷ []) "1")
     ∷ [])
-    ≡ finished nothing
-    ∷ refused Refusal.Depth nothing
-    ∷ finished (output (groupEntry 0 (ascii "<__flat><n>1</n><n>2</n></__flat>") 0 ∷ []) (ascii "<__flat><n>1</n><n>2</n></__flat>"))
-    ∷ refused Refusal.NoRoot nothing
-    ∷ finished nothing
-    ∷ finished (output (textEntry 0 (ascii "1") 0 ∷ []) (ascii "1"))
-    ∷ []
 unfolding computed
 edges = refl
 
 -- "Strict `<r x=\"1\" x=\"2\"/>`: 4 from a structure reading, 9 from the drain."
-pub repeated-attribute : drained (ascii "<r x=\"1\" x=\"2\"/>") (
-    1 ∷ 0 ∷ 0 ∷ 1 ∷ 1 ∷ 0 ∷ 0 ∷ 2 ∷
-    2 ∷ 0 ∷ 0 ∷ 3 ∷ 1 ∷ 6 ∷ 1 ∷ 8 ∷
-    2 ∷ 0 ∷ 0 ∷ 9 ∷ 1 ∷ 12 ∷ 1 ∷ 14 ∷
-    5 ∷ 0 ∷ 0 ∷ 0 ∷ 0 ∷ 0 ∷ 0 ∷ 16 ∷ []) 16 ≡ Drained.IllFormed 2 Cause.RepeatedAttribute
+pub repeated-attribute : drained (ascii "<r x=\"1\" x=\"2\"/>") attributes-two 16 ≡ Drained.IllFormed 2 Cause.RepeatedAttribute
 unfolding computed
 repeated-attribute = refl
 

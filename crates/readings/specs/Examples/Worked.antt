@@ -12,16 +12,16 @@ use Rattle.xml.specs.declared.Drained.{Drained}
 use Rattle.xml.specs.Drain.{drained}
 use Rattle.xml.specs.Means.{drained-passes-is}
 use Rattle.xml.specs.Piece.{ElementPiece}
-use Rattle.sheet.specs.declared.ShapeDepth.{ShapeDepth}
 use Rattle.sheet.specs.Settings.{Settings}
-use Rattle.readings.specs.Output.{textEntry, pieceEntry, groupEntry, keyTextEntry, Room, Output, finished}
 use Rattle.sheet.specs.Sheet.{structureOf}
+use Rattle.readings.specs.Output.{textEntry, pieceEntry, groupEntry, keyTextEntry, Output, finished}
 use Rattle.readings.specs.Opening.{asked}
 use Rattle.readings.specs.Structure.{structureReading}
 use Rattle.readings.specs.Collection.{listReading, mapReading}
 use Rattle.readings.specs.Demand.Promise.{structure, AllHanded, promised-output}
 use Rattle.readings.specs.Demand.Theorem.{demand-3}
 use Rattle.readings.specs.Laws.Order.{hasGroup, grouped, orderIn}
+use Rattle.readings.specs.Examples.Asking.{settings, shape, enough}
 use Rattle.readings.specs.All.{computed}
 
 -- ---- the upload
@@ -78,15 +78,9 @@ coreSheet =
     1 ∷ 6 ∷ ascii "d:core" ++ (4 ∷ ascii "Core" ++ (5
     ∷ 6 ∷ 2 ∷ ascii "id" ++ (2 ∷ 4 ∷ ascii "site" ++ (18 ∷ 7 ∷ ascii "samples" ++ (26 ∷ 4 ∷ ascii "ring" ++ (18 ∷ 5 ∷ ascii "notes"))))))
 
--- strict in everything, at the outermost shape
-abbrev settings : Settings
-settings = record { maxDepth = 128; validateDocument = true; validateRootName = true; strictCollectionElementNames = false }
-
-abbrev shape : ℕ → ShapeDepth
-shape d = record { 0 = d }
-
-abbrev room : Room
-room = record { entries = 8; bytes = 64 }
+-- strict in everything but the names of collection elements
+abbrev strictly : Settings
+strictly = settings 128 true true false
 
 pub passes : drained body table final ≡ Drained.Passes
 unfolding computed
@@ -106,19 +100,19 @@ core =
       texts = ascii "T&7" ++ (ascii "North <1" ++ ascii "<__flat><ring y=\"1\">34</ring><ring/></__flat>");
     }
 
-pub core-is : structureReading body table final coreSheet settings (shape 0) room (3 ∷ []) ≡ finished core
+pub core-is : structureReading body table final coreSheet strictly (shape 0) enough (3 ∷ []) ≡ finished core
 unfolding computed
 core-is = refl
 
 -- the group of the rings is the only one, so that is an order
-pub core-order : orderIn (asked body table final (structureOf coreSheet) settings (shape 0)) ≡ 3 ∷ []
+pub core-order : orderIn (asked body table final (structureOf coreSheet) strictly (shape 0)) ≡ 3 ∷ []
 unfolding computed hasGroup grouped
 core-order = refl
 
 -- ---- the theorem, used on its pieces
 pub core-handed : AllHanded body table coreSheet core
 core-handed =
-    promised-output (rw core-is at (demand-3 (drained-passes-is body table final .0 passes) (structure (3 ∷ [])) coreSheet settings (shape 0) room))
+    promised-output (rw core-is at (demand-3 (drained-passes-is body table final .0 passes) (structure (3 ∷ [])) coreSheet strictly (shape 0) enough))
 
 -- the samples: an element of the table, whose own rows pass the drain again
 pub samples : ElementPiece body table 49 31
@@ -145,7 +139,7 @@ unfolding computed tableOf
 samples-rows = refl
 
 pub samples-read :
-    listReading (cut body 49 31) samplesTable 31 (0 ∷ []) settings (shape 1) room
+    listReading (cut body 49 31) samplesTable 31 (0 ∷ []) strictly (shape 1) enough
     ≡ finished (record { entries = pieceEntry 0 (record { start = 9; len = 8 }) 0 ∷ pieceEntry 0 (record { start = 17; len = 4 }) 0 ∷ []; texts = [] })
 unfolding computed
 samples-read = refl
@@ -172,7 +166,7 @@ unfolding computed tableOf
 notes-rows = refl
 
 pub notes-read :
-    mapReading (cut body 108 60) notesTable 60 (0 ∷ []) settings (shape 1) room
+    mapReading (cut body 108 60) notesTable 60 (0 ∷ []) strictly (shape 1) enough
     ≡ finished (record { entries = keyTextEntry (ascii "sap") (ascii "9") 0 ∷ []; texts = ascii "sap9" })
 unfolding computed
 notes-read = refl
