@@ -2,3 +2,6 @@
 pub mod Onward
 pub mod Fuel
 pub mod Steps
+pub mod Tags
+pub mod Placed
+pub mod Inside

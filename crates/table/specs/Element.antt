@@ -17,12 +17,12 @@ use Rattle.table.specs.Flat.{last-high}
 use Rattle.table.specs.Moved.{length-cut, moved-toks, element-rows, last-taken}
 
 -- ---- parts of a table
-each-drop : {body : List ℕ} (k : ℕ) {p : Place} {rows : List Row} → EachRow body p rows → (q : Place) × EachRow body q (drop k rows)
+pub each-drop : {body : List ℕ} (k : ℕ) {p : Place} {rows : List Row} → EachRow body p rows → (q : Place) × EachRow body q (drop k rows)
 each-drop zero {p} e = (p, e)
 each-drop (suc k) {p} none = (p, none)
 each-drop (suc k) (row o t) = each-drop k t
 
-each-take : {body : List ℕ} (c : ℕ) {p : Place} {rows : List Row} → EachRow body p rows → lastPosition (p .position) (take c rows) ≤ lastPosition (p .position) rows
+pub each-take : {body : List ℕ} (c : ℕ) {p : Place} {rows : List Row} → EachRow body p rows → lastPosition (p .position) (take c rows) ≤ lastPosition (p .position) rows
 each-take zero e = last-high e
 each-take (suc c) none = omega arith
 each-take (suc c) (row o t) = each-take c t
