@@ -17,7 +17,7 @@ use Rattle.table.specs.Flat.{last-high}
 use Rattle.table.specs.Moved.{length-cut, moved-toks, element-rows, last-taken}
 
 -- ---- parts of a table
-pub each-drop : {body : List ℕ} (k : ℕ) {p : Place} {rows : List Row} → EachRow body p rows → (q : Place) × EachRow body q (drop k rows)
+each-drop : {body : List ℕ} (k : ℕ) {p : Place} {rows : List Row} → EachRow body p rows → (q : Place) × EachRow body q (drop k rows)
 each-drop zero {p} e = (p, e)
 each-drop (suc k) {p} none = (p, none)
 each-drop (suc k) (row o t) = each-drop k t

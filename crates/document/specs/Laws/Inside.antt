@@ -6,21 +6,19 @@ use mathlib.Core.Bool.{Bool, true, false}
 use mathlib.Core.List.{List, [], _∷_, cons≢nil}
 use mathlib.Core.Option.{Option, none, some}
 use native.Mathlib.Omega.{arith}
-use lib.ListN.{length, take, drop, getD}
+use lib.ListN.{length, length-map, take, drop, getD}
 use lib.Seq.{take-length}
-use Rattle.lists.specs.Tests.{pick-all, false-true}
+use Rattle.lists.specs.Tests.{pick-all}
 use Rattle.table.specs.Row.{Row, Name, Tok, start, rowsOf, tokAs, tokOf, toksOf}
 use Rattle.table.specs.Rules.{Place, atFirst, after, beginOf, RowRules, EachRow, none, row, lastPosition, TableRules}
-use Rattle.table.specs.Rules as rules
 use Rattle.table.specs.Flat.{last-high}
 use Rattle.table.specs.Moved.{last-taken}
-use Rattle.table.specs.Element.{each-drop, each-take}
+use Rattle.table.specs.Element.{each-take}
 use Rattle.xml.specs.declared.Drained.{Drained}
 use Rattle.xml.specs.Drain.{walked}
 use Rattle.document.specs.View.{View, positionAt, strictView, errorAt, lenientView, view}
-use Rattle.document.specs.Reader.{StartEl, skip}
 use Rattle.document.specs.Scope.{Child, dropped, Piece, pieceEnd, pieceTo, pieceOf}
-use Rattle.document.specs.Laws.Tags.{Begun}
+use Rattle.document.specs.Laws.Fuel.{dropping-goes-on}
 use Rattle.document.specs.Laws.Placed.{Placed}
 
 -- ---- a view
@@ -156,3 +154,55 @@ position-reached none (suc j) m h e = absurd (cons≢nil (sym e))
 position-reached (row o t) j zero h e = absurd (omega (arith, h))
 position-reached (row {r = s} o t) zero (suc m) {r} h e = let q : s .position ≡ r .position = cc in omega (arith, q, last-taken t m)
 position-reached (row o t) (suc j) (suc m) h e = position-reached t j m (omega (arith, h)) e
+
+-- ---- pieces
+-- a filled part of the body that begins with `<`
+pub record PieceIn (body : List ℕ) (p : Piece) : Type 0 where
+  pub filled : 0 < p .len
+  pub within : p .start + p .len ≤ length body
+  pub lt : getD body (p .start) 0 ≡ 60
+
+module _ {body : List ℕ} {rows : List Row} {final : ℕ} {v : View} (w : ViewIn body rows final v) (c : Child) (m : Placed (toksOf body (v .rows)) c) where
+  -- the child's start is in a row of kind 1 of the view, before the reader at its content, which has not passed the rows
+  pub start-row : StartRow body (v .rows) (c .start .row)
+  start-row = token-row (w .each) (c .start .row) (m .begun .at)
+
+  pub start-before : c .start .row < c .inner .row
+  start-before = m .begun .before
+
+  pub inner-within : c .inner .row ≤ length (v .rows)
+  inner-within = omega (arith, m .inner .rows, length-map (v .rows) (tokOf body))
+
+  -- a piece from the child's `<` to any place of the body that is not before its start row's position
+  pub piece-to-in : (end : ℕ) → start-row .first .position ≤ end → end ≤ length body → PieceIn body (pieceTo body v c end)
+  piece-to-in end h i = rw (start-row .at) go
+    where
+      go : PieceIn body (record { start = beginOf body (start-row .first); len = end - beginOf body (start-row .first) })
+      go =
+          let b = start-row .rules .tagBegins (rw (start-row .starts)) in
+          let x = start-row .rules .localStart (rw (start-row .starts)) in
+          record { filled = omega (arith, b .before, x .1); within = omega (arith, b .before, x .1); lt = b .is }
+
+  -- the end of the view is such a place
+  pub view-end-in : (start-row .first .position ≤ v .ends) × (v .ends ≤ length body)
+  view-end-in =
+      let p = position-reached (w .each) (c .start .row) (length (v .rows)) (omega (arith, start-before, inner-within)) (start-row .at) in
+      (omega (arith, rw (take-length (v .rows)) at p, w .last), omega (arith, w .ends, w .within))
+
+  -- and so is the position of each later row
+  row-end-in : (k : ℕ) → c .start .row < k → (start-row .first .position ≤ lastPosition 0 (take k (v .rows))) × (lastPosition 0 (take k (v .rows)) ≤ length body)
+  row-end-in k h =
+      (position-reached (w .each) (c .start .row) k h (start-row .at), omega (arith, each-take k (w .each), w .last, w .ends, w .within))
+
+  -- THE LAW: the piece of a child is a filled part of the body that begins with `<`
+  pub piece-inside : PieceIn body (pieceOf body v c)
+  unfolding pieceOf
+  piece-inside = piece-to-in (pieceEnd v (dropped c)) (end .0) (end .1)
+    where
+      later : c .start .row < dropped c .reader .row
+      later = let g = dropping-goes-on c in omega (arith, g .short, g .rows, start-before)
+
+      end : (start-row .first .position ≤ pieceEnd v (dropped c)) × (pieceEnd v (dropped c) ≤ length body)
+      end =
+          pick-all (λ (e : ℕ). (start-row .first .position ≤ e) × (e ≤ length body)) (dropped c .ended) (lastPosition 0 (take (dropped c .reader .row) (v .rows))) (v .ends)
+          (row-end-in (dropped c .reader .row) later) view-end-in

@@ -10,7 +10,7 @@ use lib.ListN.{length, drop}
 use Rattle.lists.specs.Every.{Every, none, and, every-in}
 use Rattle.lists.specs.Tests.{pick-all, pick-cases, false-true}
 use Rattle.table.specs.Row.{Tok}
-use Rattle.document.specs.Reader.{Reader, fresh, Scope, document, Past, skip, StartEl, blank, Next, found, gone, next}
+use Rattle.document.specs.Reader.{Reader, fresh, Scope, document, Past, StartEl, blank, Next, found, gone}
 use Rattle.document.specs.Scope.{Child, scopeOf, skipFrom, shut, done, onNext, nextFrom, level, levelIn, children, childrenOf, endOf, dropping, leave, afterChildren, onRoot, rootOf}
 use Rattle.document.specs.Laws.Onward.{GoneOn, still, skip-goes-on, next-goes-on, afterNext}
 use Rattle.document.specs.Laws.Tags.{Tags, skip-outside, Begun, Ends, at-start, at-none, next-ends}
