@@ -3,3 +3,4 @@ pub mod Fold
 pub mod Within
 pub mod Order
 pub mod Fuel
+pub mod Carried
