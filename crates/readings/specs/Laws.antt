@@ -4,3 +4,4 @@ pub mod Within
 pub mod Order
 pub mod Fuel
 pub mod Carried
+pub mod Inside

@@ -31,7 +31,7 @@ last-from : (q p : ℕ) (rows : List Row) → q ≤ lastPosition p rows → last
 last-from q p [] h = h
 last-from q p (r ∷ rest) h = omega arith
 
-last-drop : {body : List ℕ} (k : ℕ) {p : Place} {rows : List Row} → EachRow body p rows → (q : ℕ) → q ≤ lastPosition (p .position) rows → lastPosition q (drop k rows) ≤ lastPosition (p .position) rows
+pub last-drop : {body : List ℕ} (k : ℕ) {p : Place} {rows : List Row} → EachRow body p rows → (q : ℕ) → q ≤ lastPosition (p .position) rows → lastPosition q (drop k rows) ≤ lastPosition (p .position) rows
 last-drop zero {p} {rows} e q h = last-from q (p .position) rows h
 last-drop (suc k) none q h = h
 last-drop (suc k) (row o t) q h = last-drop k t q h

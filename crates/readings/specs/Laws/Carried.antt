@@ -9,25 +9,26 @@ use native.Mathlib.Omega.{arith}
 use lib.ListN.{length}
 use Rattle.lists.specs.Bytes.{sameb}
 use Rattle.lists.specs.Every.{every-in}
-use Rattle.lists.specs.Tests.{pick-all}
+use Rattle.lists.specs.Tests.{pick, pick-all}
 use Rattle.refusal.specs.declared.Refusal.{Refusal}
 use Rattle.refusal.specs.Answer.{Answer, gives, refuses, onward}
 use Rattle.table.specs.Row.{Tok, rowsOf, toksOf}
-use Rattle.document.specs.View.{View}
+use Rattle.document.specs.Names.{nameMatches}
 use Rattle.document.specs.Reader.{Reader}
 use Rattle.document.specs.Scope.{Child, childrenOf, dropping, afterChildren, Piece, pieceOf}
 use Rattle.document.specs.Text.{textOf}
 use Rattle.document.specs.Laws.Tags.{rows-tags}
 use Rattle.document.specs.Laws.Placed.{Outside, Placed, Outward, level-in-placed, dropping-outward, afterChildren-outward, children-placed, root-placed}
 use Rattle.document.specs.Laws.Inside.{ViewIn, view-in}
-use Rattle.sheet.specs.Settings.{Settings}
+use Rattle.sheet.specs.declared.ShapeDepth.{ShapeDepth}
+use Rattle.sheet.specs.Settings.{Settings, testsRootName}
 use Rattle.sheet.specs.Sheet.{Structure, ListSheet, MapSheet}
-use Rattle.sheet.specs.Names.{attributeName, Indexed, membersOf, resolve, itemName, entryName, keyName, valueName, valueAggregate}
+use Rattle.sheet.specs.Names.{rootName, attributeName, Indexed, membersOf, resolve, itemName, entryName, keyName, valueName, valueAggregate}
 use Rattle.readings.specs.Output.{Entry, Room, Output, nothing, Reading, finished, refused, output, andThen, each, written, write, textEntry, pieceEntry, groupEntry, failedEntry, keyTextEntry, keyPieceEntry, writeGroup}
-use Rattle.readings.specs.Opening.{Opened, Asked, endTest}
-use Rattle.readings.specs.Structure.{attributeOf, writeFound, readAttribute, readScalar, readMember, readChild, groupOf, allOrNone, readGroups, readMembers, rootPiece, writeRoot, readUnwrapped}
+use Rattle.readings.specs.Opening.{Opened, Asked, asked, reading, endTest}
+use Rattle.readings.specs.Structure.{attributeOf, writeFound, readAttribute, readScalar, readMember, readChild, groupOf, allOrNone, readGroups, readMembers, rootPiece, writeRoot, readUnwrapped, withRootName, readOpened}
 use Rattle.readings.specs.Collection.{isWanted, readItem, readItems, writeAnswer, readString, readStrings, MapValue, text, piece, Fields, noFields, valueIn, readField, readFields, writeFields, writeEntry, readEntry, afterEntry, entriesOf, readEntries}
-use Rattle.readings.specs.Conditions.Opening.{OpenedAs}
+use Rattle.readings.specs.Conditions.Opening.{OpenedAs, AskedAs, asked-given}
 use Rattle.readings.specs.Laws.Fold.{write-keeps}
 
 -- ---- what is opened, of a table that obeys the rules
@@ -40,6 +41,15 @@ opened-in {body} {table} {final} {strict} {o} w = record { view = view; root = r
   where
     view : ViewIn body (rowsOf table) final (o .seen)
     view = rw (w .seen) (view-in (w .rules) strict)
+
+-- what is said of nothing, and of what is read where the tests before a reading pass, is said of the reading
+pub asked-carried : {S : Type 0} (R : Output → Type 0) → R nothing → (body table : List ℕ) (final : ℕ) (sheet : Option S) (settings : Settings) (depth : ShapeDepth) (f : Asked S → Reading)
+    → ((a : Asked S) → AskedAs body table final sheet settings depth a → R (output (f a))) → R (output (reading (asked body table final sheet settings depth) f))
+asked-carried {S} R before body table final sheet settings depth f g = go (asked body table final sheet settings depth) refl
+  where
+    go : (x : Answer (Asked S)) → asked body table final sheet settings depth ≡ x → R (output (reading x f))
+    go (gives a) e = g a (asked-given body table final sheet settings depth a .0 e)
+    go (refuses r) e = before
 
 -- ---- Q n is said of an output after at most n steps, each of which writes an entry or none: texts of which T holds, groups of which G holds and pieces
 -- of which P holds
@@ -69,6 +79,10 @@ after-entry-outward name all c w = pick-all (λ (r : Reader). Outside all r) (is
 entries-placed : (all : List Tok) (name : Option (List ℕ)) (c : Child) → Placed all c → (x : Child) → List·Memᴰ x (entriesOf name c) → Placed all x
 unfolding entriesOf
 entries-placed all name c p = every-in (level-in-placed all (afterEntry name) (after-entry-outward name) c (p .inner))
+
+-- a step for each member, each child and each group, and one for the root
+abbrev pub structureSteps : Structure → Opened → List ℕ → ℕ
+structureSteps s o order = suc (length (membersOf s) + length (childrenOf (o .root)) + length order)
 
 module _ {Q : ℕ → Output → Type 0} {T G : List ℕ → Type 0} {P : Piece → Type 0} (k : Keeps Q T G P) (room : Room) where
   -- ---- steps
@@ -161,7 +175,7 @@ module _ {Q : ℕ → Output → Type 0} {T G : List ℕ → Type 0} {P : Piece 
         go (finished mid) p = p
         go (refused r mid) p = k .idle n (n + length order) out (omega arith) q
 
-    pub members-carried : (s : Structure) (order : List ℕ) → Q (length (membersOf s) + length (childrenOf (o .root)) + length order) (output (readMembers body s room order o))
+    members-carried : (s : Structure) (order : List ℕ) → Q (length (membersOf s) + length (childrenOf (o .root)) + length order) (output (readMembers body s room order o))
     unfolding readMembers
     members-carried s order =
         let a = length (membersOf s) in
@@ -173,11 +187,25 @@ module _ {Q : ℕ → Output → Type 0} {T G : List ℕ → Type 0} {P : Piece 
         (λ (out : Output) q. next-steps b c (read out) _ (omega arith) (steps (readChild body (o .seen) s room) (childrenOf (o .root)) (λ c i. child-step s c (kids c i)) a out q)
         (λ (out : Output) q. next-steps b c (endTest (o .seen .illFormed) out) _ (omega arith) (end-keeps (o .seen .illFormed) b out q) (groups-steps s order b)))
 
-    pub unwrapped-carried : (s : Structure) → Q 1 (output (readUnwrapped body s room o))
+    unwrapped-carried : (s : Structure) → Q 1 (output (readUnwrapped body s room o))
     unfolding readUnwrapped
     unwrapped-carried s =
         next-steps 0 1 (endTest (o .seen .illFormed) nothing) _ (omega arith) (end-keeps (o .seen .illFormed) 0 nothing (k .start))
         (root-step (rootPiece body o) (x .root) (resolve s (o .root .start .name .local)) 0)
+
+    -- however it is read: the root's name may be refused
+    pub structure-carried : (settings : Settings) (depth : ShapeDepth) (s : Structure) (order : List ℕ)
+        → Q (structureSteps s o order) (output (readOpened body settings depth room order (record { sheet = s; opened = o })))
+    unfolding readOpened
+    structure-carried settings depth s order =
+        go (testsRootName settings depth) (nameMatches (o .root .start .name) (rootName s)) (pick (s .unwrapped) (readUnwrapped body s room o) (readMembers body s room order o))
+        (pick-all (λ (r : Reading). Q (structureSteps s o order) (output r)) (s .unwrapped) (readUnwrapped body s room o) (readMembers body s room order o)
+        (k .idle 1 (structureSteps s o order) _ (omega arith) (unwrapped-carried s)) (rests _ _ (members-carried s order)))
+      where
+        go : (tests matches : Bool) (r : Reading) → Q (structureSteps s o order) (output r) → Q (structureSteps s o order) (output (withRootName tests matches r))
+        go false matches r q = q
+        go true true r q = q
+        go true false r q = k .idle 0 (structureSteps s o order) nothing (omega arith) (k .start)
 
     -- ---- lists
     item-step : (name : Option (List ℕ)) (c : Child) → Here c → (n : ℕ) (out : Output) → Q n out → Q (suc n) (output (readItem body (o .seen) name room c out))
