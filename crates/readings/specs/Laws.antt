@@ -5,3 +5,4 @@ pub mod Order
 pub mod Fuel
 pub mod Carried
 pub mod Inside
+pub mod Find
