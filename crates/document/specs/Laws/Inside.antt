@@ -113,13 +113,14 @@ view-in {body} {table} {final} t strict = go strict
     go false = leniently (errorAt (toksOf body (rowsOf table)))
 
 -- ---- the start row of a child
--- a row of kind 1, with what the rules say of it
-pub record StartRow (body : List ℕ) (rows : List Row) (j : ℕ) : Type 0 where
+-- row j of kind 1, with what the rules say of it; from is the position before the rows
+pub record StartRow (body : List ℕ) (from : ℕ) (rows : List Row) (j : ℕ) : Type 0 where
   pub first : Row
   pub later : List Row
   pub at : drop j rows ≡ first ∷ later
   pub starts : first .kind ≡ 1
   pub place : Place
+  pub since : place .position ≡ lastPosition from (take j rows)
   pub rules : RowRules body place first later
   pub each : EachRow body (after place first) later
 
@@ -136,15 +137,15 @@ is-start (suc (suc (suc (suc (suc (suc (suc zero))))))) m n v e = let z : _≡_ 
 is-start (suc (suc (suc (suc (suc (suc (suc (suc k)))))))) m n v e = let z : _≡_ {A = ℕ} 0 1 = cc in absurd (omega arith)
 
 -- the row of a start token
-token-row : {body : List ℕ} {p : Place} {rows : List Row} → EachRow body p rows → (j : ℕ) {n : Name} {l : List Tok} → drop j (toksOf body rows) ≡ start n ∷ l → StartRow body rows j
+token-row : {body : List ℕ} {p : Place} {rows : List Row} → EachRow body p rows → (j : ℕ) {n : Name} {l : List Tok} → drop j (toksOf body rows) ≡ start n ∷ l → StartRow body (p .position) rows j
 token-row none zero e = absurd (cons≢nil (sym e))
 token-row none (suc j) e = absurd (cons≢nil (sym e))
 token-row {body} (row {p = p} {r = r} {rest = rest} o t) zero {n} e =
     let q : tokOf body r ≡ start n = cc in
-    record { first = r; later = rest; at = refl; starts = is-start (r .kind) _ n _ q; place = p; rules = o; each = t }
+    record { first = r; later = rest; at = refl; starts = is-start (r .kind) _ n _ q; place = p; since = refl; rules = o; each = t }
 token-row (row o t) (suc j) e =
     let w = token-row t j e in
-    record { first = w .first; later = w .later; at = w .at; starts = w .starts; place = w .place; rules = w .rules; each = w .each }
+    record { first = w .first; later = w .later; at = w .at; starts = w .starts; place = w .place; since = w .since; rules = w .rules; each = w .each }
 
 -- its position is reached by each front of the rows that holds it
 position-reached : {body : List ℕ} {p : Place} {rows : List Row} → EachRow body p rows → (j m : ℕ) {r : Row} {rest : List Row} → j < m → drop j rows ≡ r ∷ rest
@@ -164,7 +165,7 @@ pub record PieceIn (body : List ℕ) (p : Piece) : Type 0 where
 
 module _ {body : List ℕ} {rows : List Row} {final : ℕ} {v : View} (w : ViewIn body rows final v) (c : Child) (m : Placed (toksOf body (v .rows)) c) where
   -- the child's start is in a row of kind 1 of the view, before the reader at its content, which has not passed the rows
-  pub start-row : StartRow body (v .rows) (c .start .row)
+  pub start-row : StartRow body 0 (v .rows) (c .start .row)
   start-row = token-row (w .each) (c .start .row) (m .begun .at)
 
   pub start-before : c .start .row < c .inner .row

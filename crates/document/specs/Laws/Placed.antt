@@ -1,6 +1,6 @@
 -- The root and the children that a reader meets stand in the tokens: each has its own start in its row. So it is wherever the reader is led from one
 -- child to the next outside of start tags, as it is once a child was dropped or its children were read.
-use Prim.Native.Nat.{ℕ, zero, suc, _+_}
+use Prim.Native.Nat.{ℕ, zero, suc, _+_, _≤_}
 use mathlib.Core.Path.{_≡_, refl, _∙_}
 use mathlib.Core.Bool.{Bool, false, true}
 use mathlib.Core.List.{List, List·Memᴰ}
@@ -24,11 +24,11 @@ pub record Outside (all : List Tok) (r : Reader) : Type 0 where
 
 -- a child whose start stands in its row, before the reader at its content
 pub record Placed (all : List Tok) (c : Child) : Type 0 where
-  pub begun : Begun all (c .inner .row) (c .start)
+  pub begun : Begun all 0 (c .inner .row) (c .start)
   pub inner : Outside all (c .inner)
 
 -- the end of a level: outside of start tags if the scope's end was read
-record Left (all : List Tok) (p : Past) : Type 0 where
+pub record Left (all : List Tok) (p : Past) : Type 0 where
   inTag : Bool
   tags : Tags inTag (p .reader .rest)
   out : p .ended ≡ true → inTag ≡ false
@@ -39,10 +39,10 @@ record Left (all : List Tok) (p : Past) : Type 0 where
 abbrev pub Outward : (Child → Reader) → Type 0
 Outward past = (all : List Tok) (c : Child) → Outside all (c .inner) → Outside all (past c)
 
--- what a search from outside of start tags comes to: a child that stands in the tokens, or the end of the level
-data Meets (all : List Tok) : Next → Type 0 where
-  meets-child : {el : StartEl} {r : Reader} → Placed all (record { start = el; inner = r }) → Meets all (found el r)
-  meets-none : {p : Past} → Left all p → Meets all (gone p)
+-- what a search from outside of start tags comes to: a child that stands in the tokens, from a row on; or the end of the level
+pub data Meets (all : List Tok) (from : ℕ) : Next → Type 0 where
+  meets-child : {el : StartEl} {r : Reader} → Placed all (record { start = el; inner = r }) → from ≤ el .row → Meets all from (found el r)
+  meets-none : {p : Past} → Left all p → Meets all from (gone p)
 
 module _ (all : List Tok) where
   -- a reader that has gone on from another
@@ -52,13 +52,14 @@ module _ (all : List Tok) where
   on-left : {a : Reader} (p : Past) {b : Bool} → Outside all a → GoneOn a (p .reader) → Tags b (p .reader .rest) → (p .ended ≡ true → b ≡ false) → Left all p
   on-left p {b} w g t f = record { inTag = b; tags = t; out = f; at = g .stands all (w .at); rows = g .rows ∙ w .rows }
 
-  next-meets : (s : Scope) (r : Reader) → Outside all r → Meets all (nextFrom s r)
+  pub next-meets : (s : Scope) (r : Reader) → Outside all r → Meets all (r .row) (nextFrom s r)
   next-meets s r w =
-      go (nextFrom s r) (next-ends all s blank (r .depth) (r .row) (r .rest) (w .at) (w .tags) (λ e. false-true e))
+      go (nextFrom s r) (next-ends all (r .row) s blank (r .depth) (r .row) (r .rest) (omega arith) (w .at) (w .tags) (λ e. false-true e))
       (next-goes-on s blank (r .depth) (r .row) (r .rest))
     where
-      go : (x : Next) → Ends all x → GoneOn r (afterNext x) → Meets all x
-      go x (at-start b t) g = meets-child (record { begun = b; inner = on-outside w g t })
+      go : (x : Next) → Ends all (r .row) x → GoneOn r (afterNext x) → Meets all (r .row) x
+      go x (at-start {el = el} b t) g =
+          meets-child {el = el} (record { begun = record { later = b .later; at = b .at; since = omega arith; before = b .before }; inner = on-outside w g t }) (b .since)
       go x (at-none {p = p} t f) g = meets-none (on-left p w g t f)
 
   -- ---- the children of a scope
@@ -67,9 +68,9 @@ module _ (all : List Tok) where
   level-placed past out zero s r w = none
   level-placed past out (suc f) s r w = go (next-meets s r w) (level-placed past out f s)
     where
-      go : {x : Next} → Meets all x → ((q : Reader) → Outside all q → Every (Placed all) (children (level f past s q)))
+      go : {x : Next} → Meets all (r .row) x → ((q : Reader) → Outside all q → Every (Placed all) (children (level f past s q)))
           → Every (Placed all) (children (onNext past (level f past s) x))
-      go (meets-child {el = el} {r = r} p) ih = let c : Child = record { start = el; inner = r } in and p (ih (past c) (out all c (p .inner)))
+      go (meets-child {el = el} {r = q} p h) ih = let c : Child = record { start = el; inner = q } in and p (ih (past c) (out all c (p .inner)))
       go (meets-none l) ih = none
 
   level-left : (past : Child → Reader) → Outward past → (f : ℕ) (s : Scope) (r : Reader) → Outside all r → Left all (endOf (level f past s r))
@@ -77,8 +78,8 @@ module _ (all : List Tok) where
   level-left past out zero s r w = on-left _ w (still r) (w .tags) (λ e. refl)
   level-left past out (suc f) s r w = go (next-meets s r w) (level-left past out f s)
     where
-      go : {x : Next} → Meets all x → ((q : Reader) → Outside all q → Left all (endOf (level f past s q))) → Left all (endOf (onNext past (level f past s) x))
-      go (meets-child {el = el} {r = r} p) ih = let c : Child = record { start = el; inner = r } in ih (past c) (out all c (p .inner))
+      go : {x : Next} → Meets all (r .row) x → ((q : Reader) → Outside all q → Left all (endOf (level f past s q))) → Left all (endOf (onNext past (level f past s) x))
+      go (meets-child {el = el} {r = q} p h) ih = let c : Child = record { start = el; inner = q } in ih (past c) (out all c (p .inner))
       go (meets-none l) ih = l
 
   -- of an element
@@ -125,6 +126,6 @@ pub root-placed : (all : List Tok) → Tags false all → (c : Child) → rootOf
 unfolding rootOf
 root-placed all t c e = go (next-meets all document (fresh all) (record { at = refl; rows = omega arith; tags = t })) e
   where
-    go : {x : Next} → Meets all x → onRoot x ≡ some c → Placed all c
-    go (meets-child {el = el} {r = r} p) e = let q : record { start = el; inner = r } ≡ c = cc in rw (← q) p
+    go : {x : Next} → Meets all 0 x → onRoot x ≡ some c → Placed all c
+    go (meets-child {el = el} {r = r} p h) e = let q : record { start = el; inner = r } ≡ c = cc in rw (← q) p
     go (meets-none l) e = let z : _≡_ {A = ℕ} 0 1 = cc in absurd (omega arith)

@@ -1,7 +1,7 @@
 -- Where start tags stand among tokens: an attribute, `>` and `/>` come only in a start tag, and nothing else but a token error does. So a reader that
 -- stands outside of start tags meets each start element at the row of its own start. One that goes on anyhow need not: a search that begins in a start
 -- tag finds an element without a start of its own.
-use Prim.Native.Nat.{ℕ, zero, suc, _<_}
+use Prim.Native.Nat.{ℕ, zero, suc, _≤_, _<_}
 use mathlib.Core.Path.{_≡_, refl, sym}
 use mathlib.Core.Bool.{Bool, true, false, not}
 use mathlib.Core.List.{List, [], _∷_}
@@ -113,53 +113,54 @@ skip-outside s d k (token {b = b} {t = t} {l = l} m g) =
     (λ q. after-end s e t b q m g) (λ q. skip-outside s e (suc k) g)
 
 -- ---- the search for a start element
--- the start of el stands in its row, which is before row k
-pub record Begun (all : List Tok) (k : ℕ) (el : StartEl) : Type 0 where
+-- the start of el stands in its row, which is one of those from a row on and before row k
+pub record Begun (all : List Tok) (from k : ℕ) (el : StartEl) : Type 0 where
   pub later : List Tok
   pub at : drop (el .row) all ≡ start (el .name) ∷ later
+  pub since : from ≤ el .row
   pub before : el .row < k
 
 -- where a search ends: an element's own start was met, and the reader stands outside of start tags; or there is none, and the reader stands outside if it
 -- read the scope's end
-pub data Ends (all : List Tok) : Next → Type 0 where
-  at-start : {el : StartEl} {r : Reader} → Begun all (r .row) el → Tags false (r .rest) → Ends all (found el r)
-  at-none : {p : Past} {b : Bool} → Tags b (p .reader .rest) → (p .ended ≡ true → b ≡ false) → Ends all (gone p)
+pub data Ends (all : List Tok) (from : ℕ) : Next → Type 0 where
+  at-start : {el : StartEl} {r : Reader} → Begun all from (r .row) el → Tags false (r .rest) → Ends all from (found el r)
+  at-none : {p : Past} {b : Bool} → Tags b (p .reader .rest) → (p .ended ≡ true → b ≡ false) → Ends all from (gone p)
 
-module _ (all : List Tok) where
+module _ (all : List Tok) (from : ℕ) where
   -- o is what was met so far: in a start tag its start was
   abbrev SoFar : Bool → ℕ → StartEl → Type 0
-  SoFar b k o = b ≡ true → Begun all k o
+  SoFar b k o = b ≡ true → Begun all from k o
 
   -- by one token more; with an attribute more; and ended in `/>`
-  more : {k : ℕ} {o : StartEl} → Begun all k o → Begun all (suc k) o
-  more w = record { later = w .later; at = w .at; before = omega (arith, w .before) }
+  more : {k : ℕ} {o : StartEl} → Begun all from k o → Begun all from (suc k) o
+  more w = record { later = w .later; at = w .at; since = w .since; before = omega (arith, w .before) }
 
-  more-attribute : {k : ℕ} {o : StartEl} (n : Name) (v : List ℕ) → Begun all k o → Begun all (suc k) (withAttribute o n v)
-  more-attribute n v w = record { later = w .later; at = w .at; before = omega (arith, w .before) }
+  more-attribute : {k : ℕ} {o : StartEl} (n : Name) (v : List ℕ) → Begun all from k o → Begun all from (suc k) (withAttribute o n v)
+  more-attribute n v w = record { later = w .later; at = w .at; since = w .since; before = omega (arith, w .before) }
 
-  more-closed : {k : ℕ} {o : StartEl} → Begun all k o → Begun all (suc k) (asClosed o)
-  more-closed w = record { later = w .later; at = w .at; before = omega (arith, w .before) }
+  more-closed : {k : ℕ} {o : StartEl} → Begun all from k o → Begun all from (suc k) (asClosed o)
+  more-closed w = record { later = w .later; at = w .at; since = w .since; before = omega (arith, w .before) }
 
-  pub next-ends : (s : Scope) (o : StartEl) (d : Depth) (k : ℕ) (l : List Tok) {b : Bool} → drop k all ≡ l → Tags b l → SoFar b k o → Ends all (next s o d k l)
+  pub next-ends : (s : Scope) (o : StartEl) (d : Depth) (k : ℕ) (l : List Tok) {b : Bool} → from ≤ k → drop k all ≡ l → Tags b l → SoFar b k o → Ends all from (next s o d k l)
   unfolding next
-  next-ends s o d k [] h g f = at-none g (λ e. false-true e)
-  next-ends s o d k (start n ∷ l) h (token m g) f =
-      next-ends s _ _ (suc k) l (at-next all k h) g (λ e. record { later = l; at = h; before = omega arith })
-  next-ends s o d k (attr n v ∷ l) {b} h (token m g) f = go (unescaped v) (λ (x : List ℕ). next-ends s (withAttribute o n x) d (suc k) l (at-next all k h) g (λ e. more-attribute n x (f e)))
+  next-ends s o d k [] low h g f = at-none g (λ e. false-true e)
+  next-ends s o d k (start n ∷ l) low h (token m g) f =
+      next-ends s _ _ (suc k) l (omega (arith, low)) (at-next all k h) g (λ e. record { later = l; at = h; since = low; before = omega arith })
+  next-ends s o d k (attr n v ∷ l) {b} low h (token m g) f = go (unescaped v) (λ (x : List ℕ). next-ends s (withAttribute o n x) d (suc k) l (omega (arith, low)) (at-next all k h) g (λ e. more-attribute n x (f e)))
     where
-      go : (u : Out) → ((x : List ℕ) → Ends all (next s (withAttribute o n x) d (suc k) l))
-          → Ends all (take-turn (onAttribute o n u) (reader d (suc k) l) (λ (o' : StartEl). next s o' d (suc k) l))
+      go : (u : Out) → ((x : List ℕ) → Ends all from (next s (withAttribute o n x) d (suc k) l))
+          → Ends all from (take-turn (onAttribute o n u) (reader d (suc k) l) (λ (o' : StartEl). next s o' d (suc k) l))
       go (bytes x) ih = ih x
       go (text.bad at) ih = at-none g (λ e. false-true e)
-  next-ends s o d k (gt ∷ l) h (token m g) f = at-start (more (f m)) g
-  next-ends s o d k (close n ∷ l) {b} h (token m g) f =
-      go (isEnd s (shallower d) n) (next-ends s o (shallower d) (suc k) l (at-next all k h) g (λ e. more (f e)))
+  next-ends s o d k (gt ∷ l) low h (token m g) f = at-start (more (f m)) g
+  next-ends s o d k (close n ∷ l) {b} low h (token m g) f =
+      go (isEnd s (shallower d) n) (next-ends s o (shallower d) (suc k) l (omega (arith, low)) (at-next all k h) g (λ e. more (f e)))
     where
-      go : (ends : Bool) → Ends all (next s o (shallower d) (suc k) l)
-          → Ends all (take-turn (onClose o ends) (reader (shallower d) (suc k) l) (λ (o' : StartEl). next s o' (shallower d) (suc k) l))
+      go : (ends : Bool) → Ends all from (next s o (shallower d) (suc k) l)
+          → Ends all from (take-turn (onClose o ends) (reader (shallower d) (suc k) l) (λ (o' : StartEl). next s o' (shallower d) (suc k) l))
       go true ih = at-none g (λ e. not-inside b m)
       go false ih = ih
-  next-ends s o d k (slash ∷ l) h (token m g) f = at-start (more-closed (f m)) g
-  next-ends s o d k (text v ∷ l) h (token m g) f = next-ends s o d (suc k) l (at-next all k h) g (λ e. more (f e))
-  next-ends s o d k (misc ∷ l) h (token m g) f = next-ends s o d (suc k) l (at-next all k h) g (λ e. more (f e))
-  next-ends s o d k (bad ∷ l) h (token m g) f = next-ends s o d (suc k) l (at-next all k h) g (λ e. more (f e))
+  next-ends s o d k (slash ∷ l) low h (token m g) f = at-start (more-closed (f m)) g
+  next-ends s o d k (text v ∷ l) low h (token m g) f = next-ends s o d (suc k) l (omega (arith, low)) (at-next all k h) g (λ e. more (f e))
+  next-ends s o d k (misc ∷ l) low h (token m g) f = next-ends s o d (suc k) l (omega (arith, low)) (at-next all k h) g (λ e. more (f e))
+  next-ends s o d k (bad ∷ l) low h (token m g) f = next-ends s o d (suc k) l (omega (arith, low)) (at-next all k h) g (λ e. more (f e))

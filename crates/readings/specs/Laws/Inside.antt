@@ -37,7 +37,7 @@ pub root-piece-inside : {body table : List ℕ} {final : ℕ} {o : Opened} → O
 unfolding rootPiece closing
 root-piece-inside {body} {o = o} w = piece-to-in (w .view) (o .root) (w .root) _ (end .0) (end .1)
   where
-    at : StartRow body (o .seen .rows) (o .root .start .row)
+    at : StartRow body 0 (o .seen .rows) (o .root .start .row)
     at = start-row (w .view) (o .root) (w .root)
 
     closes : (at .first .position ≤ lastPosition 0 (take (closing 0 (rootRows o)) (rootRows o))) × (lastPosition 0 (take (closing 0 (rootRows o)) (rootRows o)) ≤ length body)
