@@ -6,3 +6,4 @@ pub mod Steps
 pub mod Tags
 pub mod Placed
 pub mod Inside
+pub mod Short
