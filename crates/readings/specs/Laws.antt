@@ -6,3 +6,4 @@ pub mod Fuel
 pub mod Carried
 pub mod Inside
 pub mod Find
+pub mod Siblings

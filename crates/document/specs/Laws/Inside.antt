@@ -207,3 +207,12 @@ module _ {body : List ℕ} {rows : List Row} {final : ℕ} {v : View} (w : ViewI
       end =
           pick-all (λ (e : ℕ). (start-row .first .position ≤ e) × (e ≤ length body)) (dropped c .ended) (lastPosition 0 (take (dropped c .reader .row) (v .rows))) (v .ends)
           (row-end-in (dropped c .reader .row) later) view-end-in
+
+  -- it begins no earlier than the row before its start ended, and it ends where the last row read for it did
+  pub piece-since : lastPosition 0 (take (c .start .row) (v .rows)) ≤ pieceOf body v c .start
+  unfolding pieceOf
+  piece-since = rw (start-row .at) (omega (arith, start-row .since, start-row .rules .tagBegins (rw (start-row .starts)) .late))
+
+  pub piece-ends : pieceOf body v c .start + pieceOf body v c .len ≡ pieceEnd v (dropped c)
+  unfolding pieceOf
+  piece-ends = omega (arith, piece-inside .filled)
