@@ -27,7 +27,9 @@ use Rattle.readings.specs.Structure.{rootPiece, readOpened, structureRea
 use Rattle.readings.specs.Collection.{readItems, listReading, readStrings, stringListReading, readEntries, mapReading}
 use Rattle.readings.specs.Conditions.Opening.{AskedAs, asked-given}
 use Rattle.readings.specs.Demand.Promise.{Shape, structure, list, map, strings, read}
-use Rattle.readings.specs.Laws.Carried.{asked-carried, OpenedIn, opened-in, Keeps, Sources, structure-carried, items-carried, strings-carried, entries-carried}
+use Rattle.readings.specs.Laws.Carried.Keeps.{asked-carried, OpenedIn, opened-in, Keeps, Sources}
+use Rattle.readings.specs.Laws.Carried.Structure.{structure-carried}
+use Rattle.readings.specs.Laws.Carried.Collection.{items-carried, strings-carried, entries-carried}
 
 -- ---- the root's piece
 abbrev rootRows : Opened → List Row
@@ -63,23 +65,24 @@ pub record AllIn (body : List ℕ) (out : Output) : Type 0 where
 none-in : (body : List ℕ) → AllIn body nothing
 none-in body = record { each = none }
 
--- nothing is said of texts and groups
-abbrev Anything : List ℕ → Type 0
-Anything b = Unit {0}
+-- nothing is said of members, texts and groups
+abbrev Anything : {A : Type 0} → A → Type 0
+Anything a = Unit {0}
 
 module _ (body : List ℕ) where
   more-in : {e : Entry} {texts : List ℕ} (out : Output) → AllIn body out → EntryIn body e → AllIn body (record { entries = out .entries ++ e ∷ []; texts = texts })
   more-in out q h = record { each = every-snoc (q .each) h }
 
-  in-keeps : Keeps (λ (n : ℕ) (out : Output). AllIn body out) Anything Anything (PieceIn body)
+  in-keeps : Keeps (λ (n : ℕ) (out : Output). AllIn body out) Anything Anything Anything (PieceIn body)
   in-keeps =
       record {
         start = none-in body;
+        item = tt {0};
         idle = λ n m out h q. q;
-        text = λ n i b out t q. more-in out q (record { piece = λ e. absurd (omega (arith, e)) });
-        piece = λ n i p out h q. more-in out q (record { piece = λ e. h });
-        group = λ n i b out t q. more-in out q (record { piece = λ e. absurd (omega (arith, e)) });
-        failed = λ n i r out q. more-in out q (record { piece = λ e. absurd (omega (arith, e)) });
+        text = λ n i b out m t q. more-in out q (record { piece = λ e. absurd (omega (arith, e)) });
+        piece = λ n i p out m h q. more-in out q (record { piece = λ e. h });
+        group = λ n i b out m t q. more-in out q (record { piece = λ e. absurd (omega (arith, e)) });
+        failed = λ n i r out m q. more-in out q (record { piece = λ e. absurd (omega (arith, e)) });
         keyText = λ n y b out s t q. more-in out q (record { piece = λ e. absurd (omega (arith, e)) });
         keyPiece = λ n y p out t h q. more-in out q (record { piece = λ e. h });
       }
@@ -100,7 +103,7 @@ pub entries-inside : (shape : Shape) (body table : List ℕ) (final : ℕ) (shee
 unfolding structureReading listReading mapReading stringListReading
 entries-inside (structure order) body table final sheet settings depth room =
     asked-carried (AllIn body) (none-in body) body table final (structureOf sheet) settings depth (readOpened body settings depth room order)
-    (λ a w. let o = opened-in (w .begun) in structure-carried (in-keeps body) room (in-sources body o) (o .root) settings depth (a .sheet) order)
+    (λ a w. let o = opened-in (w .begun) in structure-carried (in-keeps body) room (in-sources body o) (o .root) settings depth (a .sheet) (λ m i. tt {0}) order (λ i m. tt {0}))
 entries-inside list body table final sheet settings depth room =
     asked-carried (AllIn body) (none-in body) body table final (listOf sheet) settings depth (readItems body settings room)
     (λ a w. let o = opened-in (w .begun) in items-carried (in-keeps body) room (in-sources body o) (o .root) settings (a .sheet))
