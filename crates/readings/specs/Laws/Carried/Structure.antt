@@ -1,9 +1,9 @@
 -- What each write keeps, a structure keeps.
 use Prim.Native.Nat.{ℕ, suc, _+_}
-use mathlib.Core.Path.{_≡_, refl, sym}
+use mathlib.Core.Path.{_≡_, refl}
 use mathlib.Core.Bool.{Bool, true, false}
-use mathlib.Core.List.{List, [], _∷_, List·Memᴰ, List·Memᴰ·head, List·Memᴰ·tail}
-use mathlib.Core.Option.{Option, none, some, Option·some-ne-none, Option·some-injective}
+use mathlib.Core.List.{List, [], List·Memᴰ}
+use mathlib.Core.Option.{Option, none, some}
 use native.Mathlib.Omega.{arith}
 use lib.ListN.{length}
 use Rattle.lists.specs.Tests.{pick, pick-all}
@@ -16,22 +16,13 @@ use Rattle.document.specs.Laws.Placed.{Placed, children-placed}
 use Rattle.sheet.specs.declared.ShapeDepth.{ShapeDepth}
 use Rattle.sheet.specs.Settings.{Settings, testsRootName}
 use Rattle.sheet.specs.Sheet.{Structure}
-use Rattle.sheet.specs.Names.{rootName, attributeName, Indexed, membersOf, resolve, nameOf, isNamed, firstNamed}
+use Rattle.sheet.specs.Names.{rootName, attributeName, Indexed, membersOf, resolve}
 use Rattle.readings.specs.Output.{Room, Output, nothing, Reading, finished, refused, output, each, textEntry, pieceEntry, groupEntry, failedEntry, writeGroup}
 use Rattle.readings.specs.Opening.{Opened, endTest}
 use Rattle.readings.specs.Structure.{attributeOf, writeFound, readAttribute, readScalar, readMember, readChild, groupOf, allOrNone, readGroups, readMembers, rootPiece, writeRoot, readUnwrapped, withRootName, readOpened}
 use Rattle.readings.specs.Collection.{text, piece}
+use Rattle.readings.specs.Laws.Order.{named-in}
 use Rattle.readings.specs.Laws.Carried.Keeps.{Keeps, Sources, rests, writes, steps, next-steps, end-keeps}
-
--- the member that a name resolves to is one of those searched
-named-in : (l : List Indexed) (local : List ℕ) (y : Indexed) → firstNamed l local ≡ some y → List·Memᴰ y l
-unfolding firstNamed
-named-in [] local y e = absurd (Option·some-ne-none y (sym e))
-named-in (m ∷ l) local y e = go (isNamed (nameOf (m .member)) local) e (named-in l local y)
-  where
-    go : (b : Bool) → pick b (some m) (firstNamed l local) ≡ some y → (firstNamed l local ≡ some y → List·Memᴰ y l) → List·Memᴰ y (m ∷ l)
-    go true e ih = List·Memᴰ·head (sym (Option·some-injective m y e))
-    go false e ih = List·Memᴰ·tail (ih e)
 
 -- a step for each member, each child and each group, and one for the root
 abbrev pub structureSteps : Structure → Opened → List ℕ → ℕ
