@@ -7,3 +7,4 @@ pub mod Carried
 pub mod Inside
 pub mod Find
 pub mod Siblings
+pub mod Few
