@@ -8,3 +8,4 @@ pub mod Inside
 pub mod Find
 pub mod Siblings
 pub mod Few
+pub mod Bounds
