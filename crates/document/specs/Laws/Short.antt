@@ -1,13 +1,13 @@
 -- How much a reader meets: no text and no attribute value is longer than the body, and there are no more children than tokens.
-use Prim.Native.Nat.{ℕ, zero, suc, _≤_, _<_}
-use mathlib.Core.Path.{_≡_, refl, sym, _∙_}
+use Prim.Native.Nat.{ℕ, zero, suc, _≤_}
+use mathlib.Core.Path.{_≡_, refl}
 use mathlib.Core.Bool.{Bool, true, false}
 use mathlib.Core.List.{List, [], _∷_}
 use mathlib.Core.Option.{Option, none, some}
 use native.Mathlib.Omega.{arith}
-use lib.ListN.{length, take, drop, length-take, length-drop}
+use lib.ListN.{length, drop, length-take, length-drop}
 use Rattle.lists.specs.Every.{Every, none, and, every-snoc}
-use Rattle.lists.specs.Tests.{pick, pick-all}
+use Rattle.lists.specs.Tests.{pick-all}
 use Rattle.refusal.specs.declared.Refusal.{Refusal}
 use Rattle.refusal.specs.Answer.{Answer, gives, refuses}
 use Rattle.reference.specs.Text.{Out, bytes, unescaped}
@@ -16,7 +16,7 @@ use Rattle.reference.specs.Result.{unescaped-shorter}
 use Rattle.table.specs.Row.{Row, Name, Tok, start, attr, gt, close, slash, text, misc, bad, cut, tokAs, toksOf}
 use Rattle.document.specs.declared.Depth.{Depth}
 use Rattle.document.specs.Reader.{Reader, reader, fresh, shallower, depthAfter, Scope, document, isEnd, Past, Attribute, StartEl, blank, withAttribute, onAttribute, onClose, Next, found, gone, take-turn, next}
-use Rattle.document.specs.Scope.{Child, scopeOf, shut, done, onNext, nextFrom, level, levelIn, children, onRoot, rootOf}
+use Rattle.document.specs.Scope.{Child, scopeOf, shut, done, onNext, level, levelIn, children, onRoot, rootOf}
 use Rattle.document.specs.Text.{unescapedText, atEnd, textTurn, firstText, textOf}
 use Rattle.document.specs.Laws.Onward.{Leaves, leaves-found, leaves-none, next-leaves}
 use Rattle.document.specs.Laws.Fuel.{Shortens}

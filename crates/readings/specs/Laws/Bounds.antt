@@ -1,33 +1,29 @@
 -- How much is written, on every input: the texts of a reading are shorter than 2 ^ 32 bytes, the spans of its entries lie in the text buffer or in the body, and
 -- each number of an entry is below 2 ^ 32.
-use Prim.Native.Nat.{ℕ, zero, suc, _+_, _*_, _^_, _≤_, _<_}
+use Prim.Native.Nat.{ℕ, zero, suc, _+_, _^_, _≤_, _<_}
 use mathlib.Core.Path.{_≡_, refl, sym, ap, subst}
 use mathlib.Core.Bool.{Bool, true, false}
-use mathlib.Core.List.{List, [], _∷_, _++_, List·Memᴰ}
+use mathlib.Core.List.{List, [], _∷_}
 use mathlib.Core.Option.{Option, none, some}
 use native.Mathlib.Omega.{arith}
-use lib.ListN.{length, length-map, length-take, length-append, take, drop}
-use Rattle.lists.specs.Every.{Every, none, and, every-snoc, every-map}
+use lib.ListN.{length, length-map, length-take, drop}
+use Rattle.lists.specs.Every.{Every, none, and, every-map}
 use Rattle.lists.specs.Tests.{pick}
-use Rattle.refusal.specs.declared.Refusal.{Refusal}
-use Rattle.refusal.specs.Answer.{Answer, gives, refuses}
-use Rattle.refusal.specs.Numbers.{number}
-use Rattle.table.specs.Row.{Tok, rowsOf, tokOf, toksOf}
+use Rattle.refusal.specs.Answer.{Answer, gives}
+use Rattle.table.specs.Row.{rowsOf, tokOf, toksOf}
 use Rattle.table.specs.Rules.{mostRows, mostBytes}
 use Rattle.document.specs.Names.{nameMatches}
 use Rattle.document.specs.Reader.{Attribute}
-use Rattle.document.specs.Scope.{Child, childrenOf, dropping, Piece}
-use Rattle.document.specs.Text.{textOf}
+use Rattle.document.specs.Scope.{childrenOf, dropping}
 use Rattle.document.specs.Laws.Fuel.{dropping-shortens}
-use Rattle.document.specs.Laws.Placed.{Placed}
-use Rattle.document.specs.Laws.Inside.{ViewIn, piece-inside}
+use Rattle.document.specs.Laws.Inside.{piece-inside}
 use Rattle.document.specs.Laws.Short.{ShortValue, values-short, ShortAttribute, root-attributes-short, ShortText, short-text, no-text, text-short, few-inside}
 use Rattle.sheet.specs.declared.ShapeDepth.{ShapeDepth}
 use Rattle.sheet.specs.Settings.{Settings}
-use Rattle.sheet.specs.Sheet.{mostMembers, Member, structureOf, listOf, mapOf}
+use Rattle.sheet.specs.Sheet.{Member, structureOf, listOf, mapOf}
 use Rattle.sheet.specs.Names.{indexed, entryName}
 use Rattle.sheet.specs.Limits.{few-members}
-use Rattle.readings.specs.Output.{Entry, textKind, pieceKind, groupKind, failedKind, Room, Output, nothing, Reading, output}
+use Rattle.readings.specs.Output.{Entry, Room, Output, nothing, output}
 use Rattle.readings.specs.Opening.{Opened}
 use Rattle.readings.specs.Structure.{attributeOf, readOpened, structureReading}
 use Rattle.readings.specs.Collection.{readItems, listReading, readStrings, stringListReading, afterEntry, entriesOf, readEntries, mapReading}
@@ -37,104 +33,10 @@ use Rattle.readings.specs.Laws.Fuel.{after-entry-shortens}
 use Rattle.readings.specs.Laws.Few.{index-below, FewGroups}
 use Rattle.readings.specs.Laws.Siblings.{group-short}
 use Rattle.readings.specs.Laws.Inside.{root-piece-inside}
-use Rattle.readings.specs.Laws.Carried.Keeps.{OpenedIn, opened-in, asked-carried, Keeps, Sources}
+use Rattle.readings.specs.Laws.Carried.Keeps.{OpenedIn, opened-in, asked-carried, Sources}
 use Rattle.readings.specs.Laws.Carried.Structure.{structureSteps, structure-carried}
 use Rattle.readings.specs.Laws.Carried.Collection.{items-carried, strings-carried, entries-carried}
-
--- ---- what is said of an output
--- the spans of an entry, where there are so many text bytes
-pub record EntryFits (body : List ℕ) (texts : ℕ) (e : Entry) : Type 0 where
-  pub kind : (1 ≤ e .kind) × (e .kind ≤ 4)
-  pub member : e .member < mostMembers
-  pub key : e .keyStart + e .keyLen ≤ texts
-  pub text : e .kind ≡ textKind → e .start + e .len ≤ texts
-  pub piece : e .kind ≡ pieceKind → e .start + e .len ≤ length body
-  pub group : e .kind ≡ groupKind → e .start + e .len ≤ texts
-  pub failed : e .kind ≡ failedKind → (e .start ≤ 13) × (e .len ≡ 0)
-
--- the most that one step writes: a key and a value, or a group
-abbrev mostWritten : ℕ
-mostWritten = 131089
-
-record Fits (body : List ℕ) (n : ℕ) (out : Output) : Type 0 where
-  texts : length (out .texts) ≤ n * mostWritten
-  each : Every (EntryFits body (length (out .texts))) (out .entries)
-
-refusal-small : (r : Refusal) → number r ≤ 13
-refusal-small Refusal.Table = omega arith
-refusal-small Refusal.Sheet = omega arith
-refusal-small Refusal.Depth = omega arith
-refusal-small Refusal.NoRoot = omega arith
-refusal-small Refusal.RootName = omega arith
-refusal-small Refusal.ElementInText = omega arith
-refusal-small Refusal.BadReference = omega arith
-refusal-small Refusal.TokenError = omega arith
-refusal-small Refusal.IllFormed = omega arith
-refusal-small Refusal.NoRoom = omega arith
-refusal-small Refusal.NotBoolean = omega arith
-refusal-small Refusal.NotInteger = omega arith
-refusal-small Refusal.NoSuchElement = omega arith
-
-abbrev FewBytes : ℕ → List ℕ → Type 0
-FewBytes most b = length b ≤ most
-
-abbrev PieceFits : List ℕ → Piece → Type 0
-PieceFits body p = p .start + p .len ≤ length body
-
-module _ (body : List ℕ) where
-  longer : {t u : ℕ} → t ≤ u → (e : Entry) → EntryFits body t e → EntryFits body u e
-  longer h e w =
-      record {
-        kind = w .kind;
-        member = w .member;
-        key = omega (arith, h, w .key);
-        text = λ q. omega (arith, h, w .text q);
-        piece = w .piece;
-        group = λ q. omega (arith, h, w .group q);
-        failed = w .failed;
-      }
-
-  -- an entry more, with its bytes
-  more : (n : ℕ) (out : Output) (bytes : List ℕ) (e : Entry) → Fits body n out → length bytes ≤ mostWritten → EntryFits body (length (out .texts) + length bytes) e
-      → Fits body (suc n) (record { entries = out .entries ++ e ∷ []; texts = out .texts ++ bytes })
-  more n out bytes e w h f =
-      let joined = length-append (out .texts) bytes in
-      record {
-        texts = omega (arith, joined, w .texts, h);
-        each = every-snoc (every-map (longer (omega (arith, joined))) (w .each)) (longer (omega (arith, joined)) e f);
-      }
-
-  -- an entry of each kind
-  of-text : {t : ℕ} (e : Entry) → e .kind ≡ textKind → e .member < mostMembers → e .keyStart + e .keyLen ≤ t → e .start + e .len ≤ t → EntryFits body t e
-  of-text e k m key h =
-      record { kind = (omega (arith, k), omega (arith, k)); member = m; key = key; text = λ q. h; piece = λ q. absurd (omega (arith, k, q)); group = λ q. h; failed = λ q. absurd (omega (arith, k, q)) }
-
-  of-piece : {t : ℕ} (e : Entry) → e .kind ≡ pieceKind → e .member < mostMembers → e .keyStart + e .keyLen ≤ t → e .start + e .len ≤ length body → EntryFits body t e
-  of-piece e k m key h =
-      record { kind = (omega (arith, k), omega (arith, k)); member = m; key = key; text = λ q. absurd (omega (arith, k, q)); piece = λ q. h; group = λ q. absurd (omega (arith, k, q)); failed = λ q. absurd (omega (arith, k, q)) }
-
-  of-group : {t : ℕ} (e : Entry) → e .kind ≡ groupKind → e .member < mostMembers → e .keyStart + e .keyLen ≤ t → e .start + e .len ≤ t → EntryFits body t e
-  of-group e k m key h =
-      record { kind = (omega (arith, k), omega (arith, k)); member = m; key = key; text = λ q. h; piece = λ q. absurd (omega (arith, k, q)); group = λ q. h; failed = λ q. absurd (omega (arith, k, q)) }
-
-  of-failed : {t : ℕ} (e : Entry) → e .kind ≡ failedKind → e .member < mostMembers → e .keyStart + e .keyLen ≤ t → (e .start ≤ 13) × (e .len ≡ 0) → EntryFits body t e
-  of-failed e k m key h =
-      record { kind = (omega (arith, k), omega (arith, k)); member = m; key = key; text = λ q. absurd (omega (arith, k, q)); piece = λ q. absurd (omega (arith, k, q)); group = λ q. absurd (omega (arith, k, q)); failed = λ q. h }
-
-  fits-kept : Keeps (Fits body) (λ (i : ℕ). i < mostMembers) (FewBytes mostBytes) (FewBytes (mostBytes + 17)) (PieceFits body)
-  fits-kept =
-      record {
-        start = record { texts = omega arith; each = none };
-        item = omega arith;
-        idle = λ n m out h w. record { texts = omega (arith, w .texts, h); each = w .each };
-        text = λ n i b out m t w. more n out b _ w (omega (arith, t)) (of-text _ refl m (omega arith) (omega arith));
-        piece = λ n i p out m h w. more n out [] _ w (omega arith) (of-piece _ refl m (omega arith) h);
-        group = λ n i b out m t w. more n out b _ w (omega (arith, t)) (of-group _ refl m (omega arith) (omega arith));
-        failed = λ n i r out m w. more n out [] _ w (omega arith) (of-failed _ refl m (omega arith) (refusal-small r, refl));
-        keyText = λ n y b out s t w.
-            more n out (y ++ b) _ w (omega (arith, s, t, length-append y b)) (of-text _ refl (omega arith) (omega (arith, length-append y b)) (omega (arith, length-append y b)));
-        keyPiece = λ n y p out s h w. more n out y _ w (omega (arith, s)) (of-piece _ refl (omega arith) (omega arith) h);
-      }
+use Rattle.readings.specs.Laws.Fits.{EntryFits, Fits, FewBytes, PieceFits, fits-kept}
 
 -- ---- what there is to be written
 every-dropped : {A : Type 0} {P : A → Type 0} (k : ℕ) {l : List A} → Every P l → Every P (drop k l)

@@ -1,6 +1,6 @@
 -- An order of groups has no more groups than there are members.
 use Prim.Native.Nat.{ℕ, zero, suc, _+_, _≤_, _<_}
-use mathlib.Core.Path.{_≡_, refl, sym}
+use mathlib.Core.Path.{_≡_, refl}
 use mathlib.Core.Logic.{⊎-elim}
 use mathlib.Core.Bool.{Bool, true, false}
 use mathlib.Core.List.{List, [], _∷_, List·Memᴰ, List·Memᴰ·head, List·Memᴰ·tail, List·Memᴰ·cases-cons, List·Memᴰ·not-nil}
@@ -12,9 +12,9 @@ use lib.ListN.{length}
 use Rattle.lists.specs.Tests.{pick}
 use Rattle.document.specs.Scope.{Child}
 use Rattle.sheet.specs.Sheet.{mostMembers, Member, Structure}
-use Rattle.sheet.specs.Names.{Indexed, indexed, membersOf}
+use Rattle.sheet.specs.Names.{Indexed, indexed}
 use Rattle.readings.specs.Structure.{Once, once-none, once-more, GroupOrder}
-use Rattle.readings.specs.Laws.Order.{GroupMember, group-member}
+use Rattle.readings.specs.Laws.Order.{group-member}
 
 -- ---- different numbers below n are at most n
 -- a list without its first x

@@ -1,12 +1,12 @@
 -- 01, "Find": the part that is found is a filled part of the body; "An empty part means 1 or 13". On every input.
 use Prim.Native.Nat.{ℕ, _+_, _≤_, _<_}
 use mathlib.Core.Path.{_≡_, refl, sym, subst}
-use mathlib.Core.Bool.{Bool, true, false}
+use mathlib.Core.Bool.{false}
 use mathlib.Core.List.{List, [], _∷_, List·Memᴰ, List·Memᴰ·head, List·Memᴰ·tail}
 use mathlib.Core.Option.{Option, none, some}
 use native.Mathlib.Omega.{arith}
 use lib.ListN.{length}
-use Rattle.lists.specs.Tests.{pick, pick-all}
+use Rattle.lists.specs.Tests.{pick-all}
 use Rattle.refusal.specs.declared.Refusal.{Refusal}
 use Rattle.refusal.specs.Answer.{Answer, gives, refuses, onward}
 use Rattle.table.specs.Row.{Row, rowsOf, toksOf}
@@ -16,7 +16,7 @@ use Rattle.document.specs.View.{View, view}
 use Rattle.document.specs.Scope.{Child, rootOf, childrenOf, Piece, pieceOf}
 use Rattle.document.specs.Laws.Tags.{rows-tags}
 use Rattle.document.specs.Laws.Placed.{Placed, children-placed, root-placed}
-use Rattle.document.specs.Laws.Inside.{ViewIn, view-in, PieceIn, piece-inside}
+use Rattle.document.specs.Laws.Inside.{ViewIn, view-in, piece-inside}
 use Rattle.readings.specs.Opening.{withTable, present}
 use Rattle.readings.specs.Find.{hasLocal, firstChild, wholeBody, findIn, find, partOf}
 use Rattle.readings.specs.Conditions.Opening.{given-refused, gives-same}

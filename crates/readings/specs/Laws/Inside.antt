@@ -1,31 +1,27 @@
 -- Every piece that a reading hands out is a filled part of the body that begins with `<`: on every input, strict or lenient, finished or refused. Where the
 -- table breaks the rules nothing is written.
 use Prim.Native.Nat.{ℕ, _+_, _≤_, _<_}
-use mathlib.Core.Path.{_≡_, refl}
-use mathlib.Core.Bool.{Bool, true, false}
+use mathlib.Core.Path.{_≡_}
 use mathlib.Core.List.{List, [], _∷_, _++_}
-use mathlib.Core.Option.{Option, none, some}
+use mathlib.Core.Option.{none}
 use native.Mathlib.Omega.{arith}
 use lib.Dec.{eqb}
 use lib.ListN.{length, take, drop}
 use Rattle.lists.specs.Every.{Every, none, every-snoc}
 use Rattle.lists.specs.Tests.{pick, pick-all}
-use Rattle.refusal.specs.Answer.{Answer, gives, refuses}
-use Rattle.table.specs.Row.{Row, toksOf}
+use Rattle.table.specs.Row.{Row}
 use Rattle.table.specs.Rules.{lastPosition}
 use Rattle.table.specs.Piece.{openAfter, closing, isClosed}
 use Rattle.table.specs.Moved.{last-taken}
 use Rattle.table.specs.Element.{each-take, last-drop}
-use Rattle.document.specs.Scope.{Piece}
 use Rattle.document.specs.Laws.Inside.{StartRow, start-row, view-end-in, PieceIn, piece-to-in, piece-inside}
 use Rattle.sheet.specs.declared.ShapeDepth.{ShapeDepth}
 use Rattle.sheet.specs.Settings.{Settings}
 use Rattle.sheet.specs.Sheet.{structureOf, listOf, mapOf}
-use Rattle.readings.specs.Output.{Entry, pieceKind, Output, nothing, Reading, output, Room}
-use Rattle.readings.specs.Opening.{Opened, Asked, asked, reading}
+use Rattle.readings.specs.Output.{Entry, pieceKind, Output, nothing, output, Room}
+use Rattle.readings.specs.Opening.{Opened, reading}
 use Rattle.readings.specs.Structure.{rootPiece, readOpened, structureReading}
 use Rattle.readings.specs.Collection.{readItems, listReading, readStrings, stringListReading, readEntries, mapReading}
-use Rattle.readings.specs.Conditions.Opening.{AskedAs, asked-given}
 use Rattle.readings.specs.Demand.Promise.{Shape, structure, list, map, strings, read}
 use Rattle.readings.specs.Laws.Carried.Keeps.{asked-carried, OpenedIn, opened-in, Keeps, Sources}
 use Rattle.readings.specs.Laws.Carried.Structure.{structure-carried}
