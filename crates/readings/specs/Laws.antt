@@ -1,5 +1,12 @@
--- Laws of outputs: what was written stays, what is written fits the room, and the groups have an order.
+-- Laws of outputs: what was written stays, what is written fits the room, the groups have an order, pieces lie in the body, and numbers are small.
 pub mod Fold
 pub mod Within
 pub mod Order
 pub mod Fuel
+pub mod Carried
+pub mod Inside
+pub mod Find
+pub mod Siblings
+pub mod Few
+pub mod Fits
+pub mod Bounds

@@ -22,7 +22,7 @@ each-drop zero {p} e = (p, e)
 each-drop (suc k) {p} none = (p, none)
 each-drop (suc k) (row o t) = each-drop k t
 
-each-take : {body : List ℕ} (c : ℕ) {p : Place} {rows : List Row} → EachRow body p rows → lastPosition (p .position) (take c rows) ≤ lastPosition (p .position) rows
+pub each-take : {body : List ℕ} (c : ℕ) {p : Place} {rows : List Row} → EachRow body p rows → lastPosition (p .position) (take c rows) ≤ lastPosition (p .position) rows
 each-take zero e = last-high e
 each-take (suc c) none = omega arith
 each-take (suc c) (row o t) = each-take c t
@@ -31,7 +31,7 @@ last-from : (q p : ℕ) (rows : List Row) → q ≤ lastPosition p rows → last
 last-from q p [] h = h
 last-from q p (r ∷ rest) h = omega arith
 
-last-drop : {body : List ℕ} (k : ℕ) {p : Place} {rows : List Row} → EachRow body p rows → (q : ℕ) → q ≤ lastPosition (p .position) rows → lastPosition q (drop k rows) ≤ lastPosition (p .position) rows
+pub last-drop : {body : List ℕ} (k : ℕ) {p : Place} {rows : List Row} → EachRow body p rows → (q : ℕ) → q ≤ lastPosition (p .position) rows → lastPosition q (drop k rows) ≤ lastPosition (p .position) rows
 last-drop zero {p} {rows} e q h = last-from q (p .position) rows h
 last-drop (suc k) none q h = h
 last-drop (suc k) (row o t) q h = last-drop k t q h

@@ -2,11 +2,11 @@
 -- and tokens together.
 use Prim.Native.Nat.{ℕ, suc, _+_, _≤_, _<_}
 use mathlib.Core.Path.{_≡_, refl, sym, _∙_}
-use mathlib.Core.Bool.{true, false}
+use mathlib.Core.Bool.{Bool, true, false}
 use mathlib.Core.List.{List, [], _∷_}
 use native.Mathlib.Omega.{arith}
 use lib.ListN.{length, drop}
-use Rattle.lists.specs.Tests.{pick-all}
+use Rattle.lists.specs.Tests.{pick, pick-all, false-true}
 use Rattle.table.specs.Row.{Tok}
 use Rattle.xml.specs.Past.{at-next}
 use Rattle.document.specs.declared.Depth.{Depth}
@@ -61,6 +61,18 @@ skip-row s d k l = skip-goes-on s d k l .rows
 -- a reader's tokens are always those of the table from its row on
 pub skip-rest : (all : List Tok) (s : Scope) (d : Depth) (k : ℕ) (l : List Tok) → drop k all ≡ l → skip s d k l .reader .rest ≡ drop (skip s d k l .reader .row) all
 skip-rest all s d k l h = sym (skip-goes-on s d k l .stands all h)
+
+-- one that does not meet the scope's end leaves no token
+pub skip-leaves-none : (s : Scope) (d : Depth) (k : ℕ) (l : List Tok) → skip s d k l .ended ≡ false → length (skip s d k l .reader .rest) ≡ 0
+unfolding skip
+skip-leaves-none s d k [] e = refl
+skip-leaves-none s d k (t ∷ l) e = go (endsAt s (depthAfter t d) t) (skip-leaves-none s (depthAfter t d) (suc k) l) e
+  where
+    go : (b : Bool) → (skip s (depthAfter t d) (suc k) l .ended ≡ false → length (skip s (depthAfter t d) (suc k) l .reader .rest) ≡ 0)
+        → pick b (record { ended = true; reader = reader (depthAfter t d) (suc k) l }) (skip s (depthAfter t d) (suc k) l) .ended ≡ false
+        → length (pick b (record { ended = true; reader = reader (depthAfter t d) (suc k) l }) (skip s (depthAfter t d) (suc k) l) .reader .rest) ≡ 0
+    go true ih e = false-true (sym e)
+    go false ih e = ih e
 
 -- ---- the search for a start element goes on
 -- a start element that is found leaves fewer tokens than there were; none leaves no more

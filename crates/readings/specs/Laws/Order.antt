@@ -94,7 +94,7 @@ module _ (s : Structure) (children : List Child) where
       go false x = x
 
 -- the member that a name resolves to is one of the sheet's
-named-in : (l : List Indexed) (local : List ℕ) (m : Indexed) → firstNamed l local ≡ some m → List·Memᴰ m l
+pub named-in : (l : List Indexed) (local : List ℕ) (m : Indexed) → firstNamed l local ≡ some m → List·Memᴰ m l
 unfolding firstNamed
 named-in [] local m e = let z : _≡_ {A = ℕ} 0 1 = cc in absurd (omega arith)
 named-in (n ∷ l) local m e = go (isNamed (nameOf (n .member)) local) e (named-in l local m)
@@ -109,7 +109,7 @@ pub record GroupMember (s : Structure) (i : ℕ) : Type 0 where
   pub inSheet : List·Memᴰ member (membersOf s)
   pub index : member .index ≡ i
 
-group-member : (s : Structure) (i : ℕ) (c : Child) → inGroup s i c ≡ true → GroupMember s i
+pub group-member : (s : Structure) (i : ℕ) (c : Child) → inGroup s i c ≡ true → GroupMember s i
 unfolding inGroup
 group-member s i c e = go (firstNamed (membersOf s) (c .start .name .local)) refl e
   where
