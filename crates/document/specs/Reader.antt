@@ -111,8 +111,8 @@ blank = record { name = record { prefix = []; local = [] }; attributes = []; clo
 abbrev pub begun : StartEl → Name → Depth → ℕ → StartEl
 begun o n d k = record { name = n; attributes = o .attributes; closed = o .closed; depth = d; row = k }
 
-abbrev pub withAttribute : StartEl → Name → List ℕ → StartEl
-withAttribute o m v =
+abbrev pub addAttribute : StartEl → Name → List ℕ → StartEl
+addAttribute o m v =
     record {
       name = o .name;
       attributes = o .attributes ++ record { name = m; value = v } ∷ [];
@@ -133,7 +133,7 @@ pub data Turn : Type 0 where
 
 -- "Going on to the next child after an attribute that does not unescape. The Rust ends the level there."
 abbrev pub onAttribute : StartEl → Name → Out → Turn
-onAttribute o m (bytes v) = goes (withAttribute o m v)
+onAttribute o m (bytes v) = goes (addAttribute o m v)
 onAttribute o m (text.bad at) = over false
 
 abbrev pub onClose : StartEl → Bool → Turn

@@ -19,12 +19,12 @@ abbrev pub rootName : Structure → List ℕ
 rootName s = Option·getD (orElse (s .xmlName) (orElse (s .originalName) (s .memberName))) (s .shapeName)
 
 -- "The XML name goes before the member name"
-abbrev pub nameOf : Member → Option (List ℕ)
-nameOf m = orElse (m .xmlName) (m .memberName)
+abbrev pub childName : Member → Option (List ℕ)
+childName m = orElse (m .xmlName) (m .memberName)
 
 -- "an attribute member with neither asks for the empty name"
 abbrev pub attributeName : Member → List ℕ
-attributeName m = Option·getD (nameOf m) []
+attributeName m = Option·getD (childName m) []
 
 -- a child's local name is the member's, byte for byte; a member with neither name has no child
 abbrev pub isNamed : Option (List ℕ) → List ℕ → Bool
@@ -42,7 +42,7 @@ indexed i (m ∷ rest) = record { index = i; member = m } ∷ indexed (suc i) re
 
 unfoldable pub firstNamed : List Indexed → List ℕ → Option Indexed
 firstNamed [] local = none
-firstNamed (m ∷ rest) local = pick (isNamed (nameOf (m .member)) local) (some m) (firstNamed rest local)
+firstNamed (m ∷ rest) local = pick (isNamed (childName (m .member)) local) (some m) (firstNamed rest local)
 
 -- the members of a structure, in sheet order
 abbrev pub membersOf : Structure → List Indexed

@@ -54,9 +54,9 @@ pub record ListSheet : Type 0 where
   pub item : Option Item
   pub flattened : Bool
 
-abbrev pub itemOf : Bool → Option (List ℕ) → Option (List ℕ) → Option Item
-itemOf true x m = some (record { xmlName = x; memberName = m })
-itemOf false x m = none
+abbrev pub itemIf : Bool → Option (List ℕ) → Option (List ℕ) → Option Item
+itemIf true x m = some (record { xmlName = x; memberName = m })
+itemIf false x m = none
 
 -- a bit that stands only with another
 abbrev pub onlyWith : Bool → Bool → Bool
@@ -69,7 +69,7 @@ unfoldable pub listOf : List ℕ → Option ListSheet
 listOf sheet =
     all (then (bitMap 16 sheet) (λ b s1. where-holds (pick (onlyWith (bit 1 b) (bit 4 b)) (onlyWith (bit 1 b) (bit 8 b)) false)
     (then (nameIf (bit 4 b) s1) (λ x s2. then (nameIf (bit 8 b) s2) (λ m s3.
-    front (record { item = itemOf (bit 1 b) x m; flattened = bit 2 b }) s3)))))
+    front (record { item = itemIf (bit 1 b) x m; flattened = bit 2 b }) s3)))))
 
 -- ---- map
 pub record Value : Type 0 where
@@ -81,13 +81,13 @@ pub record MapSheet : Type 0 where
   pub keyXmlName : Option (List ℕ)
   pub value : Option Value
 
-abbrev pub valueOf : Bool → Option (List ℕ) → Bool → Option Value
-valueOf true x a = some (record { xmlName = x; aggregate = a })
-valueOf false x a = none
+abbrev pub valueIf : Bool → Option (List ℕ) → Bool → Option Value
+valueIf true x a = some (record { xmlName = x; aggregate = a })
+valueIf false x a = none
 
 -- "Map: bits 0 flattened, 1 key XML name, 2 has value, 3 value XML name, 4 value aggregate (3 and 4 only with 2)."
 unfoldable pub mapOf : List ℕ → Option MapSheet
 mapOf sheet =
     all (then (bitMap 32 sheet) (λ b s1. where-holds (pick (onlyWith (bit 4 b) (bit 8 b)) (onlyWith (bit 4 b) (bit 16 b)) false)
     (then (nameIf (bit 2 b) s1) (λ k s2. then (nameIf (bit 8 b) s2) (λ x s3.
-    front (record { flattened = bit 1 b; keyXmlName = k; value = valueOf (bit 4 b) x (bit 16 b) }) s3)))))
+    front (record { flattened = bit 1 b; keyXmlName = k; value = valueIf (bit 4 b) x (bit 16 b) }) s3)))))

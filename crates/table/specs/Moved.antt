@@ -13,7 +13,7 @@ use lib.Seq.{drop-drop, take-take, getD-take, getD-drop}
 use Rattle.lists.specs.Tests.{pick, pick-same, false-true}
 use Rattle.table.specs.Row.{Row, cut, tokAs, tokOf, toksOf}
 use Rattle.table.specs.Rules.{among, usesName, Place, atFirst, after, ZeroFields, FilledSpan, FilledSpans, LocalStart, lastLt, beginOf, LastLt, EndsIn, Ending, RowRules, EachRow, none, row, lastPosition}
-use Rattle.table.specs.Piece.{openAfter, movedSpan, moved, closing}
+use Rattle.table.specs.Piece.{openCount, movedSpan, moved, closing}
 
 -- ---- parts of a body
 -- dropping some of a front
@@ -220,7 +220,7 @@ module _ (body : List ℕ) (s n d : ℕ) {p : Place} {r : Row} {rest : List Row}
 
 -- ---- the rows of an element
 -- counted without the d that are open around it
-open-less : (d : ℕ) (p : Place) (r : Row) → d < p .opened → openAfter (p .opened - d) r ≡ after p r .opened - d
+open-less : (d : ℕ) (p : Place) (r : Row) → d < p .opened → openCount (p .opened - d) r ≡ after p r .opened - d
 open-less d p r h = go (eqb (r .kind) 1) (among (4 ∷ 5 ∷ []) (r .kind))
   where
     go : (a b : Bool) → pick a (suc (p .opened - d)) (pick b (p .opened - d - 1) (p .opened - d)) ≡ pick a (suc (p .opened)) (pick b (p .opened - 1) (p .opened)) - d

@@ -30,15 +30,15 @@ moved s r =
     }
 
 -- how many elements are open after a row, where n are before it: a start row opens one, kinds 4 and 5 close one
-abbrev pub openAfter : ℕ → Row → ℕ
-openAfter n r = pick (eqb (r .kind) 1) (suc n) (pick (among (4 ∷ 5 ∷ []) (r .kind)) (n - 1) n)
+abbrev pub openCount : ℕ → Row → ℕ
+openCount n r = pick (eqb (r .kind) 1) (suc n) (pick (among (4 ∷ 5 ∷ []) (r .kind)) (n - 1) n)
 
 -- "the row that closes it, kind 4 or 5": how many rows there are up to and with the first after which none is open, where n elements are open, the element
 -- itself among them (0 before its start row); all rows where none closes it
 unfoldable pub closing : ℕ → List Row → ℕ
 closing n [] = zero
 closing n (r ∷ rest) =
-    let m = openAfter n r in
+    let m = openCount n r in
     let more = closing m rest in
     suc (pick (eqb m 0) 0 more)
 
@@ -46,7 +46,7 @@ closing n (r ∷ rest) =
 unfoldable pub isClosed : ℕ → List Row → Bool
 isClosed n [] = false
 isClosed n (r ∷ rest) =
-    let m = openAfter n r in
+    let m = openCount n r in
     let more = isClosed m rest in
     pick (eqb m 0) true more
 

@@ -16,7 +16,7 @@ use Rattle.table.specs.Row.{Row, Name, Tok, start, attr, gt, close, slash, text
 use Rattle.table.specs.Rules.{among, Place, EachRow, none, row}
 use Rattle.xml.specs.Past.{at-next}
 use Rattle.document.specs.declared.Depth.{Depth}
-use Rattle.document.specs.Reader.{Reader, reader, depthAfter, shallower, Scope, isEnd, endsAt, Past, skip, StartEl, withAttribute, asClosed, onAttribute, onClose, Next, found, gone, take-turn, next}
+use Rattle.document.specs.Reader.{Reader, reader, depthAfter, shallower, Scope, isEnd, endsAt, Past, skip, StartEl, addAttribute, asClosed, onAttribute, onClose, Next, found, gone, take-turn, next}
 use Rattle.document.specs.Scope.{shut}
 
 -- ---- the order of tokens, as far as start tags go
@@ -135,7 +135,7 @@ module _ (all : List Tok) (from : ℕ) where
   more : {k : ℕ} {o : StartEl} → Begun all from k o → Begun all from (suc k) o
   more w = record { later = w .later; at = w .at; since = w .since; before = omega (arith, w .before) }
 
-  more-attribute : {k : ℕ} {o : StartEl} (n : Name) (v : List ℕ) → Begun all from k o → Begun all from (suc k) (withAttribute o n v)
+  more-attribute : {k : ℕ} {o : StartEl} (n : Name) (v : List ℕ) → Begun all from k o → Begun all from (suc k) (addAttribute o n v)
   more-attribute n v w = record { later = w .later; at = w .at; since = w .since; before = omega (arith, w .before) }
 
   more-closed : {k : ℕ} {o : StartEl} → Begun all from k o → Begun all from (suc k) (asClosed o)
@@ -146,9 +146,9 @@ module _ (all : List Tok) (from : ℕ) where
   next-ends s o d k [] low h g f = at-none g (λ e. false-true e)
   next-ends s o d k (start n ∷ l) low h (token m g) f =
       next-ends s _ _ (suc k) l (omega (arith, low)) (at-next all k h) g (λ e. record { later = l; at = h; since = low; before = omega arith })
-  next-ends s o d k (attr n v ∷ l) {b} low h (token m g) f = go (unescaped v) (λ (x : List ℕ). next-ends s (withAttribute o n x) d (suc k) l (omega (arith, low)) (at-next all k h) g (λ e. more-attribute n x (f e)))
+  next-ends s o d k (attr n v ∷ l) {b} low h (token m g) f = go (unescaped v) (λ (x : List ℕ). next-ends s (addAttribute o n x) d (suc k) l (omega (arith, low)) (at-next all k h) g (λ e. more-attribute n x (f e)))
     where
-      go : (u : Out) → ((x : List ℕ) → Ends all from (next s (withAttribute o n x) d (suc k) l))
+      go : (u : Out) → ((x : List ℕ) → Ends all from (next s (addAttribute o n x) d (suc k) l))
           → Ends all from (take-turn (onAttribute o n u) (reader d (suc k) l) (λ (o' : StartEl). next s o' d (suc k) l))
       go (bytes x) ih = ih x
       go (text.bad at) ih = at-none g (λ e. false-true e)

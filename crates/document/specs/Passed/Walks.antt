@@ -17,7 +17,7 @@ use Rattle.xml.specs.Grammar.{Attributes, no-attribute, attribute, Element, emp
 use Rattle.xml.specs.Tests.{name-same}
 use Rattle.xml.specs.Past.{pastAttributes, pastElement, pastContent, count, grow-content}
 use Rattle.document.specs.declared.Depth.{Depth}
-use Rattle.document.specs.Reader.{depth, deeper, Reader, reader, Scope, element, Past, skip, StartEl, blank, begun, withAttribute, asClosed, found, next}
+use Rattle.document.specs.Reader.{depth, deeper, Reader, reader, Scope, element, Past, skip, StartEl, blank, begun, addAttribute, asClosed, found, next}
 use Rattle.document.specs.Scope.{Child, shut, dropped, Level, meets, done, level, levelIn, children, endOf, dropping, childrenOf, afterChildren}
 
 -- ---- what a text stands for, where all its references are right
@@ -31,7 +31,7 @@ unescapes v e = let w = valid-unescapes v (validate-complete v e) in rw (w .1)
 -- ---- the start element of an element at depth d and row k, and the reader at its content
 unfoldable pub withAttributes : {s : List Name} {l r : List Tok} → Attributes s l r → StartEl → StartEl
 withAttributes no-attribute o = o
-withAttributes (attribute {m = m} {v = v} f e a) o = withAttributes a (withAttribute o m (meaning (unescaped v)))
+withAttributes (attribute {m = m} {v = v} f e a) o = withAttributes a (addAttribute o m (meaning (unescaped v)))
 
 unfoldable pub asChild : {l r : List Tok} → Element l r → Depth → ℕ → Child
 unfolding pastAttributes withAttributes
@@ -52,22 +52,22 @@ asLevel (child x c) d k p = meets (asChild x d k) (asLevel c d (pastElement x k)
 pub with-name : {s : List Name} {l r : List Tok} (a : Attributes s l r) (o : StartEl) → withAttributes a o .name ≡ o .name
 unfolding withAttributes
 with-name no-attribute o = refl
-with-name (attribute {m = m} {v = v} f e a) o = with-name a (withAttribute o m (meaning (unescaped v)))
+with-name (attribute {m = m} {v = v} f e a) o = with-name a (addAttribute o m (meaning (unescaped v)))
 
 pub with-depth : {s : List Name} {l r : List Tok} (a : Attributes s l r) (o : StartEl) → withAttributes a o .depth ≡ o .depth
 unfolding withAttributes
 with-depth no-attribute o = refl
-with-depth (attribute {m = m} {v = v} f e a) o = with-depth a (withAttribute o m (meaning (unescaped v)))
+with-depth (attribute {m = m} {v = v} f e a) o = with-depth a (addAttribute o m (meaning (unescaped v)))
 
 pub with-row : {s : List Name} {l r : List Tok} (a : Attributes s l r) (o : StartEl) → withAttributes a o .row ≡ o .row
 unfolding withAttributes
 with-row no-attribute o = refl
-with-row (attribute {m = m} {v = v} f e a) o = with-row a (withAttribute o m (meaning (unescaped v)))
+with-row (attribute {m = m} {v = v} f e a) o = with-row a (addAttribute o m (meaning (unescaped v)))
 
 pub with-closed : {s : List Name} {l r : List Tok} (a : Attributes s l r) (o : StartEl) → withAttributes a o .closed ≡ o .closed
 unfolding withAttributes
 with-closed no-attribute o = refl
-with-closed (attribute {m = m} {v = v} f e a) o = with-closed a (withAttribute o m (meaning (unescaped v)))
+with-closed (attribute {m = m} {v = v} f e a) o = with-closed a (addAttribute o m (meaning (unescaped v)))
 
 -- ---- the skip over a part of the grammar that lies deeper than the scope
 skip-attributes : (s : Scope) {b : List Name} {l r : List Tok} (a : Attributes b l r) (d : Depth) (k : ℕ) → skip s d k l ≡ skip s d (pastAttributes a k) r
@@ -111,7 +111,7 @@ pub next-attributes : (s : Scope) {b : List Name} {l r : List Tok} (a : Attribut
 unfolding next pastAttributes withAttributes
 next-attributes s no-attribute o d k = refl
 next-attributes s (attribute {m = m} {v = v} f e a) o d k =
-    rw (unescapes v e) (next-attributes s a (withAttribute o m (meaning (unescaped v))) d (suc k))
+    rw (unescapes v e) (next-attributes s a (addAttribute o m (meaning (unescaped v))) d (suc k))
 
 pub next-element : (s : Scope) {l r : List Tok} (e : Element l r) (d : Depth) (k : ℕ)
     → next s blank d k l ≡ found (asChild e d k .start) (asChild e d k .inner)

@@ -11,7 +11,7 @@ use Rattle.lists.specs.Every.{Every, none, every-snoc}
 use Rattle.lists.specs.Tests.{pick, pick-all}
 use Rattle.table.specs.Row.{Row}
 use Rattle.table.specs.Rules.{lastPosition}
-use Rattle.table.specs.Piece.{openAfter, closing, isClosed}
+use Rattle.table.specs.Piece.{openCount, closing, isClosed}
 use Rattle.table.specs.Moved.{last-taken}
 use Rattle.table.specs.Element.{each-take, last-drop}
 use Rattle.document.specs.Laws.Inside.{StartRow, start-row, view-end-in, PieceIn, piece-to-in, piece-inside}
@@ -40,7 +40,7 @@ root-piece-inside {body} {o = o} w = piece-to-in (w .view) (o .root) (w .root) _
 
     closes : (at .first .position ≤ lastPosition 0 (take (closing 0 (rootRows o)) (rootRows o))) × (lastPosition 0 (take (closing 0 (rootRows o)) (rootRows o)) ≤ length body)
     closes =
-        let k = pick (eqb (openAfter 0 (at .first)) 0) 0 (closing (openAfter 0 (at .first)) (at .later)) in
+        let k = pick (eqb (openCount 0 (at .first)) 0) 0 (closing (openCount 0 (at .first)) (at .later)) in
         let far = last-drop (o .root .start .row) (w .view .each) 0 (omega arith) in
         let far' : lastPosition (at .first .position) (at .later) ≤ lastPosition 0 (o .seen .rows) = rw (at .at) at far in
         rw (at .at) (last-taken (at .each) k, omega (arith, each-take k (at .each), far', w .view .last, w .view .ends, w .view .within))

@@ -13,7 +13,7 @@ use Rattle.document.specs.Scope.{Child, childrenOf}
 use Rattle.sheet.specs.declared.ShapeDepth.{ShapeDepth}
 use Rattle.sheet.specs.Settings.{Settings}
 use Rattle.sheet.specs.Sheet.{Member, Structure, structureOf}
-use Rattle.sheet.specs.Names.{nameOf, isNamed, Indexed, indexed, firstNamed, membersOf}
+use Rattle.sheet.specs.Names.{childName, isNamed, Indexed, indexed, firstNamed, membersOf}
 use Rattle.readings.specs.Opening.{Asked, asked}
 use Rattle.readings.specs.Structure.{flatMember, isIndex, inGroup, Once, once-none, once-more, GroupOrder, OrderFor}
 
@@ -97,7 +97,7 @@ module _ (s : Structure) (children : List Child) where
 pub named-in : (l : List Indexed) (local : List ℕ) (m : Indexed) → firstNamed l local ≡ some m → List·Memᴰ m l
 unfolding firstNamed
 named-in [] local m e = let z : _≡_ {A = ℕ} 0 1 = cc in absurd (omega arith)
-named-in (n ∷ l) local m e = go (isNamed (nameOf (n .member)) local) e (named-in l local m)
+named-in (n ∷ l) local m e = go (isNamed (childName (n .member)) local) e (named-in l local m)
   where
     go : (t : Bool) → pick t (some n) (firstNamed l local) ≡ some m → (firstNamed l local ≡ some m → List·Memᴰ m l) → List·Memᴰ m (n ∷ l)
     go true e ih = let q : m ≡ n = cc in List·Memᴰ·head q

@@ -7,7 +7,7 @@ use mathlib.Core.Option.{Option, none, some}
 use borrow.Author.Tests.{lt-ltb}
 use Rattle.lists.specs.Tests.{pick, false-true}
 use Rattle.sheet.specs.Front.{bit}
-use Rattle.sheet.specs.Sheet.{Item, ListSheet, itemOf, onlyWith, listOf, Value, MapSheet, valueOf, mapOf}
+use Rattle.sheet.specs.Sheet.{Item, ListSheet, itemIf, onlyWith, listOf, Value, MapSheet, valueIf, mapOf}
 use Rattle.sheet.specs.Exact.InLimits.{NameIfThere, ItemIfThere, ListInLimits, ValueIfThere, MapInLimits}
 use Rattle.sheet.specs.Exact.Written.{fourBits, fiveBits, isThere, nameIfWritten, listWith, listWritten, mapWith, mapWritten}
 use Rattle.sheet.specs.Exact.Bits.{Bits, four-read, read-four, five-read, read-five}
@@ -16,7 +16,7 @@ use Rattle.sheet.specs.Exact.Fields.{AllBytes, front-value, front-rest, 
 -- ---- list
 -- "2 and 3 only with 0": the fields of a bit map that keeps to that, as a sheet has them
 list-fields : (t f : Bool) (x m : Option (List ℕ)) → pick (onlyWith t (isThere x)) (onlyWith t (isThere m)) false ≡ true → NameIfThere x → NameIfThere m
-    → ItemIfThere (itemOf t x m) × (listWith (itemOf t x m) f ≡ fourBits t f (isThere x) (isThere m) ∷ (nameIfWritten x ++ nameIfWritten m))
+    → ItemIfThere (itemIf t x m) × (listWith (itemIf t x m) f ≡ fourBits t f (isThere x) (isThere m) ∷ (nameIfWritten x ++ nameIfWritten m))
 list-fields true f x m e g h = (record { xmlName = g; memberName = h }, refl)
 list-fields false f none none e g h = (tt, refl)
 list-fields false f none (some n) e g h = false-true e
@@ -64,7 +64,7 @@ list-written-read bytes l h e =
 -- ---- map
 -- "3 and 4 only with 2": the same
 map-fields : (f : Bool) (k : Option (List ℕ)) (t : Bool) (x : Option (List ℕ)) (a : Bool) → pick (onlyWith t (isThere x)) (onlyWith t a) false ≡ true → NameIfThere x
-    → ValueIfThere (valueOf t x a) × (mapWith f k (valueOf t x a) ≡ fiveBits f (isThere k) t (isThere x) a ∷ (nameIfWritten k ++ nameIfWritten x))
+    → ValueIfThere (valueIf t x a) × (mapWith f k (valueIf t x a) ≡ fiveBits f (isThere k) t (isThere x) a ∷ (nameIfWritten k ++ nameIfWritten x))
 map-fields f k true x a e h = (h, refl)
 map-fields f k false none false e h = (tt, rw (append-nil (nameIfWritten k)))
 map-fields f k false none true e h = false-true e
