@@ -148,8 +148,8 @@ pub map-scopes : Answered ask (
     -- with the flag, a child that is not asked for is passed over at once, to the end tag of its own depth and name
     ∷ case (reading map "<m><other><k>1</x></other><entry><k>2</k><v>3</v></entry></m>" entry2-open 61 keyed itemNames 0 enough)
     (answer 0 1 (1 ∷ 0 ∷ 0 ∷ 1 ∷ 1 ∷ 1 ∷ []) "23")
-    -- a bad attribute in a field ends the entry's level: its key is there, its value is not; the next entry is read
-    ∷ case (reading map "<m><e><k>1</k><v x=\"&lt\"/><v>2</v></e><e><k>3</k><v>4</v></e></m>" entry2-field-attribute 65 keyed lenient 0 enough)
+    -- a bad attribute in a field ends the entry's level, and the rest of the entry is passed over; the next entry is read
+    ∷ case (reading map "<m><e><v x=\"&lt\"/><f><k>1</k><v>2</v></f></e><e><k>3</k><v>4</v></e></m>" entry2-field-attribute 72 keyed lenient 0 enough)
     (answer 0 1 (1 ∷ 0 ∷ 0 ∷ 1 ∷ 1 ∷ 1 ∷ []) "34")
     -- a bad attribute in an entry ends the map's level
     ∷ case (reading map "<m><e x=\"&lt\"/><e><k>1</k><v>2</v></e></m>" entry2-attribute 42 keyed lenient 0 enough) (answer 0 0 [] "")
