@@ -157,19 +157,19 @@ reading-small (structure order) g body table final sheet settings depth room =
     let s = a .sheet in
     let few = few-members sheet s (w .says) in
     steps-small body (structureSteps s (a .opened) order) _ (few-bytes (w .begun)) (omega (arith, few, length-indexed zero (s .members), few-kids (w .begun), g .few))
-    (structure-carried (fits-kept body) room (fits-sources (w .begun)) (seen (w .begun) .root) settings depth s
+    (structure-carried (fits-kept body room) (fits-sources (w .begun)) (seen (w .begun) .root) settings depth s
     (λ m i. omega (arith, index-below zero (s .members) m i, few)) order (g .each)))
 reading-small list g body table final sheet settings depth room =
     asked-carried (Small body) (none-small body) body table final (listOf sheet) settings depth (readItems body settings room)
     (λ a w. steps-small body (0 + length (childrenOf (a .opened .root))) _ (few-bytes (w .begun)) (omega (arith, few-kids (w .begun)))
-    (items-carried (fits-kept body) room (fits-sources (w .begun)) (seen (w .begun) .root) settings (a .sheet)))
+    (items-carried (fits-kept body room) (fits-sources (w .begun)) (seen (w .begun) .root) settings (a .sheet)))
 reading-small map g body table final sheet settings depth room =
     asked-carried (Small body) (none-small body) body table final (mapOf sheet) settings depth (readEntries body settings room)
     (λ a w.
     let name = entryName settings (a .sheet) in
     steps-small body (0 + length (entriesOf name (a .opened .root))) _ (few-bytes (w .begun)) (omega (arith, few-entries (w .begun) name))
-    (entries-carried (fits-kept body) room (fits-sources (w .begun)) (seen (w .begun) .root) settings (a .sheet)))
+    (entries-carried (fits-kept body room) (fits-sources (w .begun)) (seen (w .begun) .root) settings (a .sheet)))
 reading-small strings g body table final sheet settings depth room =
     asked-carried (Small body) (none-small body) body table final (listOf sheet) settings depth (readStrings settings room)
     (λ a w. steps-small body (0 + length (childrenOf (a .opened .root))) _ (few-bytes (w .begun)) (omega (arith, few-kids (w .begun)))
-    (strings-carried (fits-kept body) room (fits-sources (w .begun)) (seen (w .begun) .root) settings (a .sheet)))
+    (strings-carried (fits-kept body room) (fits-sources (w .begun)) (seen (w .begun) .root) settings (a .sheet)))

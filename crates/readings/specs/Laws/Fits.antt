@@ -11,7 +11,7 @@ use Rattle.refusal.specs.Numbers.{number}
 use Rattle.table.specs.Rules.{mostBytes}
 use Rattle.document.specs.Scope.{Piece}
 use Rattle.sheet.specs.Sheet.{mostMembers}
-use Rattle.readings.specs.Output.{Entry, textKind, pieceKind, groupKind, failedKind, Output, output}
+use Rattle.readings.specs.Output.{Entry, textKind, pieceKind, groupKind, failedKind, Room, Output, output}
 use Rattle.readings.specs.Laws.Carried.Keeps.{Keeps}
 
 -- ---- what is said of an output after n steps
@@ -94,17 +94,17 @@ module _ (body : List ℕ) where
   of-failed e k m key h =
       record { kind = (omega (arith, k), omega (arith, k)); member = m; key = key; text = λ q. absurd (omega (arith, k, q)); piece = λ q. absurd (omega (arith, k, q)); group = λ q. absurd (omega (arith, k, q)); failed = λ q. h }
 
-  pub fits-kept : Keeps (Fits body) (λ (i : ℕ). i < mostMembers) (FewBytes mostBytes) (FewBytes (mostBytes + 17)) (PieceFits body)
-  fits-kept =
+  pub fits-kept : (room : Room) → Keeps room (Fits body) (λ (i : ℕ). i < mostMembers) (FewBytes mostBytes) (FewBytes (mostBytes + 17)) (PieceFits body)
+  fits-kept room =
       record {
         start = record { texts = omega arith; each = none };
         item = omega arith;
         idle = λ n m out h w. record { texts = omega (arith, w .texts, h); each = w .each };
-        text = λ n i b out m t w. more n out b _ w (omega (arith, t)) (of-text _ refl m (omega arith) (omega arith));
-        piece = λ n i p out m h w. more n out [] _ w (omega arith) (of-piece _ refl m (omega arith) h);
-        group = λ n i b out m t w. more n out b _ w (omega (arith, t)) (of-group _ refl m (omega arith) (omega arith));
-        failed = λ n i r out m w. more n out [] _ w (omega arith) (of-failed _ refl m (omega arith) (refusal-small r, refl));
-        keyText = λ n y b out s t w.
+        text = λ n i b out m t f w. more n out b _ w (omega (arith, t)) (of-text _ refl m (omega arith) (omega arith));
+        piece = λ n i p out m h f w. more n out [] _ w (omega arith) (of-piece _ refl m (omega arith) h);
+        group = λ n i b out m t f w. more n out b _ w (omega (arith, t)) (of-group _ refl m (omega arith) (omega arith));
+        failed = λ n i r out m f w. more n out [] _ w (omega arith) (of-failed _ refl m (omega arith) (refusal-small r, refl));
+        keyText = λ n y b out s t f w.
             more n out (y ++ b) _ w (omega (arith, s, t, length-append y b)) (of-text _ refl (omega arith) (omega (arith, length-append y b)) (omega (arith, length-append y b)));
-        keyPiece = λ n y p out s h w. more n out y _ w (omega (arith, s)) (of-piece _ refl (omega arith) (omega arith) h);
+        keyPiece = λ n y p out s h f w. more n out y _ w (omega (arith, s)) (of-piece _ refl (omega arith) (omega arith) h);
       }

@@ -1,9 +1,8 @@
--- Laws of readings that write step by step: what holds of each step holds of all of them; where a refusal comes from; and that what is written
--- fits the room.
+-- Laws of readings that write step by step: where a refusal comes from; and that what is written fits the room.
 use Prim.Native.Nat.{ℕ, _+_, _≤_}
 use mathlib.Core.Path.{_≡_, refl, sym, _∙_, ap, subst₂}
 use mathlib.Core.Bool.{Bool, true, false}
-use mathlib.Core.List.{List, [], _∷_, _++_, List·Memᴰ, List·Memᴰ·head, List·Memᴰ·tail}
+use mathlib.Core.List.{List, [], _∷_, _++_}
 use native.Mathlib.Omega.{arith}
 use borrow.Author.Tests.{ltb-true, leb-true}
 use lib.Dec.{ltb, leb}
@@ -77,22 +76,7 @@ refused-each {f = f} {out = out} w =
     let at = w .reached in
     rw (at .parts, each-append f (at .earlier) (w .element ∷ at .later) out, at .read, w .refuses)
 
--- ---- what holds after each step holds after all of them
-pub each-keeps : {A : Type 0} (Q : Output → Type 0) (f : A → Output → Reading) (l : List A) →
-    ((x : A) → List·Memᴰ x l → (out : Output) → Q out → Q (output (f x out))) → (out : Output) → Q out → Q (output (each f l out))
-unfolding each
-each-keeps Q f [] step out q = q
-each-keeps {A} Q f (x ∷ l) step out q =
-    go (f x out) (step x (List·Memᴰ·head refl) out q) (each-keeps Q f l (λ (y : A) m. step y (List·Memᴰ·tail m)))
-  where
-    go : (y : Reading) → Q (output y) → ((mid : Output) → Q mid → Q (output (each f l mid))) → Q (output (andThen y (each f l)))
-    go (finished mid) q ih = ih mid q
-    go (refused r mid) q ih = q
-
-pub andThen-keeps : (Q : Output → Type 0) (r : Reading) (f : Output → Reading) → Q (output r) → ((out : Output) → Q out → Q (output (f out))) → Q (output (andThen r f))
-andThen-keeps Q (finished out) f q step = step out q
-andThen-keeps Q (refused r out) f q step = q
-
+-- ---- what holds before a write and after it
 pub write-keeps : (Q : Output → Type 0) (room : Room) (entry : ℕ → Entry) (bytes : List ℕ) (out : Output) →
     Q out → (fits room bytes out ≡ true → Q (written entry bytes out)) → Q (output (write room entry bytes out))
 write-keeps Q room entry bytes out q new =
@@ -116,13 +100,13 @@ fits-is room bytes out e = go (ltb (length (out .entries)) (room .entries)) refl
     go true p e = (omega (arith, ltb-true (length (out .entries)) (room .entries) p), leb-true _ _ e)
     go false p e = false-true e
 
+pub written-within : (room : Room) (entry : ℕ → Entry) (bytes : List ℕ) (out : Output) → fits room bytes out ≡ true → Within room (written entry bytes out)
+written-within room entry bytes out e =
+    let f = fits-is room bytes out e in
+    record {
+      entries = omega (arith, f .0, length-append (out .entries) (entry (length (out .texts)) ∷ []));
+      texts = omega (arith, f .1, length-append (out .texts) bytes);
+    }
+
 pub write-within : (room : Room) (entry : ℕ → Entry) (bytes : List ℕ) (out : Output) → Within room out → Within room (output (write room entry bytes out))
-write-within room entry bytes out q = write-keeps (Within room) room entry bytes out q new
-  where
-    new : fits room bytes out ≡ true → Within room (written entry bytes out)
-    new e =
-        let f = fits-is room bytes out e in
-        record {
-          entries = omega (arith, f .0, length-append (out .entries) (entry (length (out .texts)) ∷ []));
-          texts = omega (arith, f .1, length-append (out .texts) bytes);
-        }
+write-within room entry bytes out q = write-keeps (Within room) room entry bytes out q (written-within room entry bytes out)

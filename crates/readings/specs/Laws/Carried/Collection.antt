@@ -32,10 +32,10 @@ entries-placed : (all : List Tok) (name : Option (List ℕ)) (c : Child) → Pla
 unfolding entriesOf
 entries-placed all name c p = every-in (level-in-placed all (afterEntry name) (after-entry-outward name) c (p .inner))
 
-module _ {Q : ℕ → Output → Type 0} {M : ℕ → Type 0} {T G : List ℕ → Type 0} {P : Piece → Type 0} (k : Keeps Q M T G P) (room : Room) where
+module _ {room : Room} {Q : ℕ → Output → Type 0} {M : ℕ → Type 0} {T G : List ℕ → Type 0} {P : Piece → Type 0} (k : Keeps room Q M T G P) where
   answer-step : (a : Answer (List ℕ)) → ((b : List ℕ) → a ≡ gives b → T b) → (n : ℕ) (out : Output) → Q n out → Q (suc n) (output (writeAnswer room a out))
-  answer-step (gives b) f n out q = writes k room (textEntry 0 b) b n out q (k .text n 0 b out (k .item) (f b refl) q)
-  answer-step (refuses r) f n out q = rests k room n out q
+  answer-step (gives b) f n out q = writes k (textEntry 0 b) b n out q (k .text n 0 b out (k .item) (f b refl))
+  answer-step (refuses r) f n out q = rests k n out q
 
   module _ {body : List ℕ} {o : Opened} (x : Sources T G P body o) (root : Placed (toksOf body (o .seen .rows)) (o .root)) where
     abbrev Here : Child → Type 0
@@ -49,20 +49,20 @@ module _ {Q : ℕ → Output → Type 0} {M : ℕ → Type 0} {T G : List ℕ �
     unfolding readItem
     item-step name c h n out q =
         pick-all (λ (r : Reading). Q (suc n) (output r)) (isWanted name c) _ _
-        (writes k room (pieceEntry 0 (pieceOf body (o .seen) c)) [] n out q (k .piece n 0 (pieceOf body (o .seen) c) out (k .item) (x .piece c h) q)) (rests k room n out q)
+        (writes k (pieceEntry 0 (pieceOf body (o .seen) c)) [] n out q (k .piece n 0 (pieceOf body (o .seen) c) out (k .item) (x .piece c h))) (rests k n out q)
 
     string-step : (name : Option (List ℕ)) (c : Child) → Here c → (n : ℕ) (out : Output) → Q n out → Q (suc n) (output (readString (o .seen) name room c out))
     unfolding readString
     string-step name c h n out q =
-        pick-all (λ (r : Reading). Q (suc n) (output r)) (isWanted name c) _ _ (answer-step (textOf (o .seen .failure) c) (x .text c h) n out q) (rests k room n out q)
+        pick-all (λ (r : Reading). Q (suc n) (output r)) (isWanted name c) _ _ (answer-step (textOf (o .seen .failure) c) (x .text c h) n out q) (rests k n out q)
 
     pub items-carried : (settings : Settings) (l : ListSheet) → Q (0 + length (childrenOf (o .root))) (output (readItems body settings room (record { sheet = l; opened = o })))
     unfolding readItems
-    items-carried settings l = collected k room _ (childrenOf (o .root)) (o .seen .illFormed) (λ c i. item-step (itemName settings l) c (kids c i))
+    items-carried settings l = collected k _ (childrenOf (o .root)) (o .seen .illFormed) (λ c i. item-step (itemName settings l) c (kids c i))
 
     pub strings-carried : (settings : Settings) (l : ListSheet) → Q (0 + length (childrenOf (o .root))) (output (readStrings settings room (record { sheet = l; opened = o })))
     unfolding readStrings
-    strings-carried settings l = collected k room _ (childrenOf (o .root)) (o .seen .illFormed) (λ c i. string-step (itemName settings l) c (kids c i))
+    strings-carried settings l = collected k _ (childrenOf (o .root)) (o .seen .illFormed) (λ c i. string-step (itemName settings l) c (kids c i))
 
     -- ---- maps
     -- what the fields of a map entry have come to
@@ -111,24 +111,24 @@ module _ {Q : ℕ → Output → Type 0} {M : ℕ → Type 0} {T G : List ℕ �
         go refused-field more = refused-field
 
     write-fields-step : {y : Option (List ℕ)} {v : Option MapValue} → KeyKept y → ValueKept v → (n : ℕ) (out : Output) → Q n out → Q (suc n) (output (writeFields room y v out))
-    write-fields-step no-key v n out q = rests k room n out q
-    write-fields-step (key w) no-value n out q = rests k room n out q
-    write-fields-step (key {b = y} w) (text-value {b = b} t) n out q = writes k room (keyTextEntry y b) (y ++ b) n out q (k .keyText n y b out w t q)
-    write-fields-step (key {b = y} w) (piece-value {p = p} h) n out q = writes k room (keyPieceEntry y p) y n out q (k .keyPiece n y p out w h q)
+    write-fields-step no-key v n out q = rests k n out q
+    write-fields-step (key w) no-value n out q = rests k n out q
+    write-fields-step (key {b = y} w) (text-value {b = b} t) n out q = writes k (keyTextEntry y b) (y ++ b) n out q (k .keyText n y b out w t)
+    write-fields-step (key {b = y} w) (piece-value {p = p} h) n out q = writes k (keyPieceEntry y p) y n out q (k .keyPiece n y p out w h)
 
     write-entry-step : {a : Answer Fields} → FieldsKept a → (n : ℕ) (out : Output) → Q n out → Q (suc n) (output (writeEntry room a out))
     write-entry-step (fields w v) n out q = write-fields-step w v n out q
-    write-entry-step refused-field n out q = rests k room n out q
+    write-entry-step refused-field n out q = rests k n out q
 
     entry-step : (m : MapSheet) (name : Option (List ℕ)) (c : Child) → Here c → (n : ℕ) (out : Output) → Q n out → Q (suc n) (output (readEntry body (o .seen) m name room c out))
     unfolding readEntry
     entry-step m name c h n out q =
         pick-all (λ (r : Reading). Q (suc n) (output r)) (isWanted name c) _ _
-        (write-entry-step (fields-kept m (childrenOf c) (children-placed (toksOf body (o .seen .rows)) c h) noFields no-key no-value) n out q) (rests k room n out q)
+        (write-entry-step (fields-kept m (childrenOf c) (children-placed (toksOf body (o .seen .rows)) c h) noFields no-key no-value) n out q) (rests k n out q)
 
     pub entries-carried : (settings : Settings) (m : MapSheet)
         → Q (0 + length (entriesOf (entryName settings m) (o .root))) (output (readEntries body settings room (record { sheet = m; opened = o })))
     unfolding readEntries
     entries-carried settings m =
         let name = entryName settings m in
-        collected k room _ (entriesOf name (o .root)) (o .seen .illFormed) (λ c i. entry-step m name c (entries-placed (toksOf body (o .seen .rows)) name (o .root) root c i))
+        collected k _ (entriesOf name (o .root)) (o .seen .illFormed) (λ c i. entry-step m name c (entries-placed (toksOf body (o .seen .rows)) name (o .root) root c i))

@@ -17,10 +17,9 @@ use Rattle.document.specs.Laws.Inside.{ViewIn, view-in}
 use Rattle.sheet.specs.declared.ShapeDepth.{ShapeDepth}
 use Rattle.sheet.specs.Settings.{Settings}
 use Rattle.sheet.specs.Sheet.{Structure}
-use Rattle.readings.specs.Output.{Entry, Room, Output, nothing, Reading, finished, refused, output, andThen, each, written, write, textEntry, pieceEntry, groupEntry, failedEntry, keyTextEntry, keyPieceEntry}
+use Rattle.readings.specs.Output.{Entry, Room, Output, nothing, Reading, finished, refused, output, andThen, each, fits, written, write, textEntry, pieceEntry, groupEntry, failedEntry, keyTextEntry, keyPieceEntry}
 use Rattle.readings.specs.Opening.{Opened, Asked, asked, reading, endTest}
 use Rattle.readings.specs.Structure.{attributeOf, groupOf, rootPiece}
-use Rattle.readings.specs.Collection.{text, piece}
 use Rattle.readings.specs.Conditions.Opening.{OpenedAs, AskedAs, asked-given}
 use Rattle.readings.specs.Laws.Fold.{write-keeps}
 
@@ -45,17 +44,21 @@ asked-carried {S} R before body table final sheet settings depth f g = go (asked
     go (refuses r) e = before
 
 -- ---- Q n is said of an output after at most n steps, each of which writes an entry or none: of a member of which M holds; a text of which T holds, a group of
--- which G holds or a piece of which P holds
-pub record Keeps (Q : ℕ → Output → Type 0) (M : ℕ → Type 0) (T G : List ℕ → Type 0) (P : Piece → Type 0) : Type 0 where
+-- which G holds or a piece of which P holds; and it is written where it fits the room
+pub record Keeps (room : Room) (Q : ℕ → Output → Type 0) (M : ℕ → Type 0) (T G : List ℕ → Type 0) (P : Piece → Type 0) : Type 0 where
   pub start : Q 0 nothing
   pub item : M 0
   pub idle : (n m : ℕ) (out : Output) → n ≤ m → Q n out → Q m out
-  pub text : (n i : ℕ) (b : List ℕ) (out : Output) → M i → T b → Q n out → Q (suc n) (written (textEntry i b) b out)
-  pub piece : (n i : ℕ) (p : Piece) (out : Output) → M i → P p → Q n out → Q (suc n) (written (pieceEntry i p) [] out)
-  pub group : (n i : ℕ) (b : List ℕ) (out : Output) → M i → G b → Q n out → Q (suc n) (written (groupEntry i b) b out)
-  pub failed : (n i : ℕ) (r : Refusal) (out : Output) → M i → Q n out → Q (suc n) (written (failedEntry i r) [] out)
-  pub keyText : (n : ℕ) (k b : List ℕ) (out : Output) → T k → T b → Q n out → Q (suc n) (written (keyTextEntry k b) (k ++ b) out)
-  pub keyPiece : (n : ℕ) (k : List ℕ) (p : Piece) (out : Output) → T k → P p → Q n out → Q (suc n) (written (keyPieceEntry k p) k out)
+  pub text : (n i : ℕ) (b : List ℕ) (out : Output) → M i → T b → fits room b out ≡ true → Q n out → Q (suc n) (written (textEntry i b) b out)
+  pub piece : (n i : ℕ) (p : Piece) (out : Output) → M i → P p → fits room [] out ≡ true → Q n out → Q (suc n) (written (pieceEntry i p) [] out)
+  pub group : (n i : ℕ) (b : List ℕ) (out : Output) → M i → G b → fits room b out ≡ true → Q n out → Q (suc n) (written (groupEntry i b) b out)
+  pub failed : (n i : ℕ) (r : Refusal) (out : Output) → M i → fits room [] out ≡ true → Q n out → Q (suc n) (written (failedEntry i r) [] out)
+  pub keyText : (n : ℕ) (k b : List ℕ) (out : Output) → T k → T b → fits room (k ++ b) out ≡ true → Q n out → Q (suc n) (written (keyTextEntry k b) (k ++ b) out)
+  pub keyPiece : (n : ℕ) (k : List ℕ) (p : Piece) (out : Output) → T k → P p → fits room k out ≡ true → Q n out → Q (suc n) (written (keyPieceEntry k p) k out)
+
+-- nothing is said of it
+abbrev pub Anything : {A : Type 0} → A → Type 0
+Anything a = Unit {0}
 
 -- what is to be written of an opened body
 pub record Sources (T G : List ℕ → Type 0) (P : Piece → Type 0) (body : List ℕ) (o : Opened) : Type 0 where
@@ -65,15 +68,16 @@ pub record Sources (T G : List ℕ → Type 0) (P : Piece → Type 0) (body : Li
   pub root : P (rootPiece body o)
   pub group : (s : Structure) (i : ℕ) → G (groupOf body (o .seen) s (childrenOf (o .root)) i)
 
-module _ {Q : ℕ → Output → Type 0} {M : ℕ → Type 0} {T G : List ℕ → Type 0} {P : Piece → Type 0} (k : Keeps Q M T G P) (room : Room) where
+module _ {room : Room} {Q : ℕ → Output → Type 0} {M : ℕ → Type 0} {T G : List ℕ → Type 0} {P : Piece → Type 0} (k : Keeps room Q M T G P) where
   -- ---- steps
   -- one that writes nothing
   pub rests : (n : ℕ) (out : Output) → Q n out → Q (suc n) out
   rests n out q = k .idle n (suc n) out (omega arith) q
 
   -- one that writes an entry, if there is room
-  pub writes : (entry : ℕ → Entry) (bytes : List ℕ) (n : ℕ) (out : Output) → Q n out → Q (suc n) (written entry bytes out) → Q (suc n) (output (write room entry bytes out))
-  writes entry bytes n out q new = write-keeps (Q (suc n)) room entry bytes out (rests n out q) (λ e. new)
+  pub writes : (entry : ℕ → Entry) (bytes : List ℕ) (n : ℕ) (out : Output) → Q n out → (fits room bytes out ≡ true → Q n out → Q (suc n) (written entry bytes out))
+      → Q (suc n) (output (write room entry bytes out))
+  writes entry bytes n out q new = write-keeps (Q (suc n)) room entry bytes out (rests n out q) (λ e. new e q)
 
   -- one after another
   pub steps : {A : Type 0} (f : A → Output → Reading) (l : List A) → ((x : A) → List·Memᴰ x l → (n : ℕ) (out : Output) → Q n out → Q (suc n) (output (f x out)))
