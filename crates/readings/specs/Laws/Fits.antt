@@ -5,13 +5,13 @@ use mathlib.Core.List.{List, [], _∷_, _++_}
 use mathlib.Core.Option.{none}
 use native.Mathlib.Omega.{arith}
 use lib.ListN.{length, length-append}
-use Rattle.lists.specs.Every.{Every, none, and, every-snoc, every-map}
+use Rattle.lists.specs.Every.{Every, none, every-snoc, every-map}
 use Rattle.refusal.specs.declared.Refusal.{Refusal}
 use Rattle.refusal.specs.Numbers.{number}
 use Rattle.table.specs.Rules.{mostBytes}
 use Rattle.document.specs.Scope.{Piece}
 use Rattle.sheet.specs.Sheet.{mostMembers}
-use Rattle.readings.specs.Output.{Entry, textKind, pieceKind, groupKind, failedKind, Room, Output, output}
+use Rattle.readings.specs.Output.{Entry, textKind, pieceKind, groupKind, failedKind, Room, Output}
 use Rattle.readings.specs.Laws.Carried.Keeps.{Keeps}
 
 -- ---- what is said of an output after n steps

@@ -1,6 +1,6 @@
 -- Every piece that a reading hands out is a filled part of the body that begins with `<`: on every input, strict or lenient, finished or refused. Where the
 -- table breaks the rules nothing is written.
-use Prim.Native.Nat.{ℕ, _+_, _≤_, _<_}
+use Prim.Native.Nat.{ℕ, _≤_}
 use mathlib.Core.Path.{_≡_}
 use mathlib.Core.List.{List, [], _∷_, _++_}
 use mathlib.Core.Option.{none}
@@ -19,7 +19,7 @@ use Rattle.sheet.specs.declared.ShapeDepth.{ShapeDepth}
 use Rattle.sheet.specs.Settings.{Settings}
 use Rattle.sheet.specs.Sheet.{structureOf, listOf, mapOf}
 use Rattle.readings.specs.Output.{Entry, pieceKind, Output, nothing, output, Room}
-use Rattle.readings.specs.Opening.{Opened, reading}
+use Rattle.readings.specs.Opening.{Opened}
 use Rattle.readings.specs.Structure.{rootPiece, readOpened, structureReading}
 use Rattle.readings.specs.Collection.{readItems, listReading, readStrings, stringListReading, readEntries, mapReading}
 use Rattle.readings.specs.Demand.Promise.{Shape, structure, list, map, strings, read}

@@ -1,6 +1,6 @@
 -- Sheets in the limits (01, "Sheets and entries"): "A name is a length byte 1..255, then bytes" and "a count 0..64".
 use Prim.Native.Nat.{ℕ, _≤_}
-use mathlib.Core.List.{List, [], _∷_}
+use mathlib.Core.List.{List}
 use mathlib.Core.Option.{Option, none, some}
 use lib.ListN.{length}
 use Rattle.lists.specs.Every.{Every}
