@@ -335,7 +335,7 @@ class World:
         """Writes the files and has `rt` check them: the lines that it wrote, and whether all passed."""
         for name in os.listdir(self.specs):
             os.remove(os.path.join(self.specs, name))
-        shutil.copy(os.path.join(HERE, "definitions", "Ask.antt"), self.specs)
+        shutil.copy(os.path.join(HERE, "definitions", "Ask.antt.in"), os.path.join(self.specs, "Ask.antt"))
         with open(os.path.join(self.specs, "Lib.antt"), "w") as out:
             out.write("pub mod Ask\n" + "".join("pub mod %s\n" % name for name in texts))
         for name, text in texts.items():
