@@ -8,6 +8,7 @@ use mathlib.Core.List.{List, [], _∷_, _++_, List·Memᴰ, List·Memᴰ·head, 
 use mathlib.Core.Option.{Option, none, some}
 use Rattle.lists.specs.Tests.{pick, pick-all}
 use Rattle.lists.specs.Bytes.{sameb}
+use Rattle.lists.specs.Every.{every-in}
 use Rattle.refusal.specs.declared.Refusal.{Refusal}
 use Rattle.refusal.specs.Answer.{Answer, gives, refuses, onward}
 use Rattle.table.specs.Row.{Tok, cut, rowsOf, toksOf}
@@ -20,7 +21,7 @@ use Rattle.xml.specs.Passed.{Passed}
 use Rattle.xml.specs.Means.{drained-passes-is}
 use Rattle.xml.specs.Pass.{drained-document-is}
 use Rattle.xml.specs.Closing.{element-closed, element-last}
-use Rattle.xml.specs.Piece.{element-piece}
+use Rattle.xml.specs.Piece.{ElementPiece, element-piece}
 use Rattle.document.specs.Names.{nameMatches}
 use Rattle.document.specs.View.{View, whole, view}
 use Rattle.document.specs.Scope.{Child, childrenOf, dropping, afterChildren, rootOf, Piece, pieceOf}
@@ -31,7 +32,7 @@ use Rattle.sheet.specs.declared.ShapeDepth.{ShapeDepth}
 use Rattle.sheet.specs.Settings.{Settings, isStrict, tooDeep, testsRootName}
 use Rattle.sheet.specs.Sheet.{Structure, structureOf, listOf, MapSheet, mapOf}
 use Rattle.sheet.specs.Names.{rootName, Indexed, membersOf, resolve, itemName, entryName, attributeName, keyName, valueName, valueAggregate}
-use Rattle.readings.specs.Output.{Room, Output, nothing, Reading, refused}
+use Rattle.readings.specs.Output.{Entry, pieceKind, output, Room, Output, nothing, Reading, refused}
 use Rattle.readings.specs.Opening.{Opened, Asked, asked, reading, present, rooted, withDepth, withTable}
 use Rattle.readings.specs.Structure.{
   attributeOf,
@@ -78,7 +79,7 @@ use Rattle.readings.specs.Collection.{
   readEntries,
   mapReading,
 }
-use Rattle.readings.specs.Demand.Promise.{Shape, structure, list, map, strings, read, Condition, broken-sheet, depth-limit, root-name, element-in-text, Siblings, no-child, sibling, stranger, AllHanded, Promised, finishes, refuses}
+use Rattle.readings.specs.Demand.Promise.{Shape, structure, list, map, strings, read, Condition, broken-sheet, depth-limit, root-name, element-in-text, Siblings, no-child, sibling, stranger, AllHanded, Promised, finishes, refuses, promised-output}
 use Rattle.readings.specs.Demand.Promise as promise
 use Rattle.readings.specs.Conditions.Structure.{structure-refusal}
 use Rattle.readings.specs.Conditions.Collection.{list-refusal, map-refusal, string-list-refusal}
@@ -354,3 +355,8 @@ demand-3 {body} {table} {final} p map sheet settings depth room =
 demand-3 {body} {table} {final} p strings sheet settings depth room =
     with-condition (λ r out. string-list-refusal body table final sheet settings depth room r out .0)
     (strings-keep body table sheet final (drained-passes-is body table final .1 p) settings depth room)
+
+-- of its pieces alone: each entry of kind 2 that such a reading hands out, finished or refused, is an element of the table that passes the drain again
+pub each-piece : {body table : List ℕ} {final : ℕ} → Passed body table final → (shape : Shape) (sheet : List ℕ) (settings : Settings) (depth : ShapeDepth) (room : Room)
+    → (e : Entry) → List·Memᴰ e (output (read shape body table final sheet settings depth room) .entries) → e .kind ≡ pieceKind → ElementPiece body table (e .start) (e .len)
+each-piece p shape sheet settings depth room e i = every-in (promised-output (demand-3 p shape sheet settings depth room) .each) e i .piece
