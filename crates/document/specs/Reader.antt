@@ -156,12 +156,12 @@ pub data Next : Type 0 where
   found : StartEl → Reader → Next
   gone : Past → Next
 
-abbrev pub take-turn : Turn → Reader → (StartEl → Next) → Next
-take-turn (goes o) r more = more o
-take-turn (complete o) r more = found o r
-take-turn (over ended) r more = gone (record { ended = ended; reader = r })
+abbrev pub takeTurn : Turn → Reader → (StartEl → Next) → Next
+takeTurn (goes o) r more = more o
+takeTurn (complete o) r more = found o r
+takeTurn (over ended) r more = gone (record { ended = ended; reader = r })
 
 -- `next_start_element`: o is what was met so far
 unfoldable pub next : Scope → StartEl → Depth → ℕ → List Tok → Next
 next s o d k [] = gone (record { ended = false; reader = reader d k [] })
-next s o d k (t ∷ l) = take-turn (turn s o d k t) (reader (depthAfter t d) (suc k) l) (λ (o' : StartEl). next s o' (depthAfter t d) (suc k) l)
+next s o d k (t ∷ l) = takeTurn (turn s o d k t) (reader (depthAfter t d) (suc k) l) (λ (o' : StartEl). next s o' (depthAfter t d) (suc k) l)

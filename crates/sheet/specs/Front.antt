@@ -18,9 +18,9 @@ then (front a rest) f = f a rest
 then broken f = broken
 
 -- where the test holds
-abbrev pub where-holds : {A : Type 0} → Bool → Front A → Front A
-where-holds true f = f
-where-holds false f = broken
+abbrev pub whereHolds : {A : Type 0} → Bool → Front A → Front A
+whereHolds true f = f
+whereHolds false f = broken
 
 abbrev pub byte : List ℕ → Front ℕ
 byte [] = broken
@@ -28,7 +28,7 @@ byte (b ∷ rest) = front b rest
 
 -- a bit map of so many values: "higher bits are 0"
 abbrev pub bitMap : ℕ → List ℕ → Front ℕ
-bitMap values s = then (byte s) (λ b rest. where-holds (ltb b values) (front b rest))
+bitMap values s = then (byte s) (λ b rest. whereHolds (ltb b values) (front b rest))
 
 -- the bit of value v (1, 2, 4, ..) stands in b
 abbrev pub bit : ℕ → ℕ → Bool
@@ -36,7 +36,7 @@ bit v b = eqb (b / v % 2) 1
 
 -- "A name is a length byte 1..255, then bytes."
 abbrev pub name : List ℕ → Front (List ℕ)
-name s = then (byte s) (λ n rest. where-holds (pick (leb 1 n) (leb n (length rest)) false) (front (take n rest) (drop n rest)))
+name s = then (byte s) (λ n rest. whereHolds (pick (leb 1 n) (leb n (length rest)) false) (front (take n rest) (drop n rest)))
 
 -- a name that is there where its bit stands
 abbrev pub nameIf : Bool → List ℕ → Front (Option (List ℕ))

@@ -8,7 +8,7 @@ use native.Mathlib.Omega.{arith}
 use borrow.Author.Tests.{leb-true}
 use lib.Dec.{leb}
 use lib.ListN.{length}
-use Rattle.sheet.specs.Front.{Front, front, broken, then, where-holds, byte, bitMap, bit, name, nameIf, times, all}
+use Rattle.sheet.specs.Front.{Front, front, broken, then, whereHolds, byte, bitMap, bit, name, nameIf, times, all}
 use Rattle.sheet.specs.Sheet.{mostMembers, Member, Structure, member, memberList, structureOf}
 
 -- what holds of a field, where it is not broken
@@ -37,7 +37,7 @@ times-holds {A} field (suc n) s =
 few-listed : (s : List ℕ) → Holds (λ (l : List Member). length l ≤ mostMembers) (memberList s)
 few-listed s = then-holds _ (any (byte s)) (λ n rest u. go n rest (leb n mostMembers) refl)
   where
-    go : (n : ℕ) (rest : List ℕ) (b : Bool) → leb n mostMembers ≡ b → Holds (λ (l : List Member). length l ≤ mostMembers) (where-holds b (times member n rest))
+    go : (n : ℕ) (rest : List ℕ) (b : Bool) → leb n mostMembers ≡ b → Holds (λ (l : List Member). length l ≤ mostMembers) (whereHolds b (times member n rest))
     go n rest true e = more (times-holds member n rest)
       where
         more : {x : Front (List Member)} → Holds (λ (l : List Member). length l ≤ n) x → Holds (λ (l : List Member). length l ≤ mostMembers) x

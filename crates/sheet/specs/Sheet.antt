@@ -5,7 +5,7 @@ use mathlib.Core.List.{List}
 use mathlib.Core.Option.{Option, none, some}
 use lib.Dec.{leb}
 use Rattle.lists.specs.Tests.{pick}
-use Rattle.sheet.specs.Front.{Front, front, then, where-holds, byte, bitMap, bit, name, nameIf, times, all}
+use Rattle.sheet.specs.Front.{Front, front, then, whereHolds, byte, bitMap, bit, name, nameIf, times, all}
 
 -- ---- "a count 0..64"
 abbrev pub mostMembers : ℕ
@@ -35,7 +35,7 @@ member s =
     front (record { xmlName = x; memberName = m; attribute = bit 4 b; flattened = bit 8 b; aggregate = bit 16 b }) s3)))
 
 abbrev pub memberList : List ℕ → Front (List Member)
-memberList s = then (byte s) (λ n rest. where-holds (leb n mostMembers) (times member n rest))
+memberList s = then (byte s) (λ n rest. whereHolds (leb n mostMembers) (times member n rest))
 
 unfoldable pub structureOf : List ℕ → Option Structure
 unfolding times
@@ -67,7 +67,7 @@ onlyWith false false = true
 -- "List: bits 0 has member, 1 flattened, 2 its XML name, 3 its member name (2 and 3 only with 0)."
 unfoldable pub listOf : List ℕ → Option ListSheet
 listOf sheet =
-    all (then (bitMap 16 sheet) (λ b s1. where-holds (pick (onlyWith (bit 1 b) (bit 4 b)) (onlyWith (bit 1 b) (bit 8 b)) false)
+    all (then (bitMap 16 sheet) (λ b s1. whereHolds (pick (onlyWith (bit 1 b) (bit 4 b)) (onlyWith (bit 1 b) (bit 8 b)) false)
     (then (nameIf (bit 4 b) s1) (λ x s2. then (nameIf (bit 8 b) s2) (λ m s3.
     front (record { item = itemIf (bit 1 b) x m; flattened = bit 2 b }) s3)))))
 
@@ -88,6 +88,6 @@ valueIf false x a = none
 -- "Map: bits 0 flattened, 1 key XML name, 2 has value, 3 value XML name, 4 value aggregate (3 and 4 only with 2)."
 unfoldable pub mapOf : List ℕ → Option MapSheet
 mapOf sheet =
-    all (then (bitMap 32 sheet) (λ b s1. where-holds (pick (onlyWith (bit 4 b) (bit 8 b)) (onlyWith (bit 4 b) (bit 16 b)) false)
+    all (then (bitMap 32 sheet) (λ b s1. whereHolds (pick (onlyWith (bit 4 b) (bit 8 b)) (onlyWith (bit 4 b) (bit 16 b)) false)
     (then (nameIf (bit 2 b) s1) (λ k s2. then (nameIf (bit 8 b) s2) (λ x s3.
     front (record { flattened = bit 1 b; keyXmlName = k; value = valueIf (bit 4 b) x (bit 16 b) }) s3)))))

@@ -10,7 +10,7 @@ use Rattle.lists.specs.Tests.{pick, pick-all, false-true}
 use Rattle.table.specs.Row.{Tok}
 use Rattle.xml.specs.Past.{at-next}
 use Rattle.document.specs.declared.Depth.{Depth}
-use Rattle.document.specs.Reader.{Reader, reader, depthAfter, Scope, endsAt, Past, skip, StartEl, Turn, goes, complete, over, turn, Next, found, gone, take-turn, next}
+use Rattle.document.specs.Reader.{Reader, reader, depthAfter, Scope, endsAt, Past, skip, StartEl, Turn, goes, complete, over, turn, Next, found, gone, takeTurn, next}
 
 -- ---- a reader that has gone on from another
 -- it has no more tokens left; its row number and what is left come to the same sum; and if the first had the tokens of a table from its row on,
@@ -85,7 +85,7 @@ leaves-more (leaves-found r g h) = leaves-found r (one-more g) (omega (arith, h)
 leaves-more (leaves-none p g) = leaves-none p (one-more g)
 
 leaves-turn : (t : Turn) (r : Reader) (more : StartEl → Next) {from : Reader} → GoneOn from r → length (r .rest) < length (from .rest)
-    → ((o : StartEl) → Leaves from (more o)) → Leaves from (take-turn t r more)
+    → ((o : StartEl) → Leaves from (more o)) → Leaves from (takeTurn t r more)
 leaves-turn (goes o) r more g h f = f o
 leaves-turn (complete o) r more g h f = leaves-found r g h
 leaves-turn (over ended) r more g h f = leaves-none (record { ended = ended; reader = r }) g

@@ -15,7 +15,7 @@ use Rattle.reference.specs.Text as text
 use Rattle.reference.specs.Result.{unescaped-shorter}
 use Rattle.table.specs.Row.{Row, Name, Tok, start, attr, gt, close, slash, text, misc, bad, cut, tokAs, toksOf}
 use Rattle.document.specs.declared.Depth.{Depth}
-use Rattle.document.specs.Reader.{Reader, reader, fresh, shallower, depthAfter, Scope, document, isEnd, Past, Attribute, StartEl, blank, addAttribute, onAttribute, onClose, Next, found, gone, take-turn, next}
+use Rattle.document.specs.Reader.{Reader, reader, fresh, shallower, depthAfter, Scope, document, isEnd, Past, Attribute, StartEl, blank, addAttribute, onAttribute, onClose, Next, found, gone, takeTurn, next}
 use Rattle.document.specs.Scope.{Child, scopeOf, shut, done, onNext, level, levelIn, children, onRoot, rootOf}
 use Rattle.document.specs.Text.{unescapedText, atEnd, textTurn, firstText, textOf}
 use Rattle.document.specs.Laws.Onward.{Leaves, leaves-found, leaves-none, next-leaves}
@@ -73,14 +73,14 @@ module _ (most : ℕ) (s : Scope) where
       go (unescaped v) refl (λ (x : List ℕ) i. next-short (addAttribute o n x) d (suc k) l e (every-snoc a (omega (arith, i, h))))
     where
       go : (u : Out) → unescaped v ≡ u → ((x : List ℕ) → length x ≤ length v → ShortStart most (next s (addAttribute o n x) d (suc k) l))
-          → ShortStart most (take-turn (onAttribute o n u) (reader d (suc k) l) (λ (o' : StartEl). next s o' d (suc k) l))
+          → ShortStart most (takeTurn (onAttribute o n u) (reader d (suc k) l) (λ (o' : StartEl). next s o' d (suc k) l))
       go (bytes x) q ih = ih x (unescaped-shorter v x q)
       go (text.bad at) q ih = no-start
   next-short o d k (gt ∷ l) (and h e) a = short-start a
   next-short o d k (close n ∷ l) (and h e) a = go (isEnd s (shallower d) n) (next-short o (shallower d) (suc k) l e a)
     where
       go : (ends : Bool) → ShortStart most (next s o (shallower d) (suc k) l)
-          → ShortStart most (take-turn (onClose o ends) (reader (shallower d) (suc k) l) (λ (o' : StartEl). next s o' (shallower d) (suc k) l))
+          → ShortStart most (takeTurn (onClose o ends) (reader (shallower d) (suc k) l) (λ (o' : StartEl). next s o' (shallower d) (suc k) l))
       go true ih = no-start
       go false ih = ih
   next-short o d k (slash ∷ l) (and h e) a = short-start a

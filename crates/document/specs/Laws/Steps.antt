@@ -9,7 +9,7 @@ use Rattle.refusal.specs.declared.Refusal.{Refusal}
 use Rattle.refusal.specs.Answer.{gives}
 use Rattle.table.specs.Row.{Tok}
 use Rattle.document.specs.declared.Depth.{Depth}
-use Rattle.document.specs.Reader.{reader, depthAfter, Scope, endsAt, skip, StartEl, turn, gone, take-turn, next}
+use Rattle.document.specs.Reader.{reader, depthAfter, Scope, endsAt, skip, StartEl, turn, gone, takeTurn, next}
 use Rattle.document.specs.Scope.{shut}
 use Rattle.document.specs.Text.{atEnd, textTurn, firstText, joinTurn, joined}
 
@@ -29,7 +29,7 @@ unfolding next
 next-end s o d k = refl
 
 pub next-token : (s : Scope) (o : StartEl) (d : Depth) (k : ℕ) (t : Tok) (l : List Tok)
-    → next s o d k (t ∷ l) ≡ take-turn (turn s o d k t) (reader (depthAfter t d) (suc k) l) (λ (o' : StartEl). next s o' (depthAfter t d) (suc k) l)
+    → next s o d k (t ∷ l) ≡ takeTurn (turn s o d k t) (reader (depthAfter t d) (suc k) l) (λ (o' : StartEl). next s o' (depthAfter t d) (suc k) l)
 unfolding next
 next-token s o d k t l = refl
 

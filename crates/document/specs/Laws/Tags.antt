@@ -16,7 +16,7 @@ use Rattle.table.specs.Row.{Row, Name, Tok, start, attr, gt, close, slash, text
 use Rattle.table.specs.Rules.{among, Place, EachRow, none, row}
 use Rattle.xml.specs.Past.{at-next}
 use Rattle.document.specs.declared.Depth.{Depth}
-use Rattle.document.specs.Reader.{Reader, reader, depthAfter, shallower, Scope, isEnd, endsAt, Past, skip, StartEl, addAttribute, asClosed, onAttribute, onClose, Next, found, gone, take-turn, next}
+use Rattle.document.specs.Reader.{Reader, reader, depthAfter, shallower, Scope, isEnd, endsAt, Past, skip, StartEl, addAttribute, asClosed, onAttribute, onClose, Next, found, gone, takeTurn, next}
 use Rattle.document.specs.Scope.{shut}
 
 -- ---- the order of tokens, as far as start tags go
@@ -149,7 +149,7 @@ module _ (all : List Tok) (from : ℕ) where
   next-ends s o d k (attr n v ∷ l) {b} low h (token m g) f = go (unescaped v) (λ (x : List ℕ). next-ends s (addAttribute o n x) d (suc k) l (omega (arith, low)) (at-next all k h) g (λ e. more-attribute n x (f e)))
     where
       go : (u : Out) → ((x : List ℕ) → Ends all from (next s (addAttribute o n x) d (suc k) l))
-          → Ends all from (take-turn (onAttribute o n u) (reader d (suc k) l) (λ (o' : StartEl). next s o' d (suc k) l))
+          → Ends all from (takeTurn (onAttribute o n u) (reader d (suc k) l) (λ (o' : StartEl). next s o' d (suc k) l))
       go (bytes x) ih = ih x
       go (text.bad at) ih = at-none g (λ e. false-true e)
   next-ends s o d k (gt ∷ l) low h (token m g) f = at-start (more (f m)) g
@@ -157,7 +157,7 @@ module _ (all : List Tok) (from : ℕ) where
       go (isEnd s (shallower d) n) (next-ends s o (shallower d) (suc k) l (omega (arith, low)) (at-next all k h) g (λ e. more (f e)))
     where
       go : (ends : Bool) → Ends all from (next s o (shallower d) (suc k) l)
-          → Ends all from (take-turn (onClose o ends) (reader (shallower d) (suc k) l) (λ (o' : StartEl). next s o' (shallower d) (suc k) l))
+          → Ends all from (takeTurn (onClose o ends) (reader (shallower d) (suc k) l) (λ (o' : StartEl). next s o' (shallower d) (suc k) l))
       go true ih = at-none g (λ e. not-inside b m)
       go false ih = ih
   next-ends s o d k (slash ∷ l) low h (token m g) f = at-start (more-closed (f m)) g

@@ -20,7 +20,7 @@ use Rattle.xml.specs.Drain.{drained}
 use Rattle.xml.specs.First.{drained-table-is}
 use Rattle.xml.specs.Means.{drained-passes-is}
 use Rattle.document.specs.declared.Depth.{Depth}
-use Rattle.document.specs.Reader.{Reader, reader, fresh, depthAfter, Scope, document, isEnd, endsAt, StartEl, blank, Turn, goes, complete, over, turn, Next, found, gone, take-turn, next}
+use Rattle.document.specs.Reader.{Reader, reader, fresh, depthAfter, Scope, document, isEnd, endsAt, StartEl, blank, Turn, goes, complete, over, turn, Next, found, gone, takeTurn, next}
 use Rattle.document.specs.Scope.{Child, scopeOf, rootOf, onRoot, nextFrom}
 use Rattle.document.specs.Text.{unescapedText, joinTurn, joined, wholeOf}
 use Rattle.readings.specs.Opening.{present}
@@ -49,7 +49,7 @@ unfolding next
 next-rest s o d k [] e i = false-true (ap isFound e)
 next-rest s o d k (x ∷ l) {el} {r} e {t} i = go (turn s o d k x) e (λ (o' : StartEl) q. next-rest s o' (depthAfter x d) (suc k) l q i)
   where
-    go : (u : Turn) → take-turn u (reader (depthAfter x d) (suc k) l) (λ (o' : StartEl). next s o' (depthAfter x d) (suc k) l) ≡ found el r →
+    go : (u : Turn) → takeTurn u (reader (depthAfter x d) (suc k) l) (λ (o' : StartEl). next s o' (depthAfter x d) (suc k) l) ≡ found el r →
         ((o' : StartEl) → next s o' (depthAfter x d) (suc k) l ≡ found el r → List·Memᴰ t l) → List·Memᴰ t (x ∷ l)
     go (goes o') e ih = List·Memᴰ·tail (ih o' e)
     go (complete o') e ih = List·Memᴰ·tail (subst⁻¹ (List·Memᴰ t) (ap (restIn []) e) i)

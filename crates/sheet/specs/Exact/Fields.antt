@@ -10,7 +10,7 @@ use lib.Dec.{leb, ltb}
 use lib.ListN.{length, getD, take, drop, length-append, take-append-drop}
 use lib.Seq.{length-take-le, take-append-seam, drop-append-seam, getD-append-add}
 use Rattle.lists.specs.Tests.{pick, false-true}
-use Rattle.sheet.specs.Front.{Front, front, broken, then, where-holds, byte, bitMap, name, nameIf, times, all}
+use Rattle.sheet.specs.Front.{Front, front, broken, then, whereHolds, byte, bitMap, name, nameIf, times, all}
 use Rattle.lists.specs.Every.{Every, and, every-first, every-rest}
 use Rattle.lists.specs.Every as every
 use Rattle.sheet.specs.Exact.InLimits.{NameInLimits, NameIfThere}
@@ -51,7 +51,7 @@ module _ {A B : Type 0} {field : List ℕ → Front A} {write : A → List ℕ} 
       go broken q e = not-broken e
 
 -- a test that held
-pub holds : {A : Type 0} (t : Bool) {f : Front A} {a : A} {rest : List ℕ} → where-holds t f ≡ front a rest → (t ≡ true) × (f ≡ front a rest)
+pub holds : {A : Type 0} (t : Bool) {f : Front A} {a : A} {rest : List ℕ} → whereHolds t f ≡ front a rest → (t ≡ true) × (f ≡ front a rest)
 holds true e = (refl, e)
 holds false e = not-broken e
 
@@ -79,7 +79,7 @@ name-exact = record { reads = reads; exact = exact }
     reads n rest h =
         rw (le-leb 1 (length n) (h .filled), le-leb (length n) (length (n ++ rest)) (omega (arith, length-append n rest)), take-append-seam n rest, drop-append-seam n rest)
 
-    go : (b : ℕ) (l n rest : List ℕ) (x y : Bool) → b < 256 → leb 1 b ≡ x → leb b (length l) ≡ y → where-holds (pick x y false) (front (take b l) (drop b l)) ≡ front n rest
+    go : (b : ℕ) (l n rest : List ℕ) (x y : Bool) → b < 256 → leb 1 b ≡ x → leb b (length l) ≡ y → whereHolds (pick x y false) (front (take b l) (drop b l)) ≡ front n rest
         → NameInLimits n × ((b ∷ l) ≡ nameWritten n ++ rest)
     go b l n rest true true h p q e =
         let f = front-value e in
