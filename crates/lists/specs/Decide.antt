@@ -82,7 +82,3 @@ says-not-flag false = says-yes refl
 pub yes-of : {P : Type 0} (d : Dec P) → true ≡ isYes d → P
 yes-of (yes p) e = p
 yes-of (no n) e = false-true (sym e)
-
-pub no-of : {P : Type 0} (d : Dec P) → false ≡ isYes d → P → ⊥
-no-of (yes p) e q = false-true {A = ⊥} e
-no-of (no n) e q = n q

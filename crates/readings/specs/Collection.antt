@@ -15,8 +15,8 @@ use Rattle.sheet.specs.declared.ShapeDepth.{ShapeDepth}
 use Rattle.sheet.specs.Settings.{Settings}
 use Rattle.sheet.specs.Sheet.{ListSheet, listOf, MapSheet, mapOf}
 use Rattle.sheet.specs.Names.{itemName, entryName, keyName, valueName, valueAggregate}
-use Rattle.readings.specs.Output.{Room, Output, nothing, Reading, finished, refused, andThen, each, writeText, writePiece, writeKeyText, writeKeyPiece}
-use Rattle.readings.specs.Opening.{Asked, asked, reading, endTest}
+use Rattle.readings.specs.Output.{Room, Output, Reading, finished, refused, each, writeText, writePiece, writeKeyText, writeKeyPiece}
+use Rattle.readings.specs.Opening.{Asked, asked, reading, readAll}
 
 -- a child is wanted: it matches the name, or there is none to match
 unfoldable pub isWanted : Option (List ℕ) → Child → Bool
@@ -34,8 +34,7 @@ readItem body v name room c out =
 unfoldable pub readItems : List ℕ → Settings → Room → Asked ListSheet → Reading
 unfolding each readItem childrenOf
 readItems body settings room a =
-    andThen (each (readItem body (a .opened .seen) (itemName settings (a .sheet)) room) (childrenOf (a .opened .root)) nothing)
-    (endTest (a .opened .seen .illFormed))
+    readAll (a .opened .seen) (readItem body (a .opened .seen) (itemName settings (a .sheet)) room) (childrenOf (a .opened .root))
 
 -- "List. 1, 2, 3, 4; 10 as met; 9 last."
 unfoldable pub listReading : List ℕ → List ℕ → ℕ → List ℕ → Settings → ShapeDepth → Room → Reading
@@ -57,8 +56,7 @@ readString v name room c out =
 unfoldable pub readStrings : Settings → Room → Asked ListSheet → Reading
 unfolding each readString childrenOf
 readStrings settings room a =
-    andThen (each (readString (a .opened .seen) (itemName settings (a .sheet)) room) (childrenOf (a .opened .root)) nothing)
-    (endTest (a .opened .seen .illFormed))
+    readAll (a .opened .seen) (readString (a .opened .seen) (itemName settings (a .sheet)) room) (childrenOf (a .opened .root))
 
 -- "String list. As list, with 6 to 9 as met."
 unfoldable pub stringListReading : List ℕ → List ℕ → ℕ → List ℕ → Settings → ShapeDepth → Room → Reading
@@ -129,8 +127,7 @@ unfoldable pub readEntries : List ℕ → Settings → Room → Asked MapSheet �
 unfolding each readEntry entriesOf
 readEntries body settings room a =
     let name = entryName settings (a .sheet) in
-    andThen (each (readEntry body (a .opened .seen) (a .sheet) name room) (entriesOf name (a .opened .root)) nothing)
-    (endTest (a .opened .seen .illFormed))
+    readAll (a .opened .seen) (readEntry body (a .opened .seen) (a .sheet) name room) (entriesOf name (a .opened .root))
 
 -- "Map. The same, with 6, 7, 8, 9 as met in a key or value"
 unfoldable pub mapReading : List ℕ → List ℕ → ℕ → List ℕ → Settings → ShapeDepth → Room → Reading

@@ -11,7 +11,7 @@ use Rattle.document.specs.View.{View, view}
 use Rattle.document.specs.Scope.{Child, rootOf}
 use Rattle.sheet.specs.declared.ShapeDepth.{ShapeDepth}
 use Rattle.sheet.specs.Settings.{Settings, isStrict, tooDeep}
-use Rattle.readings.specs.Output.{Output, nothing, Reading, finished, refused}
+use Rattle.readings.specs.Output.{Output, nothing, Reading, finished, refused, andThen, each}
 
 -- "1 table", by a decision of the rules
 abbrev pub withTable : {A P : Type 0} → Dec P → Answer A → Answer A
@@ -65,3 +65,7 @@ reading (refuses r) f = refused r nothing
 abbrev pub endTest : Bool → Output → Reading
 endTest true out = refused Refusal.IllFormed out
 endTest false out = finished out
+
+-- a collection: its children one after another, and "9 last"
+abbrev pub readAll : {A : Type 0} → View → (A → Output → Reading) → List A → Reading
+readAll v read l = andThen (each read l nothing) (endTest (v .illFormed))

@@ -8,11 +8,11 @@ use borrow.Author.Needs.{needs}
 use borrow.Author.Tests.{not-true, not-false}
 use lib.ListN.{length, getD}
 use Rattle.lists.specs.Tests.{false-true}
-use Rattle.lists.specs.Decide.{isYes, Says, says-yes, says-no, says-same, says-not, says-is, yes-of, no-of}
+use Rattle.lists.specs.Decide.{isYes, Says, says-yes, says-no, says-same, says-not, says-is, yes-of}
 use Rattle.utf8.specs.Table.{isUtf8}
 use Rattle.table.specs.Row.{Row, rowsOf}
 use Rattle.table.specs.Rules.{Place, atFirst, after, RowRules, EachRow, none, row, lastPosition, TableRules}
-use Rattle.table.specs.Flat.{rowAt, rowsFrom, length-rows, rows-same, rows-whole, unroll, rolled-out, last-high, SpansIn, spans-in}
+use Rattle.table.specs.Flat.{rowAt, rowsFrom, length-rows, rows-same, rows-whole, unroll, rolled-out, last-high}
 use Rattle.table.specs.Test.{first, decTable}
 use Rattle.table.specs.Spans.{Spans, local-in, filled}
 use Rattle.table.specs.Bytes.{BytesIn, Bytes}
@@ -236,9 +236,3 @@ pub ruleset obeys-laws = (needs, not-true, not-false, rows-whole, obeys-part, ob
 module _ (body t : List ℕ) (final : ℕ) {r : Bool} (e : r ≡ isYes (decTable body t final)) where
   pub obeyed : r ≡ true → TableRules body t final
   obeyed y = yes-of (decTable body t final) (sym y ∙ e)
-
-  pub disobeyed : r ≡ false → TableRules body t final → ⊥
-  disobeyed n = no-of (decTable body t final) (sym n ∙ e)
-
-  pub obeyed-spans : r ≡ true → (k : ℕ) → k < length t / 8 → SpansIn body t k
-  obeyed-spans y = spans-in (obeyed y)

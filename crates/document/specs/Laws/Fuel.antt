@@ -87,6 +87,3 @@ afterChildren-goes-on c = left (endOf (levelIn dropping c)) ended
 
 pub dropping-shortens : Shortens dropping
 dropping-shortens c = dropping-goes-on c .short
-
-pub afterChildren-shortens : Shortens afterChildren
-afterChildren-shortens c = afterChildren-goes-on c .short
