@@ -1,3 +1,14 @@
 pub mod Names
 pub mod Rows
 pub mod Walk
+pub mod Stand
+pub mod Skip
+pub mod Start
+pub mod Tag
+pub mod Next
+pub mod ViewRows
+pub mod View
+pub mod FirstText
+pub mod Piece
+pub mod Attribute
+pub mod Element

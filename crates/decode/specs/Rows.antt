@@ -20,7 +20,7 @@ use Rattle.table.specs.Row.{Name, cut, nameOf, valueOf}
 use Rattle.table.specs.Flat.{rowAt, SpansIn}
 use Rattle.xml.specs.Drain.{sameName, seen}
 use Rattle.xml.specs.declared.Cause.{Cause}
-use Rattle.decode.specs.declared.Fault.{Fault}
+use Rattle.decode.specs.declared.drain.Fault.{Fault}
 
 -- row k is a row of the table
 pub record InTable (t : List ℕ) (k : ℕ) : Type 0 where

@@ -27,7 +27,7 @@ use Rattle.xml.specs.Drain.{sameName, seen, drainedBy, drained, State, going, f
 use Rattle.xml.specs.Passed.{openAfter, namesAfter}
 use Rattle.xml.specs.declared.Cause.{Cause}
 use Rattle.xml.specs.declared.Drained.{Drained}
-use Rattle.decode.specs.declared.Fault.{Fault}
+use Rattle.decode.specs.declared.drain.Fault.{Fault}
 use Rattle.decode.specs.Rows.{InTable, Readable, nameAt, valueAt, namesBack, asFault, valueFault, valuePasses, faultIf, fault-if, plain-none, LiesIn, value-plain}
 
 -- what is wrong with a token: top is the name of the innermost open element, names are the attribute names of the start tag so far

@@ -74,7 +74,7 @@ pub extern "C" fn falzheod_drain(
 ) -> u32
     ensures { λ r. ⌜ DrainCall (drained (now (body .entry)) (now (rows .entry)) end) (now (row .exit)) (now (cause .exit)) r ⌝ }
 {
-    match decode::drain(body, rows, end) {
+    match decode::drain::drain(body, rows, end) {
         Drained::Passes => {
             *row = 0;
             *cause = 0;

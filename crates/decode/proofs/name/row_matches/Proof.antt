@@ -1,0 +1,19 @@
+use Rattle.decode.specs.Attribute.{matches-laws}
+use borrow.Author.Needs.{needs}
+use Rattle.decode.proofs.name.row_matches.Statement.{statement}
+use Rattle.decode.proofs.name.row_matches.Tie as tie
+
+span-requires : tie.Need-span-requires
+span-requires c κs = search matches-laws
+
+span-requires-2 : tie.Need-span-requires-2
+span-requires-2 c κs = search matches-laws
+
+matches-requires : tie.Need-matches-requires
+matches-requires c κs = search needs
+
+returns : tie.Need-returns
+returns c = search matches-laws
+
+pub row-matches-spec : {M : Type 1} → statement M
+row-matches-spec = tie.close (tie.spec span-requires span-requires-2 matches-requires returns)

@@ -1,0 +1,22 @@
+use Rattle.decode.specs.View.{view-laws}
+use borrow.Author.Needs.{needs}
+use Rattle.decode.proofs.view.lenient_view.Statement.{statement}
+use Rattle.decode.proofs.view.lenient_view.Tie as tie
+
+returns : tie.Need-returns
+returns c = search view-laws
+
+sub-last : tie.Need-sub-last
+sub-last c = search needs
+
+field-requires : tie.Need-field-requires
+field-requires c κs = search needs
+
+returns-2 : tie.Need-returns-2
+returns-2 c = search view-laws
+
+returns-3 : tie.Need-returns-3
+returns-3 c = search view-laws
+
+pub lenient-view-spec : {M : Type 1} → statement M
+lenient-view-spec = tie.close (tie.spec returns sub-last field-requires returns-2 returns-3)

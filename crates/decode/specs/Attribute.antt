@@ -1,0 +1,125 @@
+-- The search for an attribute among the rows of a start tag.
+use Prim.Native.Nat.{ℕ, zero, suc, _+_, _-_, _≤_, _<_}
+use mathlib.Core.Path.{_≡_, refl, sym, _∙_}
+use mathlib.Core.Bool.{Bool, true, false}
+use mathlib.Core.List.{List, [], _∷_}
+use mathlib.Core.Option.{Option, none, some}
+use native.Mathlib.Numerals.{add-one}
+use native.Mathlib.Omega.{arith}
+use borrow.Author.Needs.{needs}
+use borrow.Author.Tests.{eqb-true, eqb-false}
+use lib.Dec.{eqb}
+use Rattle.lists.specs.Tests.{pick, false-true}
+use Rattle.reference.specs.Text.{bytes, unescaped}
+use Rattle.document.specs.Reader as doc
+use Rattle.document.specs.Names.{nameMatches, named}
+use Rattle.decode.specs.Rows.{InTable, prefix-span, local-span, nameAt, valueAt}
+use Rattle.decode.specs.declared.reader.StartRow.{StartRow}
+use Rattle.decode.specs.declared.reader.Attribute.{Attribute}
+use Rattle.decode.specs.Stand.{Sees}
+use Rattle.decode.specs.Start.{bytesOf, bytes-are, attributesFrom, startAt, StartIn}
+
+-- ---- a name and a pattern
+pub row-matches : (body t pattern : List ℕ) (k : ℕ) {p l : List ℕ} {r : Bool} → p ≡ nameAt body t k .prefix → l ≡ nameAt body t k .local → r ≡ nameMatches (named p l) pattern
+    → r ≡ nameMatches (nameAt body t k) pattern
+row-matches body t pattern k e f h = rw (← e, ← f) h
+
+pub ruleset matches-laws = (needs, prefix-span, local-span, row-matches)
+
+-- ---- what the search answers
+-- a pattern asks for the name of none of the rows from one on and before another
+pub record NoMatch (body t pattern : List ℕ) (from end : ℕ) : Type 0 where
+  pub none : (j : ℕ) → from ≤ j → j < end → nameMatches (nameAt body t j) pattern ≡ false
+
+-- of these rows, k is the first whose name it asks for
+pub record FirstMatch (body t pattern : List ℕ) (from end k : ℕ) : Type 0 where
+  pub low : from ≤ k
+  pub high : k < end
+  pub asked : nameMatches (nameAt body t k) pattern ≡ true
+  pub earlier : NoMatch body t pattern from k
+
+abbrev pub MatchIn : List ℕ → List ℕ → List ℕ → ℕ → ℕ → Attribute → Type 0
+MatchIn body t pattern from end (Attribute.Row k) = FirstMatch body t pattern from end k
+MatchIn body t pattern from end Attribute.Nothing = NoMatch body t pattern from end
+
+-- the value of a row that is found unescapes
+abbrev pub ValueIn : List ℕ → List ℕ → Attribute → Type 0
+ValueIn body t (Attribute.Row k) = InTable t k × (unescaped (valueAt body t k) ≡ bytes (bytesOf (unescaped (valueAt body t k))))
+ValueIn body t Attribute.Nothing = Unit {0}
+
+pub record AttributeIs (body t : List ℕ) (s : StartRow) (pattern : List ℕ) (r : Attribute) : Type 0 where
+  pub is : MatchIn body t pattern (s .row + 1) (s .end) r
+  pub row : ValueIn body t r
+
+-- ---- the loop: none of the rows before row k
+pub record SearchAt (body t pattern : List ℕ) (from end k : ℕ) : Type 0 where
+  pub low : from ≤ k
+  pub high : k ≤ end
+  pub earlier : NoMatch body t pattern from k
+
+no-row : (body t pattern : List ℕ) (k : ℕ) → NoMatch body t pattern k k
+no-row body t pattern k = record { none = λ j l h. absurd (omega arith) }
+
+pub search-start : {body t : List ℕ} {n : ℕ} {s : StartRow} (pattern : List ℕ) → StartIn body t n s → SearchAt body t pattern (s .row + 1) (s .end) (s .row + 1)
+search-start {body} {t} {n} {s} pattern w = record { low = omega arith; high = omega (arith, w .low); earlier = no-row body t pattern (s .row + 1) }
+
+module _ {body t pattern : List ℕ} {from end k : ℕ} (w : SearchAt body t pattern from end k) (h : k < end) where
+  pub search-in : {n : ℕ} → Sees body t n → end < n → InTable t k
+  search-in q i = record { row = omega (arith, q .rows) }
+
+  pub search-on : {r : Bool} → r ≡ nameMatches (nameAt body t k) pattern → r ≡ false → SearchAt body t pattern from end (k + 1)
+  search-on e g = record { low = omega (arith, w .low); high = omega arith; earlier = record { none = λ j l u. go j l u (eqb j k) refl } }
+    where
+      go : (j : ℕ) → from ≤ j → j < k + 1 → (b : Bool) → eqb j k ≡ b → nameMatches (nameAt body t j) pattern ≡ false
+      go j l u true p = rw (eqb-true j k p) (sym e ∙ g)
+      go j l u false p = let z = eqb-false j k p in w .earlier .none j l (omega arith)
+
+module _ {body t pattern : List ℕ} (s : StartRow) {k : ℕ} (w : SearchAt body t pattern (s .row + 1) (s .end) k) where
+  pub search-none : s .end ≤ k → AttributeIs body t s pattern Attribute.Nothing
+  search-none h = record { is = record { none = λ j l u. w .earlier .none j l (omega arith) }; row = tt }
+
+  pub search-found : {n : ℕ} {r : Bool} → k < s .end → Sees body t n → StartIn body t n s → r ≡ nameMatches (nameAt body t k) pattern → r ≡ true
+      → AttributeIs body t s pattern (Attribute.Row k)
+  search-found h q i e g =
+      record {
+        is = record { low = w .low; high = h; asked = sym e ∙ g; earlier = w .earlier };
+        row = (search-in w h q (i .high), bytes-are (unescaped (valueAt body t k)) (i .good k (omega (arith, w .low)) h));
+      }
+
+pub ruleset search-laws = (needs, search-start, search-none, search-in, search-found, search-on)
+
+-- ---- the same over the list of attributes
+abbrev pub valueIn : List ℕ → List ℕ → Attribute → Option (List ℕ)
+valueIn body t (Attribute.Row k) = some (bytesOf (unescaped (valueAt body t k)))
+valueIn body t Attribute.Nothing = none
+
+-- each function that answers the value of the first attribute that is asked for answers the value of the row that was found
+module _ (body t pattern : List ℕ) (f : List doc.Attribute → Option (List ℕ)) (end : f [] ≡ none)
+    (turn : (a : doc.Attribute) (l : List doc.Attribute) → f (a ∷ l) ≡ pick (nameMatches (a .name) pattern) (some (a .value)) (f l)) where
+  value-none : (k m : ℕ) → NoMatch body t pattern k (k + m) → f (attributesFrom body t k m) ≡ none
+  value-none k zero w = end
+  value-none k (suc m) w =
+      turn _ (attributesFrom body t (suc k) m) ∙ rw (w .none k (omega arith) (omega arith)) (value-none (suc k) m (record { none = λ j l h. w .none j (omega arith) (omega arith) }))
+
+  value-first : (i k m : ℕ) → FirstMatch body t pattern k (k + m) i → f (attributesFrom body t k m) ≡ some (bytesOf (unescaped (valueAt body t i)))
+  value-first i k zero w = absurd (omega (arith, w .low, w .high))
+  value-first i k (suc m) w = turn _ (attributesFrom body t (suc k) m) ∙ go (eqb i k) refl (value-first i (suc k) m)
+    where
+      go : (b : Bool) → eqb i k ≡ b → (FirstMatch body t pattern (suc k) (suc k + m) i → f (attributesFrom body t (suc k) m) ≡ some (bytesOf (unescaped (valueAt body t i))))
+          → pick (nameMatches (nameAt body t k) pattern) (some (bytesOf (unescaped (valueAt body t k)))) (f (attributesFrom body t (suc k) m)) ≡ some (bytesOf (unescaped (valueAt body t i)))
+      go true p more = let z = eqb-true i k p in rw (← z, w .asked)
+      go false p more =
+          let z = eqb-false i k p in
+          let l : k < i = omega (arith, w .low) in
+          rw (w .earlier .none k (omega arith) l)
+          (more (record { low = l; high = omega (arith, w .high); asked = w .asked; earlier = record { none = λ j u h. w .earlier .none j (omega arith) h } }))
+
+  pub attribute-value : {n : ℕ} {s : StartRow} {r : Attribute} → StartIn body t n s → AttributeIs body t s pattern r → valueIn body t r ≡ f (startAt body t s .attributes)
+  attribute-value {n} {s} {r} i w = go r (w .is)
+    where
+      e : s .row + 1 + (s .end - (s .row + 1)) ≡ s .end
+      e = omega (arith, i .low)
+
+      go : (r : Attribute) → MatchIn body t pattern (s .row + 1) (s .end) r → valueIn body t r ≡ f (startAt body t s .attributes)
+      go (Attribute.Row k) x = sym (value-first k (s .row + 1) (s .end - (s .row + 1)) (rw e x))
+      go Attribute.Nothing x = sym (value-none (s .row + 1) (s .end - (s .row + 1)) (rw e x))

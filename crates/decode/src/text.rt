@@ -1,0 +1,93 @@
+// The first text of an element.
+ghost use mathlib.Core.Path.{_≡_};
+ghost use Rattle.decode.specs.FirstText.{TextIs, childAt, endText};
+ghost use Rattle.decode.specs.Stand.{HasRow, Sees, scopeAt, toksFrom};
+ghost use Rattle.decode.specs.Start.{StartIn};
+ghost use Rattle.decode.specs.View.{failureAt};
+ghost use Rattle.document.specs.Reader.{depth};
+ghost use Rattle.document.specs.Text.{firstText, textOf};
+use crate::reader::Cursor;
+use crate::reader::ScopeRow;
+use crate::reader::StartRow;
+use crate::reader::is_end;
+use crate::reader::less_of;
+use crate::view::Failure;
+use refusal::Refusal;
+use table::field;
+
+// The first text of an element: the value of a row, to be unescaped; the empty text; or a refusal.
+pub enum Text {
+    Row(usize),
+    Empty,
+    Refused(Refusal),
+}
+
+// What a text meets where the rows run out.
+fn end_text(failure: Failure) -> Text
+    ensures { λ r. ⌜ r ≡ endText failure ⌝ }
+{
+    match failure {
+        Failure::Nothing => Text::Empty,
+        Failure::Is(refusal) => Text::Refused(refusal),
+    }
+}
+
+// The first text from a row on, in a scope.
+fn text_from(
+    body: &[u8],
+    rows: &[u32],
+    n: usize,
+    failure: Failure,
+    scope: ScopeRow,
+    from: usize,
+    deep: usize,
+) -> Text
+    requires { ⌜ Sees (now body) (now rows) n ⌝ }
+    requires { ⌜ HasRow (now rows) scope ⌝ }
+    ensures { λ r. ⌜ TextIs (now (body .entry)) (now (rows .entry)) r (firstText (failureAt failure) (scopeAt (now (body .entry)) (now (rows .entry)) scope) (depth deep) (toksFrom (now (body .entry)) (now (rows .entry)) n from)) ⌝ }
+{
+    let mut k = from;
+    let mut d = deep;
+    while k < n {
+        let kind = field(rows, k, 0);
+        if kind == 6 {
+            return Text::Row(k);
+        }
+        if kind == 4 {
+            d = less_of(d);
+            if is_end(body, rows, scope, d, k) {
+                return Text::Empty;
+            }
+            k += 1;
+        } else if kind == 1 {
+            return Text::Refused(Refusal::ElementInText);
+        } else if kind == 5 {
+            d = less_of(d);
+            k += 1;
+        } else {
+            k += 1;
+        }
+    }
+    end_text(failure)
+}
+
+// The first text of an element: one that ended in `/>` has the empty text.
+pub fn try_data(
+    body: &[u8],
+    rows: &[u32],
+    n: usize,
+    failure: Failure,
+    start: StartRow,
+    at: Cursor,
+) -> Text
+    requires { ⌜ Sees (now body) (now rows) n ⌝ }
+    requires { ⌜ StartIn (now body) (now rows) n start ⌝ }
+    ensures { λ r. ⌜ TextIs (now (body .entry)) (now (rows .entry)) r (textOf (failureAt failure) (childAt (now (body .entry)) (now (rows .entry)) n start at)) ⌝ }
+{
+    if start.closed {
+        return Text::Empty;
+    }
+    let own = start.depth;
+    let scope = ScopeRow::Element(own, start.row);
+    text_from(body, rows, n, failure, scope, at.row, at.depth.0)
+}
