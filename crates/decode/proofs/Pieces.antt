@@ -23,7 +23,7 @@ use Rattle.decode.specs.Rows.{InTable}
 use Rattle.decode.specs.Reader.{pastAt, RulesAt, Sees, StartIn, DroppedIs}
 use Rattle.decode.specs.View.{viewAt, Viewed}
 use Rattle.decode.specs.Piece.{EndIn, PieceIs}
-use Rattle.decode.proofs.Places.{start-seen}
+use Rattle.decode.proofs.Places.{start-scope}
 use Rattle.decode.proofs.Seen.{take-rows}
 
 -- ---- the end of a piece
@@ -84,7 +84,7 @@ drop-rows t s (suc i) (suc m) h =
 
 module _ {body t : List ℕ} {n : ℕ} {s : StartRow} (q : Sees body t n) (w : StartIn body t n s) where
   pub local-in : {from : ℕ} → from ≡ getD t (s .row * 8 + 3) 0 → from ≤ length body
-  local-in e = omega (arith, q .readable .each (s .row) (start-seen q w .row) .local)
+  local-in e = omega (arith, q .readable .each (s .row) (start-scope q w .row) .local)
 
   pub begins : {from r : ℕ} → from ≡ getD t (s .row * 8 + 3) 0 → LastIn body 0 from r → r ≡ pieceStart body (drop (s .row) (rowsFrom t 0 n))
   begins {from} {r} e l =
@@ -124,4 +124,4 @@ module _ {body t : List ℕ} {v : View} {s : StartRow} {c : Cursor} {p : Past} (
       let b : end ≤ length body = rw f (end-low piece-end) in
       record { is = rw (← w .is, ← e, ← f, g); start = a; len = omega arith; inside = omega arith }
 
-pub ruleset piece-laws = (needs, start-seen, local-in, begins, piece-end, piece-is)
+pub ruleset piece-laws = (needs, start-scope, local-in, begins, piece-end, piece-is)

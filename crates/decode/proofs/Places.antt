@@ -50,8 +50,8 @@ row-seen q h = record { row = omega (arith, q .rows) }
 pub scope-seen : {body t : List ℕ} {n k : ℕ} {s : ScopeRow} → Sees body t n → HasRow t s → k < n → ScopeIn body t s k
 scope-seen q p h = record { readable = q .readable; row = row-seen q h; scope = p }
 
-pub start-seen : {body t : List ℕ} {n : ℕ} {s : StartRow} → Sees body t n → StartIn body t n s → InTable t (s .row)
-start-seen q i = row-seen q (omega (arith, i .low, i .high))
+pub start-scope : {body t : List ℕ} {n : ℕ} {s : StartRow} → Sees body t n → StartIn body t n s → InTable t (s .row)
+start-scope q i = row-seen q (omega (arith, i .low, i .high))
 
 -- ---- one less
 pub less-zero : (d : ℕ) → d ≡ 0 → 0 ≡ less d

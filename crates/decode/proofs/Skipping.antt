@@ -21,7 +21,7 @@ use Rattle.decode.specs.declared.reader.Past.{Past}
 use Rattle.decode.specs.declared.reader.StartRow.{StartRow}
 use Rattle.decode.specs.Rows.{nameAt, valueAt, tokAt}
 use Rattle.decode.specs.Reader.{toksFrom, scopeAt, pastAt, At, Outside, EndedAt, overAt, DepthIs, PastIs, DroppedIs, LeftIs}
-use Rattle.decode.proofs.Places.{toks-next, toks-none, tok-is, out-at, row-seen, scope-seen, start-seen}
+use Rattle.decode.proofs.Places.{toks-next, toks-none, tok-is, out-at, row-seen, scope-seen, start-scope}
 
 -- the definition's answer, from depth d and row k
 abbrev skipped : List ℕ → List ℕ → ℕ → ScopeRow → Depth → ℕ → doc.Past
@@ -109,7 +109,7 @@ module _ {body t : List ℕ} {n : ℕ} (s : StartRow) (c : Cursor) where
       → DroppedIs body t n s c r
   drop-inside e x = record { is = rw e (x .is); stands = x .stands; later = x .later }
 
-pub ruleset drop-laws = (needs, out-at, start-seen, drop-closed, drop-inside)
+pub ruleset drop-laws = (needs, out-at, start-scope, drop-closed, drop-inside)
 
 -- ---- an element that is left
 module _ {body t : List ℕ} {n : ℕ} (s : StartRow) {p : Past} (w : EndedAt body t n p) where
@@ -120,4 +120,4 @@ module _ {body t : List ℕ} {n : ℕ} (s : StartRow) {p : Past} (w : EndedAt bo
       → LeftIs body t n s p (r .at)
   leave-inside e x = record { is = λ c. rw e (ap (λ q. q .reader) (x .is)); stands = x .stands; later = x .later }
 
-pub ruleset leave-laws = (needs, start-seen, leave-ended, leave-inside)
+pub ruleset leave-laws = (needs, start-scope, leave-ended, leave-inside)

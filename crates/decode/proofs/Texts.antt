@@ -23,7 +23,7 @@ use Rattle.decode.specs.Reader.{toksFrom, scopeAt, childAt, Sees, DepthI
 use Rattle.decode.specs.View.{failureAt}
 use Rattle.decode.specs.Text.{endText, firstFrom, TextIs}
 use Rattle.decode.proofs.ByKind.{other}
-use Rattle.decode.proofs.Places.{toks-next, toks-none, tok-is, row-seen, scope-seen, start-seen}
+use Rattle.decode.proofs.Places.{toks-next, toks-none, tok-is, row-seen, scope-seen, start-scope}
 
 -- ---- where the rows run out
 pub end-nothing : (f : Failure) → f ≡ Failure.Nothing → Text.Empty ≡ endText f
@@ -104,4 +104,4 @@ module _ (body t : List ℕ) (n : ℕ) (f : Failure) (s : StartRow) (c : Cursor)
   unfolding textOf
   text-inside e x = record { same = rw e (x .same); row = x .row }
 
-pub ruleset element-text-laws = (needs, text-closed, text-inside, start-seen)
+pub ruleset element-text-laws = (needs, text-closed, text-inside, start-scope)

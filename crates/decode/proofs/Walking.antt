@@ -232,9 +232,6 @@ module _ {body t : List ℕ} {n : ℕ} {opened : List ℕ} {depth tag k : ℕ} (
   pub row-in : InTable t k
   row-in = record { row = omega (arith, w .count) }
 
-  later : List Row
-  later = rowsFrom t (k + 1) (n - (k + 1))
-
   here : RowRules body (w .place) (rowAt t k) (rowsFrom t (k + 1) (n - (k + 1)))
   here = first (rw (unroll t k n h) at (w .each)) .0
 
