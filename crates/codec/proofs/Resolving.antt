@@ -16,6 +16,7 @@ use Rattle.sheet.specs.Front.{bit}
 use Rattle.sheet.specs.Sheet as defined
 use Rattle.sheet.specs.Names.{attributeName, Indexed, indexed, firstNamed, membersOf, resolve}
 use Rattle.codec.specs.declared.structure.Member.{Member}
+use Rattle.codec.specs.declared.structure.Found.{Found}
 use Rattle.codec.specs.declared.structure.Found.the-variants.{At, Nothing}
 use Rattle.codec.specs.Field.{bytesAt, nameOf}
 use Rattle.codec.specs.Structure.{saidBy, nameless, MemberRead, MemberAt, MembersSaid, isMember, Resolved}
@@ -102,6 +103,9 @@ module _ {sheet members local : List ℕ} {i : ℕ} (w : Looking sheet members l
         is = sym (rw (members-end (saidBy sheet .members) i (omega (arith, w .said .size))) at (w .rest));
         low = λ j p. (let z : _≡_ {A = ℕ} 0 1 = cc in absurd (omega arith));
       }
+
+pub found-low : {sheet members local : List ℕ} {f : Found} {i : ℕ} → Resolved sheet members local f → f ≡ At i → i * 3 + 3 ≤ length members
+found-low {i = i} x e = x .low i e
 
 pub ruleset member-laws = (needs, member-read, member-inside, attribute-is, not-named, named-same)
 

@@ -6,6 +6,7 @@ use mathlib.Core.List.{List}
 use mathlib.Core.Option.{none, some}
 use native.Mathlib.Omega.{arith}
 use borrow.Author.Needs.{needs}
+use borrow.Author.Tests.{not-true, not-false}
 use lib.Dec.{leb}
 use lib.ListN.{length, getD, take, drop}
 use lib.Seq.{getD-take, length-take-le}
@@ -19,7 +20,7 @@ use Rattle.codec.specs.declared.structure.Head.{Head}
 use Rattle.codec.specs.declared.structure.Members.{Members}
 use Rattle.codec.specs.declared.structure.StructureSheet.{StructureSheet}
 use Rattle.codec.specs.Field.{bytesAt}
-use Rattle.codec.specs.Structure.{saidBy, nameless, memberIn, MemberAt, MembersAt, StructureSaid, StructureRead, HeadRead, MembersRead}
+use Rattle.codec.specs.Structure.{saidBy, nameless, memberIn, MemberAt, MembersAt, MembersSaid, PartIn, StructureSaid, StructureRead, HeadRead, MembersRead}
 use Rattle.codec.proofs.Bits.{all-at}
 
 -- the numbers of the first members, as a part
@@ -39,7 +40,7 @@ module _ {sheet : List ℕ} {head : Head} {list : Members} {t ok : Bool} where
           unwrapped = rw z (x .unwrapped (y .list));
           root = rw z (x .root (y .list));
           inside = x .rootInside;
-          fits = omega (arith, y .few, y .wide);
+          filled = filled;
           members = record {
             size = rw (z, x .members (y .list), y .size) (length-take-le (list .count * 3 - 0) (list .numbers) (omega (arith, y .few, y .wide)) ∙ omega arith);
             few = rw (z, x .members (y .list)) (omega (arith, y .few, y .size));
@@ -47,8 +48,12 @@ module _ {sheet : List ℕ} {head : Head} {list : Members} {t ok : Bool} where
           };
         });
         broken = λ e. rw e at is;
+        filled = filled;
       }
     where
+      filled : PartIn (record { ok = ok; unwrapped = head .unwrapped; root = head .root; count = list .count; members = list .numbers })
+      filled = record { few = y .few; fits = omega (arith, y .few, y .wide) }
+
       after : (u : Bool) → all (then (pick u (front (y .list) (drop (list .next) sheet)) broken) (λ l end. front (x .with l) end))
           ≡ pick (pick u (leb (length sheet) (list .next)) false) (some (x .with (y .list))) none
       after true = all-at sheet (list .next) (x .with (y .list))
@@ -61,12 +66,19 @@ module _ {sheet : List ℕ} {head : Head} {list : Members} {t ok : Bool} where
       is : structureOf sheet ≡ pick ok (some (x .with (y .list))) none
       is = x .is ∙ rw q (go (head .ok))
 
--- ---- the root
+-- ---- what was read
+pub structure-said : {sheet : List ℕ} {r : StructureSheet} → StructureRead sheet r → r .ok ≡ true → StructureSaid sheet r
+structure-said x e = x .there e
+
 module _ {sheet : List ℕ} {r : StructureSheet} (s : StructureSaid sheet r) where
+  -- `&members[0..n]`, where n is `count * 3`
+  pub members-said : MembersSaid sheet (part (r .members) 0 (r .count * 3))
+  members-said = s .members
+
   pub root-inside : r .root .from + r .root .len ≤ length sheet
   root-inside = s .inside
 
   pub root-is : {name : List ℕ} → name ≡ bytesAt sheet (r .root) → name ≡ rootName (saidBy sheet)
   root-is e = e ∙ sym (s .root)
 
-pub ruleset structure-laws = (needs, structure-read, root-inside, root-is)
+pub ruleset structure-laws = (needs, not-true, not-false, structure-read, structure-said, members-said, root-inside, root-is)

@@ -65,19 +65,25 @@ pub record MembersSaid (sheet members : List ℕ) : Type 0 where
   pub stands : MembersAt sheet members (saidBy sheet .members)
 
 -- ---- sheets
--- a struct stands for what the sheet says; its members are the part `&members[0..count * 3]`
+-- the part `&members[0..count * 3]` is there
+pub record PartIn (r : StructureSheet) : Type 0 where
+  pub few : r .count ≤ mostMembers
+  pub fits : r .count * 3 ≤ length (r .members)
+
+-- a struct stands for what the sheet says; its members are in that part
 pub record StructureSaid (sheet : List ℕ) (r : StructureSheet) : Type 0 where
   pub said : structureOf sheet ≡ some (saidBy sheet)
   pub unwrapped : saidBy sheet .unwrapped ≡ r .unwrapped
   pub root : rootName (saidBy sheet) ≡ bytesAt sheet (r .root)
   pub inside : r .root .from + r .root .len ≤ length sheet
-  pub fits : r .count * 3 ≤ length (r .members)
+  pub filled : PartIn r
   pub members : MembersSaid sheet (part (r .members) 0 (r .count * 3))
 
 -- it is not ok exactly where the sheet is broken
 pub record StructureRead (sheet : List ℕ) (r : StructureSheet) : Type 0 where
   pub there : r .ok ≡ true → StructureSaid sheet r
   pub broken : r .ok ≡ false → structureOf sheet ≡ none
+  pub filled : PartIn r
 
 -- ---- resolving: "A member's index is its place from 0."
 -- whether a child's local name is the member's
