@@ -23,7 +23,8 @@ use Rattle.codec.specs.Structure.{saidBy, nameless, MemberRead, MemberAt
 use Rattle.codec.proofs.Names.{bytes-name}
 
 -- ---- by index
-pub member-read : {members : List ℕ} {i b from len : ℕ} {t u v : Bool} → b ≡ getD members (i * 3 + 0) 0 → t ≡ bit 4 b → u ≡ bit 8 b → v ≡ bit 16 b
+pub member-read : {members : List ℕ} {i b from len : ℕ} {t u v : Bool} → b ≡ getD members (i * 3 + 0) 0 → t ≡ bit 4 b → u ≡ bit 8 b
+    → v ≡ bit 16 b
     → from ≡ getD members (i * 3 + 1) 0 → len ≡ getD members (i * 3 + 2) 0
     → MemberRead members i (record { attribute = t; flattened = u; aggregate = v; name = record { from = from; len = len } })
 member-read e p q r f l = record { is = rw (p, q, r, e, f, l) }
@@ -65,7 +66,8 @@ module _ (sheet : List ℕ) (m : Member) (local : List ℕ) where
   pub not-named : m .name .len ≡ 0 → false ≡ isMember sheet m local
   not-named e = rw (eq-eqb (m .name .len) 0 e)
 
-  pub named-same : {part : List ℕ} {t : Bool} → (m .name .len ≡ 0 → ⊥) → part ≡ bytesAt sheet (m .name) → t ≡ sameb part local → t ≡ isMember sheet m local
+  pub named-same : {part : List ℕ} {t : Bool} → (m .name .len ≡ 0 → ⊥) → part ≡ bytesAt sheet (m .name) → t ≡ sameb part local
+      → t ≡ isMember sheet m local
   named-same n e q = rw (ne-eqb (m .name .len) 0 n, ← e) q
 
 -- the members before this one have another name

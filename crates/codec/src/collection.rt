@@ -49,8 +49,8 @@ fn is_whole(sheet: &[u8], f: Fields, third: usize, a: usize, b: usize) -> bool
     requires { ⌜ (0 < third) × (0 < a) × (0 < b) ⌝ }
     ensures { λ r. ⌜ r ≡ isWhole (now (sheet .entry)) f third a b ⌝ }
 {
-    let ended = both(f.ok, sheet.len() <= f.next);
-    both(ended, with_third(f.bits, third, a, b))
+    let fits = both(f.ok, with_third(f.bits, third, a, b));
+    both(fits, sheet.len() <= f.next)
 }
 
 // Reads a list sheet.
