@@ -1,18 +1,17 @@
 -- Laws of a bit map and the two names that may follow it: reading them, and what a sheet makes of them.
-use Prim.Native.Nat.{ℕ, suc, _+_, _≤_, _<_}
+use Prim.Native.Nat.{ℕ, _+_, _≤_, _<_}
 use mathlib.Core.Path.{_≡_, refl, sym, _∙_}
-use mathlib.Core.Bool.{Bool, true, false, not}
+use mathlib.Core.Bool.{Bool, false}
 use mathlib.Core.List.{List}
-use mathlib.Core.Option.{Option, none, some}
+use mathlib.Core.Option.{Option}
 use native.Mathlib.Numerals.{add-one}
 use native.Mathlib.Omega.{arith}
 use borrow.Author.Needs.{needs}
-use borrow.Author.Tests.{le-leb, lt-leb, leb-true, leb-false}
-use lib.Dec.{leb, ltb}
+use lib.Dec.{ltb}
 use lib.ListN.{length, getD, drop, drop-of-length-le}
 use lib.Seq.{drop-cons}
 use Rattle.lists.specs.Tests.{pick}
-use Rattle.sheet.specs.Front.{Front, front, broken, then, whereHolds, bitMap, bit, nameIf, all}
+use Rattle.sheet.specs.Front.{Front, front, then, whereHolds, bitMap, bit, nameIf}
 use Rattle.codec.specs.declared.field.Pair.{Pair}
 use Rattle.codec.specs.Field.{Byte, ReadAt, Two, pairIf, PairRead, Named, fieldsOf, FieldsRead}
 use Rattle.codec.proofs.Fronts.{two, then-then, then-same, hold-then, read-then, read-as, held-read}
@@ -50,7 +49,7 @@ module _ {sheet : List ℕ} {at values v w : ℕ} where
       map : ReadAt sheet (bitMap values (drop at sheet)) (ltb n values) n (at + 1) (at + 1)
       map =
           let z : ReadAt sheet (whereHolds (ltb n values) (front n (drop (at + 1) sheet))) (ltb n values) n (at + 1) (at + 1) =
-              held-read (ltb n values) (omega arith) (omega arith) in
+          held-read (ltb n values) (omega arith) (omega arith) in
           rw (drop-cons sheet at 0 h, ← y .is, ← add-one at) z
 
 -- ---- what is made of them, where a test of the bits holds

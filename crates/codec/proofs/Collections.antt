@@ -1,5 +1,5 @@
 -- Laws of list and map sheets: what is made of their fields, and the names that a reading asks for.
-use Prim.Native.Nat.{ℕ, _+_, _≤_}
+use Prim.Native.Nat.{ℕ}
 use mathlib.Core.Path.{_≡_, refl, sym, _∙_}
 use mathlib.Core.Bool.{Bool, true, false, not}
 use mathlib.Core.List.{List}
@@ -8,10 +8,10 @@ use native.Mathlib.Omega.{arith}
 use borrow.Author.Needs.{needs}
 use borrow.Author.Tests.{not-true, not-false, eq-eqb}
 use lib.Dec.{leb}
-use lib.ListN.{length, drop}
+use lib.ListN.{length}
 use Rattle.lists.specs.Tests.{pick, false-true, flags}
 use Rattle.lists.specs.Bytes.{ascii, sameb}
-use Rattle.sheet.specs.Front.{Front, front, broken, then, whereHolds, bitMap, bit, nameIf, all}
+use Rattle.sheet.specs.Front.{front, broken, then, whereHolds, bitMap, bit, nameIf, all}
 use Rattle.sheet.specs.Sheet.{itemIf, onlyWith, listOf, valueIf, mapOf}
 use Rattle.sheet.specs.Sheet as sheet
 use Rattle.sheet.specs.Names.{orElse, namedItem, valueNameOf, aggregateOf}
@@ -20,8 +20,8 @@ use Rattle.codec.specs.declared.field.Span.{Span}
 use Rattle.codec.specs.declared.field.Fields.{Fields}
 use Rattle.codec.specs.declared.collection.ListSheet.{ListSheet}
 use Rattle.codec.specs.declared.collection.MapSheet.{MapSheet}
-use Rattle.codec.specs.Field.{nameOf, OrElse, ReadAt, Named, namedBy, FieldsRead}
-use Rattle.codec.specs.Collection.{isWhole, ListSaid, ListRead, MapSaid, MapRead, ItemNamed, ItemsNamed, EntriesNamed}
+use Rattle.codec.specs.Field.{nameOf, OrElse, Named, namedBy, FieldsRead}
+use Rattle.codec.specs.Collection.{isWhole, ListSaid, ListRead, MapRead, ItemNamed, ItemsNamed, EntriesNamed}
 use Rattle.codec.proofs.Fronts.{two, read-then, all-read, held-read}
 use Rattle.codec.proofs.Bits.{fields-then}
 
@@ -51,7 +51,8 @@ sheet-is values v w third a b make {sheet} {f} x e =
     let fit : ℕ → Bool = λ n. pick (onlyWith (bit third n) (bit a n)) (onlyWith (bit third n) (bit b n)) false in
     let test = third-is (bit third (f .bits)) (bit a (f .bits)) (bit b (f .bits)) in
     rw (fields-then v w (λ n x y end. front (make (record { bits = n; names = two x y })) end) values fit sheet, e, ← test)
-    (all-read (read-then (x .read) (λ f e. whereHolds (fit (f .bits)) (front (make f) e)) (held-read (fit (f .bits)) (x .read .inside) (x .read .near))
+    (all-read (read-then (x .read) (λ f e. whereHolds (fit (f .bits)) (front (make f) e))
+    (held-read (fit (f .bits)) (x .read .inside) (x .read .near))
     refl (x .read .near)))
 
 -- ---- lists
@@ -110,8 +111,9 @@ map-read {sheet} {f} {ok} x e p q =
     let is : mapOf sheet ≡ pick ok (some (mapMake (namedBy sheet f))) none = sheet-is 32 2 8 4 8 16 mapMake x e in
     record {
       there = λ t. (let z : mapOf sheet ≡ some (mapMake (namedBy sheet f)) = rw t at is in
-          let v = value-is (f .ok) (leb (length sheet) (f .next)) (bit 4 (f .bits)) (bit 8 (f .bits)) (bit 16 (f .bits)) (nameOf sheet (f .second))
-              (sym t ∙ e) (λ u. rw (eq-eqb (f .second .len) 0 (x .absent u))) in
+          let v = value-is (f .ok) (leb (length sheet) (f .next)) (bit 4 (f .bits)) (bit 8 (f .bits)) (bit 16 (f .bits))
+          (nameOf sheet (f .second))
+          (sym t ∙ e) (λ u. rw (eq-eqb (f .second .len) 0 (x .absent u))) in
           record {
             said = rw z;
             stands = rw z (record {
@@ -157,6 +159,17 @@ module _ {settings : Settings} {map : MapSheet} where
 pub called : (local asked : List ℕ) {name own : List ℕ} {t : Bool} → asked ≡ own → name ≡ own → t ≡ sameb local name → t ≡ sameb local asked
 called local asked a n e = rw (a, ← n) e
 
-pub ruleset collection-laws =
-    (needs, not-true, not-false, list-read, map-read, item-named, items-lenient, items-flat, items-strict, entries-lenient, entries-strict,
-    called)
+pub ruleset collection-laws = (
+  needs,
+  not-true,
+  not-false,
+  list-read,
+  map-read,
+  item-named,
+  items-lenient,
+  items-flat,
+  items-strict,
+  entries-lenient,
+  entries-strict,
+  called,
+)

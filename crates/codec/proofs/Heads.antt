@@ -1,8 +1,8 @@
 -- Laws of what stands before the members of a structure sheet: the names that the root may have, and the count.
-use Prim.Native.Nat.{ℕ, suc, _+_, _≤_, _<_}
+use Prim.Native.Nat.{ℕ, _+_, _≤_, _<_}
 use mathlib.Core.Path.{_≡_, refl, sym, _∙_, ap}
 use mathlib.Core.Bool.{Bool, true, false}
-use mathlib.Core.List.{List, [], _∷_}
+use mathlib.Core.List.{List, []}
 use mathlib.Core.Option.{Option, none, some, Option·getD}
 use native.Mathlib.Numerals.{add-one}
 use native.Mathlib.Omega.{arith}
@@ -77,9 +77,10 @@ structure-is : (sheet : List ℕ) → structureOf sheet ≡ all (then (then (fie
 unfolding structureOf structureOn
 structure-is sheet =
     let make : ℕ → Option (List ℕ) → Option (List ℕ) → Option (List ℕ) → List ℕ → List ℕ → Front Structure = λ b x o m shape e.
-        then (memberList e) (λ l end.
-        front (record { xmlName = x; originalName = o; memberName = m; unwrapped = bit 8 b; shapeName = shape; members = l }) end) in
-    ap all (fields-then 1 2 (λ b x o s. then (nameIf (bit 4 b) s) (λ m r. then (name r) (λ shape e. make b x o m shape e))) 16 (λ b. true) sheet
+    then (memberList e) (λ l end.
+    front (record { xmlName = x; originalName = o; memberName = m; unwrapped = bit 8 b; shapeName = shape; members = l }) end) in
+    ap all (fields-then 1 2 (λ b x o s. then (nameIf (bit 4 b) s) (λ m r. then (name r) (λ shape e. make b x o m shape e))) 16 (λ b. true)
+    sheet
     ∙ then-same (fieldsOf 16 1 2 sheet) (λ f s. name-then (bit 4 (f .bits)) s (make (f .bits) (f .names .first) (f .names .second))
     ∙ sym (then-then (pairIf (bit 4 (f .bits)) true s) (λ q e. front (headed f q) e) filled))
     ∙ sym (then-then (fieldsOf 16 1 2 sheet) shaped filled))
@@ -105,7 +106,8 @@ head-read {sheet} {f} {p} {ok = ok} x y z b e u =
     head : Headed
     head = headed (namedBy sheet f) (namesOf sheet (p .first) (p .second))
 
-    read : ReadAt sheet (then (fieldsOf 16 1 2 sheet) shaped) ok (headed (namedBy sheet f) (namesOf sheet (p .first) (p .second))) (p .next) 1025
+    read : ReadAt sheet (then (fieldsOf 16 1 2 sheet) shaped) ok (headed (namedBy sheet f) (namesOf sheet (p .first) (p .second))) (p .next)
+        1025
     read =
         read-then (x .read) shaped (read-as (rw b at (y .read)) (headed (namedBy sheet f))) e (omega (arith, x .read .near, y .read .near))
 

@@ -3,29 +3,24 @@ use Prim.Native.Nat.{ℕ, zero, suc, _+_, _-_, _*_, _≤_, _<_}
 use mathlib.Core.Path.{_≡_, refl, sym, _∙_}
 use mathlib.Core.Bool.{Bool, true, false}
 use mathlib.Core.List.{List, [], _∷_, _++_, append-nil, append-assoc}
-use mathlib.Core.Option.{some}
 use native.Mathlib.Decide.{decLt}
 use native.Mathlib.Numerals.{add-one}
 use native.Mathlib.Omega.{arith}
 use borrow.Author.Needs.{needs}
-use borrow.Author.Tests.{not-true, not-false, eq-eqb, ne-eqb}
+use borrow.Author.Tests.{not-true, not-false}
 use lib.Dec.{leb}
-use lib.ListN.{length, getD, drop, set, length-set, length-append, List·getD-append, drop-of-length-le}
-use lib.Seq.{drop-cons, getD-set-same, getD-set-other, getD-at, sets, length-sets}
+use lib.ListN.{length, getD, drop, set, length-set, length-append, List·getD-append}
+use lib.Seq.{getD-set-same, getD-set-other, getD-at, sets, length-sets}
 use Rattle.lists.specs.Tests.{pick, pick-same, pick-flag}
-use Rattle.lists.specs.Bytes.{sameb}
-use Rattle.sheet.specs.Front.{Front, front, broken, then, whereHolds, bit, times}
+use Rattle.sheet.specs.Front.{Front, front, broken, then, bit, times}
 use Rattle.sheet.specs.Sheet.{member, memberList}
 use Rattle.sheet.specs.Sheet as defined
-use Rattle.sheet.specs.Names.{childName, attributeName, isNamed, Indexed, indexed, firstNamed, resolve}
 use Rattle.codec.specs.declared.field.Span.{Span}
 use Rattle.codec.specs.declared.field.Fields.{Fields}
 use Rattle.codec.specs.declared.structure.Count.{Count}
 use Rattle.codec.specs.declared.structure.Member.{Member}
-use Rattle.codec.specs.declared.structure.Found.{Found}
-use Rattle.codec.specs.declared.structure.Found.the-variants.{At, Nothing}
-use Rattle.codec.specs.Field.{bytesAt, nameOf, OrElse, ReadAt, Named, namedBy, fieldsOf, FieldsRead}
-use Rattle.codec.specs.Structure.{saidBy, nameless, memberIn, MemberAt, MembersAt, MembersSaid, isMember, Resolved, countOf}
+use Rattle.codec.specs.Field.{OrElse, Named, namedBy, fieldsOf, FieldsRead}
+use Rattle.codec.specs.Structure.{nameless, memberIn, MemberAt, MembersAt, countOf}
 use Rattle.codec.specs.Structure.{CountRead, Storable, MembersRead}
 use Rattle.codec.proofs.Fronts.{then-hold, read-then, read-as}
 use Rattle.codec.proofs.Bits.{fields-then}
@@ -43,7 +38,8 @@ memberOf f =
 
 member-is : (s : List ℕ) → member s ≡ then (fieldsOf 32 1 2 s) (λ f e. front (memberOf f) e)
 unfolding memberOf
-member-is s = fields-then 1 2 (λ b x m e. front (memberOf (record { bits = b; names = record { first = x; second = m } })) e) 32 (λ b. true) s
+member-is s = fields-then 1 2 (λ b x m e. front (memberOf (record { bits = b; names = record { first = x; second = m } })) e) 32 (λ b. true)
+    s
 
 -- ---- a run of stores
 pub three-stores : (l : List ℕ) (n a b c : ℕ) → set (set (set l n a) (n + 1) b) (n + 2) c ≡ sets l n (a ∷ b ∷ c ∷ [])
@@ -80,8 +76,12 @@ module _ {sheet numbers : List ℕ} {l : List defined.Member} (x : MembersAt she
 
       go : (i : ℕ) → Dec (i < k) → i ≤ k → MemberAt sheet (memberIn (sets numbers (k * 3) new) i) (getD (l ++ m ∷ []) i nameless)
       go i (yes h) p =
-          rw (below i 0 h (omega arith), below i 1 h (omega arith), below i 2 h (omega arith),
-          List·getD-append l (m ∷ []) nameless i (omega arith)) (x .each i (omega arith))
+          rw (
+            below i 0 h (omega arith),
+            below i 1 h (omega arith),
+            below i 2 h (omega arith),
+            List·getD-append l (m ∷ []) nameless i (omega arith),
+          ) (x .each i (omega arith))
       go i (no h) p =
           let e : i ≡ k = omega (arith, h) in
           rw (e, here 0 (omega arith), here 1 (omega arith), here 2 (omega arith), getD-at l m [] nameless k n) y
@@ -187,7 +187,8 @@ module _ {sheet : List ℕ} {at : ℕ} {head : Count} {numbers : List ℕ} {next
             flattened = refl;
             aggregate = refl;
             name = sym (n .name sheet);
-            inside = n .inside (length sheet) (omega (arith, x .firstEnds, x .read .inside)) (omega (arith, x .secondEnds, x .read .inside));
+            inside = n .inside (length sheet) (omega (arith, x .firstEnds, x .read .inside))
+                (omega (arith, x .secondEnds, x .read .inside));
           });
         })
 

@@ -3,7 +3,7 @@ use Prim.Native.Nat.{ℕ, zero, suc, _+_, _-_, _≤_, _<_}
 use mathlib.Core.Path.{_≡_, refl, sym}
 use mathlib.Core.Bool.{Bool, true, false}
 use mathlib.Core.List.{List, []}
-use mathlib.Core.Option.{Option, none, some, Option·getD}
+use mathlib.Core.Option.{none, some, Option·getD}
 use native.Mathlib.Numerals.{add-one}
 use native.Mathlib.Omega.{arith}
 use borrow.Author.Needs.{needs}
@@ -120,6 +120,20 @@ pair-read {sheet} {u = u} {x = x} f g e =
       absent = g .absent;
     }
 
-pub ruleset name-laws =
-    (needs, not-true, not-false, bytes-are, given-other, own-name, else-second, else-first, length-ends, length-cut, length-read, name-absent,
-    name-broken, name-read, pair-read)
+pub ruleset name-laws = (
+  needs,
+  not-true,
+  not-false,
+  bytes-are,
+  given-other,
+  own-name,
+  else-second,
+  else-first,
+  length-ends,
+  length-cut,
+  length-read,
+  name-absent,
+  name-broken,
+  name-read,
+  pair-read,
+)

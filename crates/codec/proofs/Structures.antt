@@ -8,7 +8,7 @@ use native.Mathlib.Omega.{arith}
 use borrow.Author.Needs.{needs}
 use borrow.Author.Tests.{not-true, not-false}
 use lib.Dec.{leb}
-use lib.ListN.{length, getD, take, drop}
+use lib.ListN.{length, getD, drop}
 use lib.Seq.{getD-take, length-take-le}
 use Rattle.lists.specs.Tests.{pick}
 use Rattle.lists.specs.Parts.{part}
@@ -20,7 +20,7 @@ use Rattle.codec.specs.declared.structure.Head.{Head}
 use Rattle.codec.specs.declared.structure.Members.{Members}
 use Rattle.codec.specs.declared.structure.StructureSheet.{StructureSheet}
 use Rattle.codec.specs.Field.{bytesAt}
-use Rattle.codec.specs.Structure.{saidBy, nameless, memberIn, MemberAt, MembersAt, MembersSaid, PartIn, StructureSaid, StructureRead}
+use Rattle.codec.specs.Structure.{saidBy, MembersAt, MembersSaid, PartIn, StructureSaid, StructureRead}
 use Rattle.codec.specs.Structure.{HeadRead, MembersRead}
 use Rattle.codec.proofs.Fronts.{read-as, all-read}
 
