@@ -1,0 +1,5 @@
+pub mod Settings
+pub mod Guard
+pub mod Field
+pub mod Structure
+pub mod Collection
