@@ -318,7 +318,7 @@ pub fn validate_references(text: &[u8]) -> Validated
 }
 
 // How many bytes a text comes to, or that a reference is bad.
-fn measure(text: &[u8]) -> Unescaped
+pub fn measure(text: &[u8]) -> Unescaped
     ensures { λ r. ⌜ r ≡ sizeOf (unescaped (now (text .entry))) ⌝ }
 {
     let mut size = 0;
@@ -347,7 +347,7 @@ fn measure(text: &[u8]) -> Unescaped
 }
 
 // Writes what a text comes to, for which there is room.
-fn fill(text: &[u8], out: &mut [u8])
+pub fn fill(text: &[u8], out: &mut [u8])
     requires { ⌜ Room (unescaped (now text)) (length (now out)) ⌝ }
     ensures { λ _. ⌜ now (out .exit) ≡ filled (unescaped (now (text .entry))) (now (out .entry)) ⌝ }
 {
