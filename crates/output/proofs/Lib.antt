@@ -1,0 +1,6 @@
+pub mod Room
+pub mod Texts
+pub mod Then
+pub mod Called
+pub mod AllOrNone
+pub mod Sound
