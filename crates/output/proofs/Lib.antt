@@ -4,3 +4,4 @@ pub mod Then
 pub mod Called
 pub mod AllOrNone
 pub mod Sound
+pub mod Kept

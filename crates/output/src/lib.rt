@@ -6,10 +6,12 @@ ghost use mathlib.Core.List.{[], _∷_, _++_};
 ghost use Prim.Native.Nat.{_+_, _*_, _^_, _≤_, _<_};
 ghost use lib.ListN.{length};
 ghost use lib.Seq.{sets};
+ghost use Rattle.lists.specs.Overwrite.{Stored};
 ghost use Rattle.reference.specs.Text.{unescaped};
 ghost use Rattle.readings.specs.Output.{sixNumbers};
-ghost use Rattle.output.specs.Steps.{entryOf, plainOf, entered, piece, failed, text, scalar, keyText, keyPiece};
+ghost use Rattle.output.specs.Steps.{entryOf, plainOf, entered, piece, failed, text, scalar, keyText, keyPiece, group};
 ghost use Rattle.output.specs.Held.{HasRoom, Does, Enters, Comes, Ready};
+ghost use Rattle.output.specs.Kept.{isKept, GroupLen, keptBytes, flat, Inside, Wide};
 use reference::Unescaped;
 use refusal::Refusal;
 
@@ -284,4 +286,123 @@ pub fn write_key_text(
         texts,
         w,
     )
+}
+
+// ---- groups
+
+// Keeps a child of a flattened aggregate member, as the piece after `count` others: it waits for its group.
+pub fn keep(kept: &mut [u32], count: usize, member: u32, start: u32, len: u32)
+    requires { ⌜ count * 3 + 3 ≤ length (now kept) ⌝ }
+    ensures { λ _. ⌜ now (kept .exit) ≡ sets (now (kept .entry)) (count * 3) (member ∷ start ∷ len ∷ []) ⌝ }
+{
+    let at = count * 3;
+    kept[at] = member;
+    kept[at + 1] = start;
+    kept[at + 2] = len;
+}
+
+// Whether a child of a member is kept.
+pub fn has_group(kept: &[u32], member: u32) -> bool
+    ensures { λ r. ⌜ r ≡ isKept (now (kept .entry)) member ⌝ }
+{
+    let mut k = 0;
+    while k < kept.len() / 3 {
+        if kept[k * 3] == member {
+            return true;
+        }
+        k += 1;
+    }
+    false
+}
+
+fn wide(x: u32) -> usize
+    ensures { λ r. ⌜ Wide x r ⌝ }
+{
+    x as usize
+}
+
+// How many bytes the kept children of a member have together.
+pub fn group_len(kept: &[u32], member: u32) -> usize
+    requires { ⌜ length (now kept) < 2 ^ 32 ⌝ }
+    ensures { λ r. ⌜ GroupLen (now (kept .entry)) member r ⌝ }
+{
+    let mut n = 0;
+    let mut k = 0;
+    while k < kept.len() / 3 {
+        if kept[k * 3] == member {
+            n += wide(kept[k * 3 + 2]);
+            k += 1;
+        } else {
+            k += 1;
+        }
+    }
+    n
+}
+
+// Copies them one after another, and answers the place after them.
+fn put_kept(body: &[u8], kept: &[u32], member: u32, texts: &mut [u8], from: usize) -> usize
+    requires { ⌜ Inside (now body) (now kept) ⌝ }
+    requires { ⌜ from + length (keptBytes (now body) (now kept) member) ≤ length (now texts) ⌝ }
+    ensures { λ r. ⌜ Stored (now (texts .entry)) (now (texts .exit)) from (keptBytes (now (body .entry)) (now (kept .entry)) member) r ⌝ }
+{
+    let mut at = from;
+    let mut k = 0;
+    while k < kept.len() / 3 {
+        if kept[k * 3] == member {
+            let start = wide(kept[k * 3 + 1]);
+            let end = start + wide(kept[k * 3 + 2]);
+            at = slices::put(texts, at, &body[start..end]);
+            k += 1;
+        } else {
+            k += 1;
+        }
+    }
+    at
+}
+
+// Copies the group of a member between its two tags, and answers the place after it.
+fn put_flat(body: &[u8], kept: &[u32], member: u32, texts: &mut [u8], from: usize) -> usize
+    requires { ⌜ Inside (now body) (now kept) ⌝ }
+    requires { ⌜ from + length (flat (now body) (now kept) member) ≤ length (now texts) ⌝ }
+    ensures { λ r. ⌜ Stored (now (texts .entry)) (now (texts .exit)) from (flat (now (body .entry)) (now (kept .entry)) member) r ⌝ }
+{
+    let first = slices::put(texts, from, b"<__flat>");
+    let last = put_kept(body, kept, member, texts, first);
+    slices::put(texts, last, b"</__flat>")
+}
+
+// The group of a member: measured first, then copied once.
+pub fn write_group(
+    body: &[u8],
+    kept: &[u32],
+    member: u32,
+    entries: &mut [u32],
+    texts: &mut [u8],
+    w: Written,
+) -> Step
+    requires { ⌜ Inside (now body) (now kept) ⌝ }
+    requires { ⌜ length (now kept) < 2 ^ 32 ⌝ }
+    requires { ⌜ Ready w (length (flat (now body) (now kept) member)) ⌝ }
+    ensures { λ r. ⌜ Does (group member (flat (now (body .entry)) (now (kept .entry)) member)) (now (entries .entry)) (now (texts .entry)) w (now (entries .exit)) (now (texts .exit)) r ⌝ }
+{
+    let count = w.count;
+    let used = w.used;
+    let n = group_len(kept, member) + 17;
+    if has_room(entries.len(), texts.len(), w, n) {
+        let end = put_flat(body, kept, member, texts, used);
+        let s = Six {
+            kind: 3,
+            member,
+            key_start: 0,
+            key_len: 0,
+            start: used as u32,
+            len: n as u32,
+        };
+        put_entry(entries, count, s);
+        return Step::Done(Written {
+            count: count + 1,
+            used: end,
+        });
+    }
+    Step::Refused(Refusal::NoRoom, w)
 }
