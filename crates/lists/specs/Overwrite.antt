@@ -7,7 +7,7 @@ use native.Mathlib.Nat.{add-zero}
 use native.Mathlib.Omega.{arith}
 use borrow.Rule.Slice.PartMut.{putMid}
 use lib.ListN.{length, set, take, drop, length-drop, length-append, drop-of-length-le}
-use lib.Seq.{drop-drop, sets, sets-eq, take-append-seam, drop-append-add}
+use lib.Seq.{length-take-le, drop-drop, sets, sets-eq, take-at, take-append-seam, drop-append-add}
 use Rattle.lists.specs.Parts.{tail}
 
 -- what stands in `old` once `new` is written at its front
@@ -37,6 +37,12 @@ sets-append l n [] ys = rw add-zero
 sets-append l n (x ∷ xs) ys =
     let e : n + suc (length xs) ≡ suc n + length xs = omega arith in
     ap (λ (k : ℕ). sets (sets (set l n x) (suc n) xs) k ys) e ∙ sets-append (set l n x) (suc n) xs ys
+
+-- a front that ends with a run of stores
+pub take-sets : (l : List ℕ) (n : ℕ) (x : List ℕ) → n + length x ≤ length l → take (n + length x) (sets l n x) ≡ take n l ++ x
+take-sets l n x h =
+    let q : length (take n l ++ x) ≡ n + length x = omega (arith, length-append (take n l) x, length-take-le n l (omega arith)) in
+    ap (take (n + length x)) (sets-eq x l n h) ∙ take-at (take n l ++ x) (drop (n + length x) l) (n + length x) q
 
 -- ---- a callee that was lent the tail `&mut t[n..]`: what it wrote at the tail's front is stored in the whole
 -- what `&mut t[n..]` is

@@ -148,12 +148,12 @@ pub record CopiedAt (body l : List ℕ) (i : ℕ) (t t′ : List ℕ) (from at k
   pub is : t′ ≡ sets t from (bytesOf body front)
   pub same : length t′ ≡ length t
 
-bytes-append : (body : List ℕ) (l m : List Piece) → bytesOf body (l ++ m) ≡ bytesOf body l ++ bytesOf body m
+pub bytes-append : (body : List ℕ) (l m : List Piece) → bytesOf body (l ++ m) ≡ bytesOf body l ++ bytesOf body m
 unfolding bytesOf
 bytes-append body [] m = refl
 bytes-append body (p ∷ l) m = ap (λ (r : List ℕ). cut body (p .start) (p .len) ++ r) (bytes-append body l m) ∙ sym (append-assoc (cut body (p .start) (p .len)) (bytesOf body l) (bytesOf body m))
 
-bytes-one : (body : List ℕ) (p : Piece) → bytesOf body (p ∷ []) ≡ cut body (p .start) (p .len)
+pub bytes-one : (body : List ℕ) (p : Piece) → bytesOf body (p ∷ []) ≡ cut body (p .start) (p .len)
 unfolding bytesOf
 bytes-one body p = append-nil (cut body (p .start) (p .len))
 
