@@ -56,7 +56,8 @@ back t n p = putMid n (length t - n) t p
 pub rest-length : (t : List ℕ) (n : ℕ) → length (rest t n) ≡ length t - n
 rest-length t n = ap length (tail n t) ∙ length-drop n t
 
-pub back-stored : (t : List ℕ) (n : ℕ) (l : List ℕ) {p : List ℕ} → n + length l ≤ length t → p ≡ overwritten (rest t n) l → back t n p ≡ sets t n l
+pub back-stored : (t : List ℕ) (n : ℕ) (l : List ℕ) {p : List ℕ} → n + length l ≤ length t → p ≡ overwritten (rest t n) l
+    → back t n p ≡ sets t n l
 unfolding overwritten
 back-stored t n l {p} h e =
     let k : length (drop n t) ≤ length t - n = omega (arith, length-drop n t) in
