@@ -1,0 +1,8 @@
+pub mod Room
+pub mod Texts
+pub mod Then
+pub mod Called
+pub mod AllOrNone
+pub mod Sound
+pub mod Kept
+pub mod Siblings
