@@ -1,0 +1,19 @@
+use Rattle.codec.specs.Names.{asked-laws}
+use borrow.Author.Needs.{needs}
+use Rattle.codec.proofs.collection.is_key.Statement.{statement}
+use Rattle.codec.proofs.collection.is_key.Tie as tie
+
+slice-aggregate-name-or : tie.Need-slice-aggregate-name-or
+slice-aggregate-name-or c = search needs
+
+name-or-requires : tie.Need-name-or-requires
+name-or-requires c κs = search needs
+
+same-requires : tie.Need-same-requires
+same-requires c κs = search needs
+
+returns : tie.Need-returns
+returns c = search asked-laws
+
+pub is-key-spec : {M : Type 1} → statement M
+is-key-spec = tie.close (tie.spec slice-aggregate-name-or name-or-requires same-requires returns)

@@ -1,0 +1,13 @@
+use Rattle.codec.specs.Settings.{settings-laws}
+use borrow.Author.Needs.{needs}
+use Rattle.codec.proofs.settings.is_strict.Statement.{statement}
+use Rattle.codec.proofs.settings.is_strict.Tie as tie
+
+returns : tie.Need-returns
+returns c = search settings-laws
+
+returns-2 : tie.Need-returns-2
+returns-2 c = search needs
+
+pub is-strict-spec : {M : Type 1} → statement M
+is-strict-spec = tie.close (tie.spec returns returns-2)

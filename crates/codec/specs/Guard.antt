@@ -1,0 +1,17 @@
+-- The depth guard: what entering and leaving an aggregate make of it.
+use Prim.Native.Nat.{_+_, _-_}
+use mathlib.Core.Bool.{Bool}
+use lib.Dec.{leb}
+use Rattle.lists.specs.Tests.{pick}
+use Rattle.codec.specs.declared.guard.Guard.{Guard}
+
+-- "3 depth at or above the maximum"
+abbrev pub refuses : Guard → Bool
+refuses g = leb (g .max) (g .depth)
+
+-- one deeper, or unchanged where it is refused
+abbrev pub entered : Guard → Guard
+entered g = record { depth = pick (refuses g) (g .depth) (g .depth + 1); max = g .max }
+
+abbrev pub left : Guard → Guard
+left g = record { depth = g .depth - 1; max = g .max }
