@@ -1,0 +1,7 @@
+pub mod Room
+pub mod Texts
+pub mod Then
+pub mod Called
+pub mod AllOrNone
+pub mod Sound
+pub mod Kept
