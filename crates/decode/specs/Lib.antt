@@ -1,14 +1,6 @@
-pub mod Names
 pub mod Rows
-pub mod Walk
-pub mod Stand
-pub mod Skip
-pub mod Start
-pub mod Tag
-pub mod Next
-pub mod ViewRows
+pub mod Drain
+pub mod Reader
 pub mod View
-pub mod FirstText
 pub mod Piece
-pub mod Attribute
-pub mod Element
+pub mod Text

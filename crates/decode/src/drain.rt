@@ -1,9 +1,8 @@
 // The strict drain: one walk over the rows, with the open elements by the rows in which they start.
 ghost use Prim.Native.Nat.{_<_, _≤_};
 ghost use mathlib.Core.Path.{_≡_};
-ghost use Rattle.decode.specs.Rows.{InTable, LiesIn, Readable, faultIf, nameAt, namesBack, valueAt, valuePasses};
-ghost use Rattle.decode.specs.Walk.{Placed, Walkable, faultOf, tokAt, topOf};
-ghost use Rattle.document.specs.Reader.{depth};
+ghost use Rattle.decode.specs.Rows.{InTable, Readable, nameAt, tokAt, valueAt};
+ghost use Rattle.decode.specs.Drain.{LiesIn, Placed, Walkable, faultIf, faultOf, namesBack, topOf, valuePasses};
 ghost use Rattle.lists.specs.Find.{Clear};
 ghost use Rattle.table.specs.Row.{rowsOf, toksOf};
 ghost use Rattle.xml.specs.Drain.{drained, seen, walked};

@@ -2,12 +2,10 @@
 ghost use Prim.Native.Nat.{_-_};
 ghost use lib.ListN.{drop};
 ghost use mathlib.Core.Path.{_≡_};
-ghost use Rattle.decode.specs.Piece.{DroppedIs, EndIn, PieceIs};
-ghost use Rattle.decode.specs.Stand.{Sees, pastAt};
-ghost use Rattle.decode.specs.Start.{StartIn};
+ghost use Rattle.decode.specs.Reader.{DroppedIs, Sees, StartIn, pastAt};
 ghost use Rattle.decode.specs.View.{Viewed, viewAt};
+ghost use Rattle.decode.specs.Piece.{EndIn, PieceIs};
 ghost use Rattle.document.specs.Scope.{pieceEnd};
-ghost use Rattle.document.specs.View.{view};
 ghost use Rattle.table.specs.Flat.{rowsFrom};
 ghost use Rattle.table.specs.Piece.{pieceStart};
 use crate::reader::Cursor;

@@ -1,16 +1,10 @@
 // A reader over the rows of a view. Elements and scopes are held by row numbers: a name is read from its row when it is compared.
+ghost use Prim.Native.Nat.{_+_, _<_, _^_};
 ghost use mathlib.Core.Path.{_≡_};
-ghost use Rattle.decode.specs.Attribute.{AttributeIs};
-ghost use Rattle.decode.specs.Element.{LeftIs, RootIs};
-ghost use Rattle.decode.specs.Next.{NextIs};
-ghost use Rattle.decode.specs.Piece.{DroppedIs};
-ghost use Rattle.decode.specs.Rows.{InTable, Readable, nameAt, valueAt};
-ghost use Rattle.decode.specs.Skip.{PastIs};
-ghost use Rattle.decode.specs.Stand.{At, EndedAt, HasRow, Outside, ScopeIn, Sees, scopeAt};
-ghost use Rattle.decode.specs.Start.{StartIn, isBytes};
-ghost use Rattle.decode.specs.Tag.{StartsAt, TagIs};
-ghost use Rattle.document.specs.Reader.{depth, isEnd, less};
 ghost use Rattle.reference.specs.Text.{unescaped};
+ghost use Rattle.document.specs.Reader.{depth, endsAt, isEnd, less};
+ghost use Rattle.decode.specs.Rows.{InTable, Readable, nameAt, tokAt, valueAt};
+ghost use Rattle.decode.specs.Reader.{At, AttributeIs, DepthIs, DroppedIs, EndedAt, HasRow, LeftIs, NextIs, Outside, PastIs, RootIs, ScopeIn, Sees, StartIn, StartsAt, TagEnd, TagIs, foundAt, isBytes, overAt, scopeAt};
 use crate::name::row_matches;
 use crate::name::same_name;
 use crate::name::span;
@@ -82,6 +76,43 @@ pub fn is_end(body: &[u8], rows: &[u32], scope: ScopeRow, d: usize, k: usize) ->
     }
 }
 
+// The depth after a row of this kind, which starts no element.
+pub fn depth_after(kind: usize, d: usize) -> usize
+    ensures { λ r. ⌜ DepthIs kind d r ⌝ }
+{
+    if kind == 4 {
+        return less_of(d);
+    }
+    if kind == 5 {
+        return less_of(d);
+    }
+    d
+}
+
+// Whether row k, which leaves depth d, ends a scope.
+pub fn ends_here(body: &[u8], rows: &[u32], scope: ScopeRow, d: usize, k: usize) -> bool
+    requires { ⌜ ScopeIn (now body) (now rows) scope k ⌝ }
+    ensures { λ r. ⌜ r ≡ endsAt (scopeAt (now (body .entry)) (now (rows .entry)) scope) (depth d) (tokAt (now (body .entry)) (now (rows .entry)) k) ⌝ }
+{
+    if field(rows, k, 0) == 4 {
+        return is_end(body, rows, scope, d, k);
+    }
+    false
+}
+
+// A scope is over: where the reader stands then.
+fn over(ended: bool, row: usize, d: usize) -> Past
+    ensures { λ r. ⌜ r ≡ overAt ended row d ⌝ }
+{
+    Past {
+        ended,
+        at: Cursor {
+            row,
+            depth: Depth(d),
+        },
+    }
+}
+
 // On to the end of a scope.
 pub fn skip(body: &[u8], rows: &[u32], n: usize, scope: ScopeRow, at: Cursor) -> Past
     requires { ⌜ Sees (now body) (now rows) n ⌝ }
@@ -93,35 +124,18 @@ pub fn skip(body: &[u8], rows: &[u32], n: usize, scope: ScopeRow, at: Cursor) ->
     let mut d = at.depth.0;
     while k < n {
         let kind = field(rows, k, 0);
-        if kind == 4 {
-            d = less_of(d);
-            if is_end(body, rows, scope, d, k) {
-                return Past {
-                    ended: true,
-                    at: Cursor {
-                        row: k + 1,
-                        depth: Depth(d),
-                    },
-                };
-            }
-            k += 1;
-        } else if kind == 1 {
+        if kind == 1 {
             d += 1;
             k += 1;
-        } else if kind == 5 {
-            d = less_of(d);
-            k += 1;
         } else {
+            d = depth_after(kind, d);
+            if ends_here(body, rows, scope, d, k) {
+                return over(true, k + 1, d);
+            }
             k += 1;
         }
     }
-    Past {
-        ended: false,
-        at: Cursor {
-            row: k,
-            depth: Depth(d),
-        },
-    }
+    over(false, k, d)
 }
 
 // Whether the value of row k unescapes.
@@ -138,10 +152,10 @@ fn unescapes(body: &[u8], rows: &[u32], k: usize) -> bool
     }
 }
 
-// The start element of row i, at depth d: its start tag is read up to its end, or up to an attribute that does not unescape.
-fn start_tag(body: &[u8], rows: &[u32], n: usize, d: usize, i: usize) -> Next
-    requires { ⌜ StartsAt (now body) (now rows) n d i ⌝ }
-    ensures { λ r. ⌜ TagIs (now (body .entry)) (now (rows .entry)) n d i r ⌝ }
+// Where the start tag of row i stops being attributes that unescape: at its end, at one that does not, at a token error, or where the rows run out.
+fn tag_end(body: &[u8], rows: &[u32], n: usize, i: usize) -> usize
+    requires { ⌜ StartsAt (now body) (now rows) n 0 i ⌝ }
+    ensures { λ r. ⌜ TagEnd (now (body .entry)) (now (rows .entry)) n i r ⌝ }
 {
     let mut k = i + 1;
     while k < n {
@@ -150,58 +164,51 @@ fn start_tag(body: &[u8], rows: &[u32], n: usize, d: usize, i: usize) -> Next
             if unescapes(body, rows, k) {
                 k += 1;
             } else {
-                return Next::Gone(Past {
-                    ended: false,
-                    at: Cursor {
-                        row: k + 1,
-                        depth: Depth(d + 1),
-                    },
-                });
+                return k;
             }
-        } else if kind == 3 {
-            return Next::Found(
-                StartRow {
-                    row: i,
-                    end: k,
-                    closed: false,
-                    depth: Depth(d),
-                },
-                Cursor {
-                    row: k + 1,
-                    depth: Depth(d + 1),
-                },
-            );
-        } else if kind == 5 {
-            return Next::Found(
-                StartRow {
-                    row: i,
-                    end: k,
-                    closed: true,
-                    depth: Depth(d),
-                },
-                Cursor {
-                    row: k + 1,
-                    depth: Depth(d),
-                },
-            );
         } else {
-            // A token error, which is the last row.
-            return Next::Gone(Past {
-                ended: false,
-                at: Cursor {
-                    row: k + 1,
-                    depth: Depth(d + 1),
-                },
-            });
+            return k;
         }
     }
-    Next::Gone(Past {
-        ended: false,
-        at: Cursor {
-            row: k,
-            depth: Depth(d + 1),
+    k
+}
+
+// The start element of row i at depth d, whose tag ends in row k, and the reader after it, at another depth.
+fn found(i: usize, k: usize, closed: bool, d: usize, inner: usize) -> Next
+    requires { ⌜ k + 1 < 2 ^ 64 ⌝ }
+    ensures { λ r. ⌜ r ≡ foundAt i k closed d inner ⌝ }
+{
+    Next::Found(
+        StartRow {
+            row: i,
+            end: k,
+            closed,
+            depth: Depth(d),
         },
-    })
+        Cursor {
+            row: k + 1,
+            depth: Depth(inner),
+        },
+    )
+}
+
+// The start element of row i, at depth d. An attribute that does not unescape ends the search; so does a token error, which is the last row.
+fn start_tag(body: &[u8], rows: &[u32], n: usize, d: usize, i: usize) -> Next
+    requires { ⌜ StartsAt (now body) (now rows) n d i ⌝ }
+    ensures { λ r. ⌜ TagIs (now (body .entry)) (now (rows .entry)) n d i r ⌝ }
+{
+    let k = tag_end(body, rows, n, i);
+    if n <= k {
+        return Next::Gone(over(false, k, d + 1));
+    }
+    let kind = field(rows, k, 0);
+    if kind == 3 {
+        return found(i, k, false, d, d + 1);
+    }
+    if kind == 5 {
+        return found(i, k, true, d, d);
+    }
+    Next::Gone(over(false, k + 1, d + 1))
 }
 
 // The next start element of a scope.
@@ -218,29 +225,13 @@ pub fn next_start_element(body: &[u8], rows: &[u32], n: usize, scope: ScopeRow, 
         if kind == 1 {
             return start_tag(body, rows, n, d, k);
         }
-        if kind == 4 {
-            d = less_of(d);
-            if is_end(body, rows, scope, d, k) {
-                return Next::Gone(Past {
-                    ended: true,
-                    at: Cursor {
-                        row: k + 1,
-                        depth: Depth(d),
-                    },
-                });
-            }
-            k += 1;
-        } else {
-            k += 1;
+        d = depth_after(kind, d);
+        if ends_here(body, rows, scope, d, k) {
+            return Next::Gone(over(true, k + 1, d));
         }
+        k += 1;
     }
-    Next::Gone(Past {
-        ended: false,
-        at: Cursor {
-            row: k,
-            depth: Depth(d),
-        },
-    })
+    Next::Gone(over(false, k, d))
 }
 
 // The first start element of all.

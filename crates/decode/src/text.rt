@@ -1,16 +1,15 @@
 // The first text of an element.
 ghost use mathlib.Core.Path.{_≡_};
-ghost use Rattle.decode.specs.FirstText.{TextIs, childAt, endText};
-ghost use Rattle.decode.specs.Stand.{HasRow, Sees, scopeAt, toksFrom};
-ghost use Rattle.decode.specs.Start.{StartIn};
-ghost use Rattle.decode.specs.View.{failureAt};
 ghost use Rattle.document.specs.Reader.{depth};
 ghost use Rattle.document.specs.Text.{firstText, textOf};
+ghost use Rattle.decode.specs.Reader.{HasRow, Sees, StartIn, childAt, scopeAt, toksFrom};
+ghost use Rattle.decode.specs.View.{failureAt};
+ghost use Rattle.decode.specs.Text.{TextIs, endText};
 use crate::reader::Cursor;
 use crate::reader::ScopeRow;
 use crate::reader::StartRow;
-use crate::reader::is_end;
-use crate::reader::less_of;
+use crate::reader::depth_after;
+use crate::reader::ends_here;
 use crate::view::Failure;
 use refusal::Refusal;
 use table::field;
@@ -53,20 +52,14 @@ fn text_from(
         if kind == 6 {
             return Text::Row(k);
         }
-        if kind == 4 {
-            d = less_of(d);
-            if is_end(body, rows, scope, d, k) {
-                return Text::Empty;
-            }
-            k += 1;
-        } else if kind == 1 {
+        if kind == 1 {
             return Text::Refused(Refusal::ElementInText);
-        } else if kind == 5 {
-            d = less_of(d);
-            k += 1;
-        } else {
-            k += 1;
         }
+        d = depth_after(kind, d);
+        if ends_here(body, rows, scope, d, k) {
+            return Text::Empty;
+        }
+        k += 1;
     }
     end_text(failure)
 }

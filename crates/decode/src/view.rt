@@ -1,11 +1,12 @@
 // What a reading sees of a table: how many rows, and what is met where they run out.
 ghost use mathlib.Core.Bool.{false, true};
 ghost use mathlib.Core.Path.{_≡_};
-ghost use Rattle.decode.specs.View.{ViewIs};
-ghost use Rattle.decode.specs.Walk.{Walkable};
-ghost use Rattle.document.specs.View.{failureOf, positionAt, view};
 ghost use Rattle.table.specs.Row.{rowsOf};
 ghost use Rattle.table.specs.Rules.{TableRules};
+ghost use Rattle.document.specs.View.{failureOf, positionAt, view};
+ghost use Rattle.decode.specs.Drain.{Walkable};
+ghost use Rattle.decode.specs.View.{ViewIs, wholeAt};
+use crate::drain::walk;
 use refusal::Refusal;
 use table::field;
 use xml::Cause;
@@ -49,12 +50,24 @@ fn position_at(body: &[u8], rows: &[u32], k: usize, end: usize) -> usize
     end
 }
 
+// All rows, where nothing stops the reader.
+fn whole_view(rows: &[u32], end: usize) -> View
+    ensures { λ r. ⌜ r ≡ wholeAt (now (rows .entry)) end ⌝ }
+{
+    View {
+        count: rows.len() / 8,
+        failure: Failure::Nothing,
+        ill_formed: false,
+        ends: end,
+    }
+}
+
 // What a strict reading sees: the rows before the one that fails the drain.
 fn strict_view(body: &[u8], rows: &[u32], end: usize) -> View
     requires { ⌜ TableRules (now body) (now rows) end ⌝ }
     ensures { λ r. ⌜ ViewIs (now (body .entry)) (now (rows .entry)) r (view true (now (body .entry)) (rowsOf (now (rows .entry))) end) ⌝ }
 {
-    match crate::drain::walk(body, rows) {
+    match walk(body, rows) {
         Drained::IllFormed { row, cause } => {
             let failure = failure_of(cause);
             let ends = position_at(body, rows, row, end);
@@ -65,19 +78,9 @@ fn strict_view(body: &[u8], rows: &[u32], end: usize) -> View
                 ends,
             }
         }
-        Drained::Passes => View {
-            count: rows.len() / 8,
-            failure: Failure::Nothing,
-            ill_formed: false,
-            ends: end,
-        },
+        Drained::Passes => whole_view(rows, end),
         // A walk never answers this.
-        Drained::Table => View {
-            count: rows.len() / 8,
-            failure: Failure::Nothing,
-            ill_formed: false,
-            ends: end,
-        },
+        Drained::Table => whole_view(rows, end),
     }
 }
 
@@ -88,12 +91,7 @@ fn lenient_view(body: &[u8], rows: &[u32], end: usize) -> View
 {
     let n = rows.len() / 8;
     if n == 0 {
-        return View {
-            count: 0,
-            failure: Failure::Nothing,
-            ill_formed: false,
-            ends: end,
-        };
+        return whole_view(rows, end);
     }
     let last = n - 1;
     if field(rows, last, 0) == 8 {
@@ -104,12 +102,7 @@ fn lenient_view(body: &[u8], rows: &[u32], end: usize) -> View
             ends: end,
         };
     }
-    View {
-        count: n,
-        failure: Failure::Nothing,
-        ill_formed: false,
-        ends: end,
-    }
+    whole_view(rows, end)
 }
 
 // What a reading sees of a table that obeys the rules.

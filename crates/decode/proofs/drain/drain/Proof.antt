@@ -1,4 +1,4 @@
-use Rattle.decode.specs.Walk.{drain-laws}
+use Rattle.decode.proofs.Walking.{drain-laws}
 use borrow.Author.Needs.{needs}
 use Rattle.decode.proofs.drain.drain.Statement.{statement}
 use Rattle.decode.proofs.drain.drain.Tie as tie

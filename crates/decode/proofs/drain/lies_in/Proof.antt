@@ -1,4 +1,4 @@
-use Rattle.decode.specs.Rows.{plain-laws}
+use Rattle.decode.proofs.Faults.{plain-laws}
 use borrow.Author.Needs.{needs}
 use Rattle.decode.proofs.drain.lies_in.Statement.{statement}
 use Rattle.decode.proofs.drain.lies_in.Tie as tie

@@ -1,4 +1,4 @@
-use Rattle.decode.specs.Rows.{reference-laws}
+use Rattle.decode.proofs.Faults.{reference-laws}
 use borrow.Author.Needs.{needs}
 use Rattle.decode.proofs.drain.references_pass.Statement.{statement}
 use Rattle.decode.proofs.drain.references_pass.Tie as tie

@@ -1,4 +1,4 @@
-use Rattle.decode.specs.Walk.{fault-laws}
+use Rattle.decode.proofs.Faults.{fault-laws}
 use borrow.Author.Needs.{needs}
 use Rattle.decode.proofs.drain.row_fault.Statement.{statement}
 use Rattle.decode.proofs.drain.row_fault.Tie as tie

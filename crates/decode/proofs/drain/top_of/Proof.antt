@@ -1,4 +1,4 @@
-use Rattle.decode.specs.Walk.{top-laws}
+use Rattle.decode.proofs.Walking.{top-laws}
 use borrow.Author.Needs.{needs}
 use Rattle.decode.proofs.drain.top_of.Statement.{statement}
 use Rattle.decode.proofs.drain.top_of.Tie as tie

@@ -1,4 +1,4 @@
-use Rattle.decode.specs.Rows.{value-laws}
+use Rattle.decode.proofs.Faults.{passes-laws}
 use borrow.Author.Needs.{needs}
 use Rattle.decode.proofs.drain.value_fault.Statement.{statement}
 use Rattle.decode.proofs.drain.value_fault.Tie as tie
@@ -7,7 +7,7 @@ returns : tie.Need-returns
 returns c = search needs
 
 returns-2 : tie.Need-returns-2
-returns-2 c = search value-laws
+returns-2 c = search passes-laws
 
 pub value-fault-spec : {M : Type 1} → statement M
 value-fault-spec = tie.close (tie.spec returns returns-2)

@@ -1,7 +1,7 @@
 use borrow.Author.Needs.{needs}
 use Prim.Native.Nat.{_-_}
 use Rattle.lists.specs.Find.{Clear}
-use Rattle.decode.specs.Walk.{WalkAt, walk-laws, walk-fault, walk-open, walk-close, walk-slash, walk-on}
+use Rattle.decode.proofs.Walking.{WalkAt, walk-laws, walk-fault, walk-open, walk-close, walk-slash, walk-on}
 use Rattle.decode.proofs.drain.walk.Statement.{statement}
 use Rattle.decode.proofs.drain.walk.Tie as tie
 

@@ -1,4 +1,4 @@
-use Rattle.decode.specs.Names.{match-laws}
+use Rattle.decode.proofs.Names.{match-laws}
 use borrow.Author.Needs.{needs}
 use Rattle.decode.proofs.name.matches.Statement.{statement}
 use Rattle.decode.proofs.name.matches.Tie as tie

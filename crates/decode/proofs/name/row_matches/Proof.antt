@@ -1,4 +1,4 @@
-use Rattle.decode.specs.Attribute.{matches-laws}
+use Rattle.decode.proofs.Names.{matches-laws}
 use borrow.Author.Needs.{needs}
 use Rattle.decode.proofs.name.row_matches.Statement.{statement}
 use Rattle.decode.proofs.name.row_matches.Tie as tie

@@ -1,4 +1,4 @@
-use Rattle.decode.specs.Rows.{name-laws}
+use Rattle.decode.proofs.Names.{name-laws}
 use borrow.Author.Needs.{needs}
 use Rattle.decode.proofs.name.same_name.Statement.{statement}
 use Rattle.decode.proofs.name.same_name.Tie as tie

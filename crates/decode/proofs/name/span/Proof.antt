@@ -1,4 +1,4 @@
-use Rattle.decode.specs.Rows.{span-laws}
+use Rattle.decode.proofs.Names.{span-laws}
 use borrow.Author.Needs.{needs}
 use Rattle.decode.proofs.name.span.Statement.{statement}
 use Rattle.decode.proofs.name.span.Tie as tie

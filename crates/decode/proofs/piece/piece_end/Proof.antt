@@ -1,4 +1,4 @@
-use Rattle.decode.specs.Piece.{end-laws}
+use Rattle.decode.proofs.Pieces.{piece-end-laws}
 use borrow.Author.Needs.{needs}
 use Rattle.decode.proofs.piece.piece_end.Statement.{statement}
 use Rattle.decode.proofs.piece.piece_end.Tie as tie
@@ -13,7 +13,7 @@ field-requires : tie.Need-field-requires
 field-requires c κs = search needs
 
 returns-2 : tie.Need-returns-2
-returns-2 c = search end-laws
+returns-2 c = search piece-end-laws
 
 returns-3 : tie.Need-returns-3
 returns-3 c = search needs

@@ -1,4 +1,4 @@
-use Rattle.decode.specs.Piece.{piece-laws}
+use Rattle.decode.proofs.Pieces.{piece-laws}
 use borrow.Author.Needs.{needs}
 use Rattle.decode.proofs.piece.piece_start.Statement.{statement}
 use Rattle.decode.proofs.piece.piece_start.Tie as tie

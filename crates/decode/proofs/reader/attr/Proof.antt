@@ -1,5 +1,5 @@
 use Prim.Native.Nat.{_-_}
-use Rattle.decode.specs.Attribute.{search-laws, SearchAt}
+use Rattle.decode.proofs.Attributes.{search-laws, SearchAt}
 use Rattle.decode.proofs.reader.attr.Statement.{statement}
 use Rattle.decode.proofs.reader.attr.Tie as tie
 

@@ -1,4 +1,4 @@
-use Rattle.decode.specs.Piece.{drop-laws}
+use Rattle.decode.proofs.Skipping.{drop-laws}
 use Rattle.decode.proofs.reader.drop_element.Statement.{statement}
 use Rattle.decode.proofs.reader.drop_element.Tie as tie
 

@@ -1,4 +1,4 @@
-use Rattle.decode.specs.Stand.{end-laws}
+use Rattle.decode.proofs.Places.{end-laws}
 use borrow.Author.Needs.{needs}
 use Rattle.decode.proofs.reader.is_end.Statement.{statement}
 use Rattle.decode.proofs.reader.is_end.Tie as tie

@@ -1,4 +1,4 @@
-use Rattle.decode.specs.Element.{leave-laws}
+use Rattle.decode.proofs.Skipping.{leave-laws}
 use Rattle.decode.proofs.reader.leave.Statement.{statement}
 use Rattle.decode.proofs.reader.leave.Tie as tie
 

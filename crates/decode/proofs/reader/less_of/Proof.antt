@@ -1,4 +1,4 @@
-use Rattle.decode.specs.Stand.{less-laws}
+use Rattle.decode.proofs.Places.{less-laws}
 use borrow.Author.Needs.{needs}
 use Rattle.decode.proofs.reader.less_of.Statement.{statement}
 use Rattle.decode.proofs.reader.less_of.Tie as tie

@@ -1,6 +1,5 @@
 use Prim.Native.Nat.{_-_}
-use borrow.Author.Needs.{needs}
-use Rattle.decode.specs.Next.{seek-laws, seek-on, SeekAt}
+use Rattle.decode.proofs.Seeking.{seek-laws, SeekAt}
 use Rattle.decode.proofs.reader.next_start_element.Statement.{statement}
 use Rattle.decode.proofs.reader.next_start_element.Tie as tie
 
@@ -22,14 +21,17 @@ start-tag-requires c κs = search seek-laws
 returns : tie.Need-returns Inv-loop μ-loop
 returns c = search seek-laws
 
-less-of-requires : tie.Need-less-of-requires Inv-loop μ-loop
-less-of-requires c κs = search seek-laws
+depth-after-requires : tie.Need-depth-after-requires Inv-loop μ-loop
+depth-after-requires c κs = search seek-laws
 
-is-end-requires : tie.Need-is-end-requires Inv-loop μ-loop
-is-end-requires c κs = search seek-laws
+ends-here-requires : tie.Need-ends-here-requires Inv-loop μ-loop
+ends-here-requires c κs = search seek-laws
 
-add-t11 : tie.Need-add-t11 Inv-loop μ-loop
-add-t11 c = search seek-laws
+add-over : tie.Need-add-over Inv-loop μ-loop
+add-over c = search seek-laws
+
+over-requires : tie.Need-over-requires Inv-loop μ-loop
+over-requires c κs = search seek-laws
 
 returns-2 : tie.Need-returns-2 Inv-loop μ-loop
 returns-2 c = search seek-laws
@@ -41,17 +43,10 @@ loop-less : tie.Need-loop-less Inv-loop μ-loop
 loop-less c = search seek-laws
 
 loop-again : tie.Need-loop-again Inv-loop μ-loop
-loop-again c =
-    seek-on (c .before .before .before .before .before .before .before .loop .inv) (c .before .before .before .before .before .before .loop-test .taken) (c .before .before .before .before .before .field .ensures) (c .before .before .less-of .ensures) (c .before .before .before .if2 .taken) (c .before .is-end .ensures) (search needs)
+loop-again c = search seek-laws
 
-add-k-2 : tie.Need-add-k-2 Inv-loop μ-loop
-add-k-2 c = search seek-laws
-
-loop-less-2 : tie.Need-loop-less-2 Inv-loop μ-loop
-loop-less-2 c = search seek-laws
-
-loop-again-2 : tie.Need-loop-again-2 Inv-loop μ-loop
-loop-again-2 c = search seek-laws
+over-requires-2 : tie.Need-over-requires-2 Inv-loop μ-loop
+over-requires-2 c κs = search seek-laws
 
 returns-3 : tie.Need-returns-3 Inv-loop μ-loop
 returns-3 c = search seek-laws
@@ -66,14 +61,13 @@ next-start-element-spec =
     field-requires
     start-tag-requires
     returns
-    less-of-requires
-    is-end-requires
-    add-t11
+    depth-after-requires
+    ends-here-requires
+    add-over
+    over-requires
     returns-2
     add-k
     loop-less
     loop-again
-    add-k-2
-    loop-less-2
-    loop-again-2
+    over-requires-2
     returns-3)

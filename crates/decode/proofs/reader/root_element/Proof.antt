@@ -1,4 +1,4 @@
-use Rattle.decode.specs.Element.{root-laws}
+use Rattle.decode.proofs.Seeking.{root-laws}
 use borrow.Author.Needs.{needs}
 use Rattle.decode.proofs.reader.root_element.Statement.{statement}
 use Rattle.decode.proofs.reader.root_element.Tie as tie

@@ -1,4 +1,4 @@
-use Rattle.decode.specs.Start.{value-laws}
+use Rattle.decode.proofs.StartTag.{value-laws}
 use borrow.Author.Needs.{needs}
 use Rattle.decode.proofs.reader.unescapes.Statement.{statement}
 use Rattle.decode.proofs.reader.unescapes.Tie as tie

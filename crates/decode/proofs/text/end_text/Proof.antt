@@ -1,4 +1,4 @@
-use Rattle.decode.specs.FirstText.{end-text-laws}
+use Rattle.decode.proofs.Texts.{end-text-laws}
 use borrow.Author.Needs.{needs}
 use Rattle.decode.proofs.text.end_text.Statement.{statement}
 use Rattle.decode.proofs.text.end_text.Tie as tie

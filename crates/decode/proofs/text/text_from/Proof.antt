@@ -1,11 +1,11 @@
 use Prim.Native.Nat.{_-_}
+use Rattle.decode.proofs.Texts.{text-laws, text-on, TextFrom}
 use borrow.Author.Needs.{needs}
-use Rattle.decode.specs.FirstText.{text-laws, text-on, TextAt}
 use Rattle.decode.proofs.text.text_from.Statement.{statement}
 use Rattle.decode.proofs.text.text_from.Tie as tie
 
 abbrev Inv-loop : tie.InvT-loop
-Inv-loop body rows n failure scope from deep k₀ d₀ k d = TextAt body rows n failure scope d₀ k₀ d k
+Inv-loop body rows n failure scope from deep k₀ d₀ k d = TextFrom body rows n failure scope d₀ k₀ d k
 
 abbrev μ-loop : tie.MeasureT-loop
 μ-loop body rows n failure scope from deep k₀ d₀ k d = n - k
@@ -19,14 +19,17 @@ field-requires c κs = search text-laws
 returns : tie.Need-returns Inv-loop μ-loop
 returns c = search text-laws
 
-less-of-requires : tie.Need-less-of-requires Inv-loop μ-loop
-less-of-requires c κs = search text-laws
-
-is-end-requires : tie.Need-is-end-requires Inv-loop μ-loop
-is-end-requires c κs = search text-laws
-
 returns-2 : tie.Need-returns-2 Inv-loop μ-loop
 returns-2 c = search text-laws
+
+depth-after-requires : tie.Need-depth-after-requires Inv-loop μ-loop
+depth-after-requires c κs = search text-laws
+
+ends-here-requires : tie.Need-ends-here-requires Inv-loop μ-loop
+ends-here-requires c κs = search text-laws
+
+returns-3 : tie.Need-returns-3 Inv-loop μ-loop
+returns-3 c = search text-laws
 
 add-k : tie.Need-add-k Inv-loop μ-loop
 add-k c = search text-laws
@@ -36,31 +39,8 @@ loop-less c = search text-laws
 
 loop-again : tie.Need-loop-again Inv-loop μ-loop
 loop-again c =
-    text-on (c .before .before .before .before .before .before .before .loop .inv) (c .before .before .before .before .before .before .loop-test .taken) (c .before .before .before .before .before .field .ensures) (c .before .before .less-of .ensures) (c .before .before .before .if2 .taken) (c .before .is-end .ensures) (search needs)
-
-returns-3 : tie.Need-returns-3 Inv-loop μ-loop
-returns-3 c = search text-laws
-
-less-of-requires-2 : tie.Need-less-of-requires-2 Inv-loop μ-loop
-less-of-requires-2 c κs = search text-laws
-
-add-k-2 : tie.Need-add-k-2 Inv-loop μ-loop
-add-k-2 c = search text-laws
-
-loop-less-2 : tie.Need-loop-less-2 Inv-loop μ-loop
-loop-less-2 c = search text-laws
-
-loop-again-2 : tie.Need-loop-again-2 Inv-loop μ-loop
-loop-again-2 c = search text-laws
-
-add-k-3 : tie.Need-add-k-3 Inv-loop μ-loop
-add-k-3 c = search text-laws
-
-loop-less-3 : tie.Need-loop-less-3 Inv-loop μ-loop
-loop-less-3 c = search text-laws
-
-loop-again-3 : tie.Need-loop-again-3 Inv-loop μ-loop
-loop-again-3 c = search text-laws
+    text-on (c .before .before .before .before .before .before .before .loop .inv) (c .before .before .before .before .before .before .loop-test .taken)
+    (c .before .before .before .before .before .field .ensures) (search needs) (search needs) (c .before .before .depth-after .ensures) (c .before .ends-here .ensures) (search needs)
 
 end-text-requires : tie.Need-end-text-requires Inv-loop μ-loop
 end-text-requires c κs = search text-laws
@@ -77,19 +57,12 @@ text-from-spec =
     loop-holds
     field-requires
     returns
-    less-of-requires
-    is-end-requires
     returns-2
+    depth-after-requires
+    ends-here-requires
+    returns-3
     add-k
     loop-less
     loop-again
-    returns-3
-    less-of-requires-2
-    add-k-2
-    loop-less-2
-    loop-again-2
-    add-k-3
-    loop-less-3
-    loop-again-3
     end-text-requires
     returns-4)

@@ -1,4 +1,4 @@
-use Rattle.decode.specs.FirstText.{element-text-laws}
+use Rattle.decode.proofs.Texts.{element-text-laws}
 use borrow.Author.Needs.{needs}
 use Rattle.decode.proofs.text.try_data.Statement.{statement}
 use Rattle.decode.proofs.text.try_data.Tie as tie

@@ -1,4 +1,4 @@
-use Rattle.decode.specs.View.{position-laws}
+use Rattle.decode.proofs.Views.{position-laws}
 use borrow.Author.Needs.{needs}
 use Rattle.decode.proofs.view.position_at.Statement.{statement}
 use Rattle.decode.proofs.view.position_at.Tie as tie

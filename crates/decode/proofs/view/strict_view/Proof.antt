@@ -1,4 +1,4 @@
-use Rattle.decode.specs.View.{view-laws}
+use Rattle.decode.proofs.Views.{view-laws}
 use borrow.Author.Needs.{needs}
 use Rattle.decode.proofs.view.strict_view.Statement.{statement}
 use Rattle.decode.proofs.view.strict_view.Tie as tie
@@ -18,8 +18,14 @@ position-at-requires c κs = search view-laws
 enum-told : tie.Need-enum-told
 enum-told c = search needs
 
+whole-view-requires : tie.Need-whole-view-requires
+whole-view-requires c κs = search needs
+
 enum-told-2 : tie.Need-enum-told-2
 enum-told-2 c = search needs
+
+whole-view-requires-2 : tie.Need-whole-view-requires-2
+whole-view-requires-2 c κs = search needs
 
 returns : tie.Need-returns
 returns c = search view-laws
@@ -39,7 +45,9 @@ strict-view-spec =
     failure-of-requires
     position-at-requires
     enum-told
+    whole-view-requires
     enum-told-2
+    whole-view-requires-2
     returns
     returns-2
     returns-3)

@@ -1,4 +1,4 @@
-use Rattle.decode.specs.View.{either-laws}
+use Rattle.decode.proofs.Views.{either-laws}
 use borrow.Author.Needs.{needs}
 use Rattle.decode.proofs.view.view_of.Statement.{statement}
 use Rattle.decode.proofs.view.view_of.Tie as tie

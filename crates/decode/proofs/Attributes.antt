@@ -1,55 +1,22 @@
--- The search for an attribute among the rows of a start tag.
+-- Laws of the search for an attribute among the rows of a start tag.
 use Prim.Native.Nat.{ℕ, zero, suc, _+_, _-_, _≤_, _<_}
 use mathlib.Core.Path.{_≡_, refl, sym, _∙_}
 use mathlib.Core.Bool.{Bool, true, false}
 use mathlib.Core.List.{List, [], _∷_}
 use mathlib.Core.Option.{Option, none, some}
-use native.Mathlib.Numerals.{add-one}
 use native.Mathlib.Omega.{arith}
 use borrow.Author.Needs.{needs}
 use borrow.Author.Tests.{eqb-true, eqb-false}
 use lib.Dec.{eqb}
-use Rattle.lists.specs.Tests.{pick, false-true}
-use Rattle.reference.specs.Text.{bytes, unescaped}
+use Rattle.lists.specs.Tests.{pick}
+use Rattle.reference.specs.Text.{unescaped}
 use Rattle.document.specs.Reader as doc
-use Rattle.document.specs.Names.{nameMatches, named}
-use Rattle.decode.specs.Rows.{InTable, prefix-span, local-span, nameAt, valueAt}
+use Rattle.document.specs.Names.{nameMatches}
 use Rattle.decode.specs.declared.reader.StartRow.{StartRow}
 use Rattle.decode.specs.declared.reader.Attribute.{Attribute}
-use Rattle.decode.specs.Stand.{Sees}
-use Rattle.decode.specs.Start.{bytesOf, bytes-are, attributesFrom, startAt, StartIn}
-
--- ---- a name and a pattern
-pub row-matches : (body t pattern : List ℕ) (k : ℕ) {p l : List ℕ} {r : Bool} → p ≡ nameAt body t k .prefix → l ≡ nameAt body t k .local → r ≡ nameMatches (named p l) pattern
-    → r ≡ nameMatches (nameAt body t k) pattern
-row-matches body t pattern k e f h = rw (← e, ← f) h
-
-pub ruleset matches-laws = (needs, prefix-span, local-span, row-matches)
-
--- ---- what the search answers
--- a pattern asks for the name of none of the rows from one on and before another
-pub record NoMatch (body t pattern : List ℕ) (from end : ℕ) : Type 0 where
-  pub none : (j : ℕ) → from ≤ j → j < end → nameMatches (nameAt body t j) pattern ≡ false
-
--- of these rows, k is the first whose name it asks for
-pub record FirstMatch (body t pattern : List ℕ) (from end k : ℕ) : Type 0 where
-  pub low : from ≤ k
-  pub high : k < end
-  pub asked : nameMatches (nameAt body t k) pattern ≡ true
-  pub earlier : NoMatch body t pattern from k
-
-abbrev pub MatchIn : List ℕ → List ℕ → List ℕ → ℕ → ℕ → Attribute → Type 0
-MatchIn body t pattern from end (Attribute.Row k) = FirstMatch body t pattern from end k
-MatchIn body t pattern from end Attribute.Nothing = NoMatch body t pattern from end
-
--- the value of a row that is found unescapes
-abbrev pub ValueIn : List ℕ → List ℕ → Attribute → Type 0
-ValueIn body t (Attribute.Row k) = InTable t k × (unescaped (valueAt body t k) ≡ bytes (bytesOf (unescaped (valueAt body t k))))
-ValueIn body t Attribute.Nothing = Unit {0}
-
-pub record AttributeIs (body t : List ℕ) (s : StartRow) (pattern : List ℕ) (r : Attribute) : Type 0 where
-  pub is : MatchIn body t pattern (s .row + 1) (s .end) r
-  pub row : ValueIn body t r
+use Rattle.decode.specs.Rows.{InTable, nameAt, valueAt}
+use Rattle.decode.specs.Reader.{bytesOf, attributesFrom, startAt, Sees, StartIn, NoMatch, FirstMatch, MatchIn, AttributeIs}
+use Rattle.decode.proofs.StartTag.{bytes-are}
 
 -- ---- the loop: none of the rows before row k
 pub record SearchAt (body t pattern : List ℕ) (from end k : ℕ) : Type 0 where

@@ -13,10 +13,12 @@ use Rattle.table.specs.Row.{Row, Name, tokAs, toksOf, rowsOf}
 use Rattle.table.specs.Rules.{Place, RowRules, EachRow}
 use Rattle.table.specs.Test.{first}
 use Rattle.table.specs.Flat.{rowAt, rowsFrom, length-rows, rows-same, rows-whole}
-use Rattle.decode.specs.Walk.{tokAt, Walkable}
 use Rattle.document.specs.View.{positionAt, isError, errorAt}
 use Rattle.document.specs.Laws.Tags.{Tags, no-token, token, rows-tags}
-use Rattle.decode.specs.Stand.{RulesAt, Sees, Outside}
+use Rattle.decode.specs.Rows.{tokAt}
+use Rattle.decode.specs.Drain.{Walkable}
+use Rattle.decode.specs.Reader.{RulesAt, Sees, Outside}
+use Rattle.decode.proofs.ByKind.{other}
 
 -- ---- rows by number
 pub take-rows : (t : List ℕ) (s k m : ℕ) → k ≤ m → take k (rowsFrom t s m) ≡ rowsFrom t s k
@@ -35,18 +37,6 @@ position-past t final s zero (suc m) h = absurd (omega arith)
 position-past t final s (suc k) (suc m) h = position-past t final (suc s) k m (omega arith)
 
 -- ---- a token error is the last row
-pub error-kind : (kind : ℕ) (m : Name) (v : List ℕ) → 1 ≤ kind → kind ≤ 8 → isError (tokAs kind m v) ≡ true → kind ≡ 8
-unfolding tokAs
-error-kind zero m v l h e = absurd (omega arith)
-error-kind (suc zero) m v l h e = false-true e
-error-kind (suc (suc zero)) m v l h e = false-true e
-error-kind (suc (suc (suc zero))) m v l h e = false-true e
-error-kind (suc (suc (suc (suc zero)))) m v l h e = false-true e
-error-kind (suc (suc (suc (suc (suc zero))))) m v l h e = false-true e
-error-kind (suc (suc (suc (suc (suc (suc zero)))))) m v l h e = false-true e
-error-kind (suc (suc (suc (suc (suc (suc (suc zero))))))) m v l h e = false-true e
-error-kind (suc (suc (suc (suc (suc (suc (suc (suc k)))))))) m v l h e = omega arith
-
 pub is-error : (u : Bool) → (u ≡ true → ⊥) → u ≡ false
 is-error true f = absurd (f refl)
 is-error false f = refl
@@ -60,7 +50,7 @@ module _ (body t : List ℕ) where
       o = first e .0
 
       no : isError (tokAt body t s) ≡ true → ⊥
-      no q = let z = o .errorLast (error-kind _ _ _ (o .knownKind .0) (o .knownKind .1) q) in omega (arith, length-rows t (suc s) (suc m))
+      no q = let z = o .errorLast (other _ _ _ .error (o .knownKind .0) (o .knownKind .1) q) in omega (arith, length-rows t (suc s) (suc m))
 
   pub error-at : {p : Place} (s m : ℕ) → EachRow body p (rowsFrom t s (suc m)) → isError (tokAt body t (s + m)) ≡ true → errorAt (toksOf body (rowsFrom t s (suc m))) ≡ some m
   unfolding errorAt

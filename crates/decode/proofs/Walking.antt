@@ -15,10 +15,9 @@ use lib.ListN.{length, getD, set, length-set}
 use lib.Seq.{getD-set-same, getD-set-other}
 use Rattle.lists.specs.Tests.{pick, false-true}
 use Rattle.lists.specs.Decide.{isYes}
-use Rattle.lists.specs.Find.{Clear}
 use Rattle.reference.specs.Text.{validated}
 use Rattle.reference.specs.declared.Validated.{Validated}
-use Rattle.table.specs.Row.{Row, Name, Tok, start, attr, gt, close, slash, text, misc, bad, tokAs, tokOf, toksOf, rowsOf}
+use Rattle.table.specs.Row.{Row, Name, Tok, start, attr, gt, close, slash, text, misc, bad, tokAs, toksOf, rowsOf}
 use Rattle.table.specs.Rules.{among, Place, atFirst, after, RowRules, EachRow, row, TableRules}
 use Rattle.table.specs.Test.{decTable, first}
 use Rattle.table.specs.Pass.{obeyed}
@@ -28,89 +27,11 @@ use Rattle.xml.specs.Passed.{openAfter, namesAfter}
 use Rattle.xml.specs.declared.Cause.{Cause}
 use Rattle.xml.specs.declared.Drained.{Drained}
 use Rattle.decode.specs.declared.drain.Fault.{Fault}
-use Rattle.decode.specs.Rows.{InTable, Readable, nameAt, valueAt, namesBack, asFault, valueFault, valuePasses, faultIf, fault-if, plain-none, LiesIn, value-plain}
-
--- what is wrong with a token: top is the name of the innermost open element, names are the attribute names of the start tag so far
-abbrev pub faultOf : Name → List Name → Tok → Fault
-faultOf top names (start n) = Fault.Nothing
-faultOf top names (attr m v) = pick (seen m names) (Fault.Is Cause.RepeatedAttribute) (valueFault v)
-faultOf top names gt = Fault.Nothing
-faultOf top names (close m) = pick (sameName m top) Fault.Nothing (Fault.Is Cause.MismatchedEnd)
-faultOf top names slash = Fault.Nothing
-faultOf top names (text v) = valueFault v
-faultOf top names misc = Fault.Nothing
-faultOf top names bad = Fault.Is Cause.TokenError
-
-abbrev pub tokAt : List ℕ → List ℕ → ℕ → Tok
-tokAt body t k = tokOf body (rowAt t k)
-
--- row k has a kind, and where it is an attribute it stands after the start row `tag`
-pub record Placed (t : List ℕ) (tag k : ℕ) : Type 0 where
-  pub least : 1 ≤ getD t (k * 8 + 0) 0
-  pub most : getD t (k * 8 + 0) 0 ≤ 8
-  pub inTag : getD t (k * 8 + 0) 0 ≡ 2 → tag < k
-
--- ---- the fault of one row
-module _ (body t : List ℕ) (top : Name) (names : List Name) (k : ℕ) {kind : ℕ} (e : kind ≡ getD t (k * 8 + 0) 0) where
-  pub fault-repeated : {u : Bool} → kind ≡ 2 → u ≡ seen (nameAt body t k) names → u ≡ true → Fault.Is Cause.RepeatedAttribute ≡ faultOf top names (tokAt body t k)
-  unfolding tokAs
-  fault-repeated h q g = rw (← e, h, ← q, g)
-
-  pub fault-value : {u v : Bool} {f : Fault} → kind ≡ 2 → u ≡ seen (nameAt body t k) names → u ≡ false → v ≡ valuePasses (valueAt body t k) → f ≡ faultIf v → f ≡ faultOf top names (tokAt body t k)
-  unfolding tokAs
-  fault-value h q g o p = rw (← e, h, ← q, g, ← fault-if (valueAt body t k), ← o) p
-
-  pub fault-plain : {u v : Bool} {low high : ℕ} → kind ≡ 2 → u ≡ seen (nameAt body t k) names → u ≡ false → Clear body 38 low high → LiesIn t k low high v → v ≡ true
-      → Fault.Nothing ≡ faultOf top names (tokAt body t k)
-  unfolding tokAs
-  fault-plain h q g c l o = rw (← e, h, ← q, g) (value-plain c l o)
-
-  pub fault-matched : {u : Bool} → kind ≡ 4 → u ≡ sameName (nameAt body t k) top → u ≡ true → Fault.Nothing ≡ faultOf top names (tokAt body t k)
-  unfolding tokAs
-  fault-matched h q g = rw (← e, h, ← q, g)
-
-  pub fault-mismatched : {u : Bool} → kind ≡ 4 → u ≡ sameName (nameAt body t k) top → u ≡ false → Fault.Is Cause.MismatchedEnd ≡ faultOf top names (tokAt body t k)
-  unfolding tokAs
-  fault-mismatched h q g = rw (← e, h, ← q, g)
-
-  pub fault-text : {v : Bool} {f : Fault} → kind ≡ 6 → v ≡ valuePasses (valueAt body t k) → f ≡ faultIf v → f ≡ faultOf top names (tokAt body t k)
-  unfolding tokAs
-  fault-text h o p = rw (← e, h, ← fault-if (valueAt body t k), ← o) p
-
-  pub text-plain : {v : Bool} {low high : ℕ} → kind ≡ 6 → Clear body 38 low high → LiesIn t k low high v → v ≡ true → Fault.Nothing ≡ faultOf top names (tokAt body t k)
-  unfolding tokAs
-  text-plain h c l o = rw (← e, h) (value-plain c l o)
-
-  pub fault-token : kind ≡ 8 → Fault.Is Cause.TokenError ≡ faultOf top names (tokAt body t k)
-  unfolding tokAs
-  fault-token h = rw (← e, h)
-
-  pub fault-none : {tag : ℕ} → Placed t tag k → (kind ≡ 2 → ⊥) → (kind ≡ 4 → ⊥) → (kind ≡ 6 → ⊥) → (kind ≡ 8 → ⊥) → Fault.Nothing ≡ faultOf top names (tokAt body t k)
-  unfolding tokAs
-  fault-none p a b c d = rw (← e) (go kind (omega (arith, p .least)) (omega (arith, p .most)) a b c d)
-    where
-      go : (i : ℕ) → 1 ≤ i → i ≤ 8 → (i ≡ 2 → ⊥) → (i ≡ 4 → ⊥) → (i ≡ 6 → ⊥) → (i ≡ 8 → ⊥) → Fault.Nothing ≡ faultOf top names (tokAs i (nameAt body t k) (valueAt body t k))
-      go zero l m a b c d = absurd (omega arith)
-      go (suc zero) l m a b c d = refl
-      go (suc (suc zero)) l m a b c d = absurd (a refl)
-      go (suc (suc (suc zero))) l m a b c d = refl
-      go (suc (suc (suc (suc zero)))) l m a b c d = absurd (b refl)
-      go (suc (suc (suc (suc (suc zero))))) l m a b c d = refl
-      go (suc (suc (suc (suc (suc (suc zero)))))) l m a b c d = absurd (c refl)
-      go (suc (suc (suc (suc (suc (suc (suc zero))))))) l m a b c d = refl
-      go (suc (suc (suc (suc (suc (suc (suc (suc zero)))))))) l m a b c d = absurd (d refl)
-      go (suc (suc (suc (suc (suc (suc (suc (suc (suc i))))))))) l m a b c d = absurd (omega arith)
-
-pub placed-after : {t : List ℕ} {tag k kind : ℕ} → Placed t tag k → kind ≡ getD t (k * 8 + 0) 0 → kind ≡ 2 → tag < k
-placed-after p e h = p .inTag (sym e ∙ h)
-
-pub ruleset fault-laws = (needs, placed-after, fault-repeated, fault-value, fault-plain, fault-matched, fault-mismatched, fault-text, text-plain, fault-token, fault-none)
+use Rattle.decode.specs.Rows.{InTable, nameAt, valueAt, tokAt}
+use Rattle.decode.specs.Drain.{namesBack, asFault, valueFault, faultOf, Placed, topOf, Walkable}
+use Rattle.decode.proofs.Faults.{plain-none}
 
 -- ---- the open elements, by the rows in which they start
-abbrev pub topOf : List ℕ → ℕ → ℕ
-topOf opened zero = 0
-topOf opened (suc d) = getD opened d 0
-
 abbrev pub stackOf : List ℕ → List ℕ → List ℕ → ℕ → List Name
 stackOf body t opened zero = []
 stackOf body t opened (suc d) = nameAt body t (getD opened d 0) ∷ stackOf body t opened d
@@ -260,11 +181,6 @@ topped top s (suc (suc (suc (suc (suc (suc (suc zero))))))) n v h = tt
 topped top s (suc (suc (suc (suc (suc (suc (suc (suc k)))))))) n v h = tt
 
 -- ---- the walk
-pub record Walkable (body t : List ℕ) : Type 0 where
-  pub whole : length t % 8 ≡ 0
-  pub each : EachRow body atFirst (rowsOf t)
-  pub readable : Readable body t
-
 pub record WalkAt (body t : List ℕ) (n : ℕ) (opened : List ℕ) (depth tag k : ℕ) : Type 0 where
   pub count : n ≡ length t / 8
   pub within : k ≤ n
@@ -516,7 +432,7 @@ module _ {body t : List ℕ} {n : ℕ} {opened : List ℕ} {depth tag k : ℕ} (
           cases (suc (suc (suc (suc (suc (suc (suc (suc (suc i))))))))) e a b c = absurd (omega (arith, here .knownKind .1))
 
 -- ---- the end of the rows
-length-toks : (body : List ℕ) (l : List Row) → length (toksOf body l) ≡ length l
+pub length-toks : (body : List ℕ) (l : List Row) → length (toksOf body l) ≡ length l
 length-toks body [] = refl
 length-toks body (r ∷ l) = ap suc (length-toks body l)
 

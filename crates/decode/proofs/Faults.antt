@@ -1,0 +1,169 @@
+-- Laws of the fault of a row: a name that repeats, a value that passes, and the rest.
+use Prim.Native.Nat.{ℕ, zero, suc, _+_, _-_, _*_, _≤_, _<_}
+use mathlib.Core.Path.{_≡_, refl, sym, _∙_, ap}
+use mathlib.Core.Bool.{Bool, true, false}
+use mathlib.Core.List.{List, _∷_}
+use native.Mathlib.Omega.{arith}
+use borrow.Author.Needs.{needs}
+use lib.ListN.{length, getD, take, drop, length-take}
+use lib.Seq.{getD-take, getD-drop}
+use Rattle.lists.specs.Parts.{getD-in}
+use Rattle.lists.specs.Find.{Clear, NextAt}
+use Rattle.lists.specs.Tests.{pick, false-true}
+use Rattle.reference.specs.Text.{validated}
+use Rattle.reference.specs.Result.{plain-valid}
+use Rattle.reference.specs.declared.Validated.{Validated}
+use Rattle.table.specs.Row.{Name, cut, tokAs}
+use Rattle.xml.specs.Drain.{sameName, seen}
+use Rattle.xml.specs.declared.Cause.{Cause}
+use Rattle.decode.specs.declared.drain.Fault.{Fault}
+use Rattle.decode.specs.Rows.{InTable, Readable, nameAt, valueAt, tokAt}
+use Rattle.decode.specs.Drain.{namesBack, asFault, valueFault, isValid, valuePasses, faultIf, LiesIn, faultOf, Placed}
+use Rattle.decode.proofs.Names.{value-span}
+
+-- ---- a name that repeats
+-- row k is compared with the rows back to j: those before are to be compared still
+pub record RepeatAt (body t : List ℕ) (tag k j : ℕ) : Type 0 where
+  pub low : tag < j
+  pub high : j ≤ k
+  pub rest : seen (nameAt body t k) (namesBack body t tag j) ≡ seen (nameAt body t k) (namesBack body t tag k)
+
+pub repeat-start : (body t : List ℕ) (tag k : ℕ) → tag < k → RepeatAt body t tag k k
+repeat-start body t tag k h = record { low = h; high = omega arith; rest = refl }
+
+module _ {body t : List ℕ} {tag k j : ℕ} (at : RepeatAt body t tag k j) (h : tag + 1 < j) where
+  pub repeat-in : InTable t k → InTable t (j - 1)
+  repeat-in i = record { row = omega (arith, i .row, at .high) }
+
+  names-first : namesBack body t tag j ≡ nameAt body t (j - 1) ∷ namesBack body t tag (j - 1)
+  names-first = let e : j - (tag + 1) ≡ suc ((j - 1) - (tag + 1)) = omega arith in rw e
+
+  first-seen : seen (nameAt body t k) (namesBack body t tag j) ≡ pick (sameName (nameAt body t k) (nameAt body t (j - 1))) true (seen (nameAt body t k) (namesBack body t tag (j - 1)))
+  unfolding seen
+  first-seen = ap (seen (nameAt body t k)) names-first
+
+  module _ {u : Bool} (e : u ≡ sameName (nameAt body t k) (nameAt body t (j - 1))) where
+    pub repeat-yes : u ≡ true → true ≡ seen (nameAt body t k) (namesBack body t tag k)
+    repeat-yes q = rw (← at .rest, first-seen, ← e, q)
+
+    pub repeat-no : u ≡ false → RepeatAt body t tag k (j - 1)
+    repeat-no q = record { low = omega arith; high = omega (arith, at .high); rest = sym (rw (← e, q) at first-seen) ∙ at .rest }
+
+pub repeat-end : {body t : List ℕ} {tag k j : ℕ} → RepeatAt body t tag k j → j ≤ tag + 1 → false ≡ seen (nameAt body t k) (namesBack body t tag k)
+unfolding seen
+repeat-end {body} {t} {tag} {k} {j} at h = let e : j - (tag + 1) ≡ 0 = omega arith in rw (← at .rest, e)
+
+pub ruleset repeat-laws = (needs, repeat-start, repeat-in, repeat-yes, repeat-no, repeat-end)
+
+-- ---- a value
+module _ (v : List ℕ) {x : List ℕ} {r : Validated} (p : x ≡ v) (e : r ≡ validated x) where
+  pub value-good : r ≡ Validated.Valid → true ≡ valuePasses v
+  value-good q = rw (← p, ← e, q)
+
+  pub value-bad : r ≡ Validated.BadReference → false ≡ valuePasses v
+  value-bad q = rw (← p, ← e, q)
+
+pub ruleset reference-laws = (needs, value-span, value-good, value-bad)
+
+pub fault-if : (v : List ℕ) → faultIf (valuePasses v) ≡ valueFault v
+fault-if v = go (validated v)
+  where
+    go : (r : Validated) → faultIf (isValid r) ≡ asFault r
+    go Validated.Valid = refl
+    go Validated.BadReference = refl
+
+pub passes-none : (u : Bool) → u ≡ true → Fault.Nothing ≡ faultIf u
+passes-none u q = rw q
+
+pub passes-not : (u : Bool) → u ≡ false → Fault.Is Cause.BadReference ≡ faultIf u
+passes-not u q = rw q
+
+pub ruleset passes-laws = (needs, passes-none, passes-not)
+
+-- ---- a part without `&`
+pub plain-none : (body : List ℕ) → Clear body 38 0 0
+plain-none body = record { low = omega arith; high = omega arith; none = λ k l h e. absurd (omega arith) }
+
+pub plain-next : {body : List ℕ} {from to : ℕ} → NextAt body 38 from to → Clear body 38 from to
+plain-next x = x .clear
+
+module _ {body t : List ℕ} (q : Readable body t) {k : ℕ} (h : InTable t k) where
+  pub value-start : {from : ℕ} → from ≡ getD t (k * 8 + 5) 0 → from ≤ length body
+  value-start e = omega (arith, q .each k (h .row) .value)
+
+-- a value in it has none
+plain-cut : {body : List ℕ} {low high : ℕ} → Clear body 38 low high → (from len : ℕ) → low ≤ from → from + len ≤ high → (k : ℕ) → getD (cut body from len) k 0 ≡ 38 → ⊥
+plain-cut {body} x from len l h k e =
+    let g : k < len = omega (arith, getD-in (cut body from len) k 37 e, length-take len (drop from body)) in
+    x .none (from + k) (omega arith) (omega arith) (sym (getD-take len (drop from body) k 0 g ∙ getD-drop from body k 0) ∙ e)
+
+pub lies-not : (t : List ℕ) (k low high : ℕ) → LiesIn t k low high false
+lies-not t k low high = record { says = λ e. false-true e }
+
+pub lies : (t : List ℕ) (k : ℕ) {low high from len : ℕ} → from ≡ getD t (k * 8 + 5) 0 → len ≡ getD t (k * 8 + 6) 0 → low ≤ from → from ≤ high → len ≤ high - from
+    → LiesIn t k low high true
+lies t k e f l m h = record { says = λ q. (omega arith, omega arith) }
+
+pub value-plain : {body t : List ℕ} {k low high : ℕ} {r : Bool} → Clear body 38 low high → LiesIn t k low high r → r ≡ true → Fault.Nothing ≡ valueFault (valueAt body t k)
+value-plain {body} {t} {k} x i q =
+    let h = i .says q in
+    let z = plain-valid (valueAt body t k) (plain-cut x (getD t (k * 8 + 5) 0) (getD t (k * 8 + 6) 0) (h .0) (h .1)) in
+    rw z
+
+pub ruleset plain-laws = (needs, plain-none, plain-next, value-start, lies-not, lies)
+
+-- ---- the fault of one row
+module _ (body t : List ℕ) (top : Name) (names : List Name) (k : ℕ) {kind : ℕ} (e : kind ≡ getD t (k * 8 + 0) 0) where
+  pub fault-repeated : {u : Bool} → kind ≡ 2 → u ≡ seen (nameAt body t k) names → u ≡ true → Fault.Is Cause.RepeatedAttribute ≡ faultOf top names (tokAt body t k)
+  unfolding tokAs
+  fault-repeated h q g = rw (← e, h, ← q, g)
+
+  pub fault-value : {u v : Bool} {f : Fault} → kind ≡ 2 → u ≡ seen (nameAt body t k) names → u ≡ false → v ≡ valuePasses (valueAt body t k) → f ≡ faultIf v → f ≡ faultOf top names (tokAt body t k)
+  unfolding tokAs
+  fault-value h q g o p = rw (← e, h, ← q, g, ← fault-if (valueAt body t k), ← o) p
+
+  pub fault-plain : {u v : Bool} {low high : ℕ} → kind ≡ 2 → u ≡ seen (nameAt body t k) names → u ≡ false → Clear body 38 low high → LiesIn t k low high v → v ≡ true
+      → Fault.Nothing ≡ faultOf top names (tokAt body t k)
+  unfolding tokAs
+  fault-plain h q g c l o = rw (← e, h, ← q, g) (value-plain c l o)
+
+  pub fault-matched : {u : Bool} → kind ≡ 4 → u ≡ sameName (nameAt body t k) top → u ≡ true → Fault.Nothing ≡ faultOf top names (tokAt body t k)
+  unfolding tokAs
+  fault-matched h q g = rw (← e, h, ← q, g)
+
+  pub fault-mismatched : {u : Bool} → kind ≡ 4 → u ≡ sameName (nameAt body t k) top → u ≡ false → Fault.Is Cause.MismatchedEnd ≡ faultOf top names (tokAt body t k)
+  unfolding tokAs
+  fault-mismatched h q g = rw (← e, h, ← q, g)
+
+  pub fault-text : {v : Bool} {f : Fault} → kind ≡ 6 → v ≡ valuePasses (valueAt body t k) → f ≡ faultIf v → f ≡ faultOf top names (tokAt body t k)
+  unfolding tokAs
+  fault-text h o p = rw (← e, h, ← fault-if (valueAt body t k), ← o) p
+
+  pub text-plain : {v : Bool} {low high : ℕ} → kind ≡ 6 → Clear body 38 low high → LiesIn t k low high v → v ≡ true → Fault.Nothing ≡ faultOf top names (tokAt body t k)
+  unfolding tokAs
+  text-plain h c l o = rw (← e, h) (value-plain c l o)
+
+  pub fault-token : kind ≡ 8 → Fault.Is Cause.TokenError ≡ faultOf top names (tokAt body t k)
+  unfolding tokAs
+  fault-token h = rw (← e, h)
+
+  pub fault-none : {tag : ℕ} → Placed t tag k → (kind ≡ 2 → ⊥) → (kind ≡ 4 → ⊥) → (kind ≡ 6 → ⊥) → (kind ≡ 8 → ⊥) → Fault.Nothing ≡ faultOf top names (tokAt body t k)
+  unfolding tokAs
+  fault-none p a b c d = rw (← e) (go kind (omega (arith, p .least)) (omega (arith, p .most)) a b c d)
+    where
+      go : (i : ℕ) → 1 ≤ i → i ≤ 8 → (i ≡ 2 → ⊥) → (i ≡ 4 → ⊥) → (i ≡ 6 → ⊥) → (i ≡ 8 → ⊥) → Fault.Nothing ≡ faultOf top names (tokAs i (nameAt body t k) (valueAt body t k))
+      go zero l m a b c d = absurd (omega arith)
+      go (suc zero) l m a b c d = refl
+      go (suc (suc zero)) l m a b c d = absurd (a refl)
+      go (suc (suc (suc zero))) l m a b c d = refl
+      go (suc (suc (suc (suc zero)))) l m a b c d = absurd (b refl)
+      go (suc (suc (suc (suc (suc zero))))) l m a b c d = refl
+      go (suc (suc (suc (suc (suc (suc zero)))))) l m a b c d = absurd (c refl)
+      go (suc (suc (suc (suc (suc (suc (suc zero))))))) l m a b c d = refl
+      go (suc (suc (suc (suc (suc (suc (suc (suc zero)))))))) l m a b c d = absurd (d refl)
+      go (suc (suc (suc (suc (suc (suc (suc (suc (suc i))))))))) l m a b c d = absurd (omega arith)
+
+pub placed-after : {t : List ℕ} {tag k kind : ℕ} → Placed t tag k → kind ≡ getD t (k * 8 + 0) 0 → kind ≡ 2 → tag < k
+placed-after p e h = p .inTag (sym e ∙ h)
+
+pub ruleset fault-laws = (needs, placed-after, fault-repeated, fault-value, fault-plain, fault-matched, fault-mismatched, fault-text, text-plain, fault-token, fault-none)

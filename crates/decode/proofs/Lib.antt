@@ -1,0 +1,13 @@
+pub mod Names
+pub mod Faults
+pub mod Walking
+pub mod ByKind
+pub mod Seen
+pub mod Views
+pub mod Places
+pub mod Skipping
+pub mod StartTag
+pub mod Seeking
+pub mod Attributes
+pub mod Pieces
+pub mod Texts

@@ -1,0 +1,74 @@
+-- The walk of the drain by row numbers: the fault of a row, the open elements, and rows that can be walked.
+use Prim.Native.Nat.{ℕ, zero, suc, _+_, _-_, _*_, _%_, _≤_, _<_}
+use mathlib.Core.Path.{_≡_}
+use mathlib.Core.Bool.{Bool, true, false}
+use mathlib.Core.List.{List, [], _∷_}
+use lib.ListN.{length, getD}
+use Rattle.lists.specs.Tests.{pick}
+use Rattle.reference.specs.Text.{validated}
+use Rattle.reference.specs.declared.Validated.{Validated}
+use Rattle.table.specs.Row.{Name, Tok, start, attr, gt, close, slash, text, misc, bad, rowsOf}
+use Rattle.table.specs.Rules.{atFirst, EachRow}
+use Rattle.xml.specs.Drain.{sameName, seen}
+use Rattle.xml.specs.declared.Cause.{Cause}
+use Rattle.decode.specs.declared.drain.Fault.{Fault}
+use Rattle.decode.specs.Rows.{Readable, nameAt}
+
+-- ---- names: of the m rows before row k, the nearest first; and of those back to the row after row `tag`
+abbrev pub back : List ℕ → List ℕ → ℕ → ℕ → List Name
+back body t k zero = []
+back body t k (suc m) = nameAt body t (k - 1) ∷ back body t (k - 1) m
+
+abbrev pub namesBack : List ℕ → List ℕ → ℕ → ℕ → List Name
+namesBack body t tag k = back body t k (k - (tag + 1))
+
+-- ---- values: the fault where a reference is not right; whether each is, and the fault by that
+abbrev pub asFault : Validated → Fault
+asFault Validated.Valid = Fault.Nothing
+asFault Validated.BadReference = Fault.Is Cause.BadReference
+
+abbrev pub valueFault : List ℕ → Fault
+valueFault v = asFault (validated v)
+
+abbrev pub isValid : Validated → Bool
+isValid Validated.Valid = true
+isValid Validated.BadReference = false
+
+abbrev pub valuePasses : List ℕ → Bool
+valuePasses v = isValid (validated v)
+
+abbrev pub faultIf : Bool → Fault
+faultIf true = Fault.Nothing
+faultIf false = Fault.Is Cause.BadReference
+
+-- where a test says so, the value of row k lies between two places
+pub record LiesIn (t : List ℕ) (k low high : ℕ) (r : Bool) : Type 0 where
+  pub says : r ≡ true → (low ≤ getD t (k * 8 + 5) 0) × (getD t (k * 8 + 5) 0 + getD t (k * 8 + 6) 0 ≤ high)
+
+-- ---- what is wrong with a token: top is the name of the innermost open element, names are the attribute names of the start tag so far
+abbrev pub faultOf : Name → List Name → Tok → Fault
+faultOf top names (start n) = Fault.Nothing
+faultOf top names (attr m v) = pick (seen m names) (Fault.Is Cause.RepeatedAttribute) (valueFault v)
+faultOf top names gt = Fault.Nothing
+faultOf top names (close m) = pick (sameName m top) Fault.Nothing (Fault.Is Cause.MismatchedEnd)
+faultOf top names slash = Fault.Nothing
+faultOf top names (text v) = valueFault v
+faultOf top names misc = Fault.Nothing
+faultOf top names bad = Fault.Is Cause.TokenError
+
+-- row k has a kind, and where it is an attribute it stands after the start row `tag`
+pub record Placed (t : List ℕ) (tag k : ℕ) : Type 0 where
+  pub least : 1 ≤ getD t (k * 8 + 0) 0
+  pub most : getD t (k * 8 + 0) 0 ≤ 8
+  pub inTag : getD t (k * 8 + 0) 0 ≡ 2 → tag < k
+
+-- ---- the innermost of the open elements, which are kept by the rows in which they start
+abbrev pub topOf : List ℕ → ℕ → ℕ
+topOf opened zero = 0
+topOf opened (suc d) = getD opened d 0
+
+-- ---- whole rows, each of which obeys its rules where it stands
+pub record Walkable (body t : List ℕ) : Type 0 where
+  pub whole : length t % 8 ≡ 0
+  pub each : EachRow body atFirst (rowsOf t)
+  pub readable : Readable body t

@@ -1,0 +1,32 @@
+-- The first text of an element, by its row.
+use Prim.Native.Nat.{ℕ}
+use mathlib.Core.Path.{_≡_}
+use mathlib.Core.List.{List, []}
+use Rattle.refusal.specs.Answer.{Answer, gives, refuses}
+use Rattle.reference.specs.Text.{unescaped}
+use Rattle.document.specs.Text.{unescapedText}
+use Rattle.decode.specs.declared.view.Failure.{Failure}
+use Rattle.decode.specs.declared.text.Text.{Text}
+use Rattle.decode.specs.Rows.{InTable, valueAt}
+
+-- what a text by its row stands for
+abbrev pub textAt : List ℕ → List ℕ → Text → Answer (List ℕ)
+textAt body t (Text.Row k) = unescapedText (unescaped (valueAt body t k))
+textAt body t Text.Empty = gives []
+textAt body t (Text.Refused r) = refuses r
+
+-- its row is one of the table's
+abbrev pub TextIn : List ℕ → Text → Type 0
+TextIn t (Text.Row k) = InTable t k
+TextIn t Text.Empty = Unit {0}
+TextIn t (Text.Refused r) = Unit {0}
+
+-- what a text meets where the rows run out
+abbrev pub endText : Failure → Text
+endText Failure.Nothing = Text.Empty
+endText (Failure.Is r) = Text.Refused r
+
+-- what is answered: the definition's text
+pub record TextIs (body t : List ℕ) (r : Text) (is : Answer (List ℕ)) : Type 0 where
+  pub same : textAt body t r ≡ is
+  pub row : TextIn t r
