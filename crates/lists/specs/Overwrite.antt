@@ -7,7 +7,7 @@ use native.Mathlib.Nat.{add-zero}
 use native.Mathlib.Omega.{arith}
 use borrow.Rule.Slice.PartMut.{putMid}
 use lib.ListN.{length, set, take, drop, length-drop, length-append, drop-of-length-le}
-use lib.Seq.{drop-drop, sets, sets-eq, take-append-seam, drop-append-add}
+use lib.Seq.{length-take-le, drop-drop, sets, sets-eq, take-at, take-append-seam, drop-append-add}
 use Rattle.lists.specs.Parts.{tail}
 
 -- what stands in `old` once `new` is written at its front
@@ -38,6 +38,12 @@ sets-append l n (x ∷ xs) ys =
     let e : n + suc (length xs) ≡ suc n + length xs = omega arith in
     ap (λ (k : ℕ). sets (sets (set l n x) (suc n) xs) k ys) e ∙ sets-append (set l n x) (suc n) xs ys
 
+-- a front that ends with a run of stores
+pub take-sets : (l : List ℕ) (n : ℕ) (x : List ℕ) → n + length x ≤ length l → take (n + length x) (sets l n x) ≡ take n l ++ x
+take-sets l n x h =
+    let q : length (take n l ++ x) ≡ n + length x = omega (arith, length-append (take n l) x, length-take-le n l (omega arith)) in
+    ap (take (n + length x)) (sets-eq x l n h) ∙ take-at (take n l ++ x) (drop (n + length x) l) (n + length x) q
+
 -- ---- a callee that was lent the tail `&mut t[n..]`: what it wrote at the tail's front is stored in the whole
 -- what `&mut t[n..]` is
 abbrev pub rest : List ℕ → ℕ → List ℕ
@@ -50,7 +56,8 @@ back t n p = putMid n (length t - n) t p
 pub rest-length : (t : List ℕ) (n : ℕ) → length (rest t n) ≡ length t - n
 rest-length t n = ap length (tail n t) ∙ length-drop n t
 
-pub back-stored : (t : List ℕ) (n : ℕ) (l : List ℕ) {p : List ℕ} → n + length l ≤ length t → p ≡ overwritten (rest t n) l → back t n p ≡ sets t n l
+pub back-stored : (t : List ℕ) (n : ℕ) (l : List ℕ) {p : List ℕ} → n + length l ≤ length t → p ≡ overwritten (rest t n) l
+    → back t n p ≡ sets t n l
 unfolding overwritten
 back-stored t n l {p} h e =
     let k : length (drop n t) ≤ length t - n = omega (arith, length-drop n t) in

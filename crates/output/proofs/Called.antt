@@ -3,11 +3,10 @@ use Prim.Native.Nat.{ℕ}
 use mathlib.Core.Path.{_≡_, refl, sym, _∙_, ap}
 use mathlib.Core.List.{List}
 use native.Mathlib.Omega.{arith}
-use lib.ListN.{length}
-use Rattle.lists.specs.Overwrite.{overwritten, overwrite-none}
+use Rattle.lists.specs.Overwrite.{overwrite-none}
 use Rattle.refusal.specs.declared.Refusal.{Refusal}
 use Rattle.refusal.specs.Numbers.{number}
-use Rattle.readings.specs.Output.{Room, Output, nothing, Reading, refused, numbersOf, outcome, told}
+use Rattle.readings.specs.Output.{Room, Output, nothing, Reading, refused, numbersOf, outcome}
 use Rattle.output.specs.declared.Written.{Written}
 use Rattle.output.specs.declared.Step.{Step}
 use Rattle.output.specs.Held.{roomOf, Holds, Does}
@@ -17,13 +16,22 @@ use Rattle.output.specs.Call.{ReadingCall}
 pub holds-nothing : (e t : List ℕ) → Holds nothing e t e t (record { count = 0; used = 0 })
 unfolding numbersOf
 holds-nothing e t =
-    record { count = refl; used = refl; entries = sym (overwrite-none e); texts = sym (overwrite-none t); sameEntries = refl; sameTexts = refl; bytes = omega arith }
+    record {
+      count = refl;
+      used = refl;
+      entries = sym (overwrite-none e);
+      texts = sym (overwrite-none t);
+      sameEntries = refl;
+      sameTexts = refl;
+      bytes = omega arith;
+    }
 
 module _ (reading : Room → Reading) {e t : List ℕ} where
   -- a refusal before anything is read
   pub call-early : {why : Refusal} {n : ℕ} → reading (roomOf e t) ≡ refused why nothing → n ≡ number why → ReadingCall reading e t e t 0 0 n
   unfolding numbersOf
-  call-early q m = record { number = rw q m; count = rw q; used = rw q; entries = rw q (sym (overwrite-none e)); texts = rw q (sym (overwrite-none t)) }
+  call-early q m =
+      record { number = rw q m; count = rw q; used = rw q; entries = rw q (sym (overwrite-none e)); texts = rw q (sym (overwrite-none t)) }
 
   -- from what a function did, called with nothing written
   module _ (step : Room → Output → Reading) (p : reading (roomOf e t) ≡ step (roomOf e t) nothing) {e′ t′ : List ℕ} {r : Step}
@@ -31,9 +39,22 @@ module _ (reading : Room → Reading) {e t : List ℕ} where
     pub call-done : {w : Written} → r ≡ Step.Done w → ReadingCall reading e t e′ t′ (w .count) (w .used) 0
     call-done q =
         let y = rw q at (d .is (holds-nothing e t)) in
-        record { number = rw p (sym (ap outcome (y .is))); count = rw p (y .holds .count); used = rw p (y .holds .used); entries = rw p (y .holds .entries); texts = rw p (y .holds .texts) }
+        record {
+          number = rw p (sym (ap outcome (y .is)));
+          count = rw p (y .holds .count);
+          used = rw p (y .holds .used);
+          entries = rw p (y .holds .entries);
+          texts = rw p (y .holds .texts);
+        }
 
-    pub call-refused : {why : Refusal} {w : Written} {n : ℕ} → r ≡ Step.Refused why w → n ≡ number why → ReadingCall reading e t e′ t′ (w .count) (w .used) n
+    pub call-refused : {why : Refusal} {w : Written} {n : ℕ} → r ≡ Step.Refused why w → n ≡ number why
+        → ReadingCall reading e t e′ t′ (w .count) (w .used) n
     call-refused q m =
         let y = rw q at (d .is (holds-nothing e t)) in
-        record { number = rw p (m ∙ sym (ap outcome (y .is))); count = rw p (y .holds .count); used = rw p (y .holds .used); entries = rw p (y .holds .entries); texts = rw p (y .holds .texts) }
+        record {
+          number = rw p (m ∙ sym (ap outcome (y .is)));
+          count = rw p (y .holds .count);
+          used = rw p (y .holds .used);
+          entries = rw p (y .holds .entries);
+          texts = rw p (y .holds .texts);
+        }

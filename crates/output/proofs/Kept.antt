@@ -1,32 +1,25 @@
 -- Laws of the children that wait for their groups: the loops over them, a group that is written from them, and that they are the siblings
 -- of the definition (readings/specs/Structure.antt).
-use Prim.Native.Nat.{ℕ, zero, suc, _+_, _-_, _*_, _/_, _^_, _≤_, _<_}
+use Prim.Native.Nat.{ℕ, suc, _+_, _-_, _*_, _/_, _^_, _≤_, _<_}
 use mathlib.Core.Path.{_≡_, refl, sym, _∙_, ap}
 use mathlib.Core.Bool.{Bool, true, false}
 use mathlib.Core.List.{List, [], _∷_, _++_, append-assoc, append-nil}
-use mathlib.Core.Option.{Option, none, some}
-use native.Mathlib.Nat.{add-zero}
 use native.Mathlib.Omega.{arith}
 use borrow.Author.Needs.{needs}
 use borrow.Author.Tests.{eq-eqb, ne-eqb}
 use mir.Val.{Fits}
 use mir.Syntax.{w32, w64}
 use lib.Dec.{eqb}
-use lib.ListN.{length, set, getD, take, drop, length-append, length-drop, List·getD-append}
-use lib.Seq.{sets, sets-eq, length-sets, length-take-le, drop-cons, take-at, getD-append-add}
+use lib.ListN.{length, set, getD, take, drop, length-append, length-drop}
+use lib.Seq.{sets, length-sets, drop-cons}
 use Rattle.lists.specs.Tests.{pick}
 use Rattle.lists.specs.Bytes.{ascii}
 use Rattle.lists.specs.Overwrite.{Stored, sets-append}
 use Rattle.refusal.specs.declared.Refusal.{Refusal}
 use Rattle.table.specs.Row.{cut}
 use Rattle.table.specs.Moved.{length-cut}
-use Rattle.document.specs.View.{View}
-use Rattle.document.specs.Scope.{Child, Piece, pieceOf}
-use Rattle.sheet.specs.Sheet.{Structure}
-use Rattle.sheet.specs.Names.{resolve, firstNamed, indexed}
+use Rattle.document.specs.Scope.{Piece}
 use Rattle.readings.specs.Output.{sixNumbers, groupEntry}
-use Rattle.readings.specs.Structure.{flatMember, isIndex, inGroup, siblings, groupOf}
-use Rattle.readings.specs.Laws.Order.{hasGroup}
 use Rattle.output.specs.declared.Written.{Written}
 use Rattle.output.specs.declared.Step.{Step}
 use Rattle.output.specs.Steps.{entryOf, group}
@@ -54,7 +47,8 @@ kept-start i l = record { low = omega arith; whole = refl }
 abbrev pieceAt : List ℕ → ℕ → Piece
 pieceAt l k = record { start = getD l (k * 3 + 1) 0; len = getD l (k * 3 + 2) 0 }
 
-three : (l : List ℕ) (k : ℕ) → k < length l / 3 → drop (k * 3) l ≡ getD l (k * 3) 0 ∷ getD l (k * 3 + 1) 0 ∷ getD l (k * 3 + 2) 0 ∷ drop ((k + 1) * 3) l
+three : (l : List ℕ) (k : ℕ) → k < length l / 3
+    → drop (k * 3) l ≡ getD l (k * 3) 0 ∷ getD l (k * 3 + 1) 0 ∷ getD l (k * 3 + 2) 0 ∷ drop ((k + 1) * 3) l
 three l k h =
     let a : suc (k * 3) ≡ k * 3 + 1 = omega arith in
     let b : suc (k * 3 + 1) ≡ k * 3 + 2 = omega arith in
@@ -62,7 +56,8 @@ three l k h =
     drop-cons l (k * 3) 0 (omega arith)
     ∙ ap (λ (r : List ℕ). getD l (k * 3) 0 ∷ r)
     (ap (λ (n : ℕ). drop n l) a ∙ drop-cons l (k * 3 + 1) 0 (omega arith)
-    ∙ ap (λ (r : List ℕ). getD l (k * 3 + 1) 0 ∷ r) (ap (λ (n : ℕ). drop n l) b ∙ drop-cons l (k * 3 + 2) 0 (omega arith) ∙ ap (λ (n : ℕ). getD l (k * 3 + 2) 0 ∷ drop n l) c))
+    ∙ ap (λ (r : List ℕ). getD l (k * 3 + 1) 0 ∷ r)
+    (ap (λ (n : ℕ). drop n l) b ∙ drop-cons l (k * 3 + 2) 0 (omega arith) ∙ ap (λ (n : ℕ). getD l (k * 3 + 2) 0 ∷ drop n l) c))
 
 too-few : (i : ℕ) (l : List ℕ) → length l < 3 → keptFor i l ≡ []
 unfolding keptFor
@@ -73,10 +68,14 @@ too-few i (a ∷ b ∷ c ∷ l) h = absurd (omega (arith, h))
 
 module _ {i : ℕ} {l : List ℕ} {k : ℕ} {front : List Piece} (at : KeptAt i l k front) where
   kept-end : length l / 3 ≤ k → front ≡ keptFor i l
-  kept-end h = sym (append-nil front) ∙ ap (λ (r : List Piece). front ++ r) (sym (too-few i (drop (k * 3) l) (omega (arith, length-drop (k * 3) l, at .low)))) ∙ at .whole
+  kept-end h =
+      sym (append-nil front)
+      ∙ ap (λ (r : List Piece). front ++ r) (sym (too-few i (drop (k * 3) l) (omega (arith, length-drop (k * 3) l, at .low))))
+      ∙ at .whole
 
   module _ (h : k < length l / 3) where
-    next : {b : Bool} → eqb (getD l (k * 3) 0) i ≡ b → keptFor i (drop (k * 3) l) ≡ pick b (pieceAt l k ∷ keptFor i (drop ((k + 1) * 3) l)) (keptFor i (drop ((k + 1) * 3) l))
+    next : {b : Bool} → eqb (getD l (k * 3) 0) i ≡ b
+        → keptFor i (drop (k * 3) l) ≡ pick b (pieceAt l k ∷ keptFor i (drop ((k + 1) * 3) l)) (keptFor i (drop ((k + 1) * 3) l))
     unfolding keptFor
     next q = ap (keptFor i) (three l k h) ∙ rw q
 
@@ -84,7 +83,9 @@ module _ {i : ℕ} {l : List ℕ} {k : ℕ} {front : List Piece} (at : KeptAt i 
     kept-mine q =
         record {
           low = omega arith;
-          whole = append-assoc front (pieceAt l k ∷ []) (keptFor i (drop ((k + 1) * 3) l)) ∙ ap (λ (r : List Piece). front ++ r) (sym (next (eq-eqb _ i q))) ∙ at .whole;
+          whole =
+              append-assoc front (pieceAt l k ∷ []) (keptFor i (drop ((k + 1) * 3) l))
+              ∙ ap (λ (r : List Piece). front ++ r) (sym (next (eq-eqb _ i q))) ∙ at .whole;
         }
 
     kept-other : (getD l (k * 3) 0 ≡ i → ⊥) → KeptAt i l (k + 1) front
@@ -133,7 +134,12 @@ module _ {i : ℕ} {l : List ℕ} {n k : ℕ} (at : LenAt i l n k) where
   module _ (h : k < length l / 3) where
     pub len-mine : {x : ℕ} → Wide (getD l (k * 3 + 2) 0) x → getD l (k * 3) 0 ≡ i → LenAt i l (n + x) (k + 1)
     len-mine z q =
-        record { front = _; at = kept-mine (at .at) h q; sum = omega (arith, at .sum, lengths-more (at .front) (pieceAt l k), z .is); small = omega (arith, at .small, z .small) }
+        record {
+          front = _;
+          at = kept-mine (at .at) h q;
+          sum = omega (arith, at .sum, lengths-more (at .front) (pieceAt l k), z .is);
+          small = omega (arith, at .small, z .small);
+        }
 
     pub len-other : (getD l (k * 3) 0 ≡ i → ⊥) → LenAt i l n (k + 1)
     len-other q = record { front = _; at = kept-other (at .at) h q; sum = at .sum; small = omega (arith, at .small) }
@@ -148,12 +154,14 @@ pub record CopiedAt (body l : List ℕ) (i : ℕ) (t t′ : List ℕ) (from at k
   pub is : t′ ≡ sets t from (bytesOf body front)
   pub same : length t′ ≡ length t
 
-bytes-append : (body : List ℕ) (l m : List Piece) → bytesOf body (l ++ m) ≡ bytesOf body l ++ bytesOf body m
+pub bytes-append : (body : List ℕ) (l m : List Piece) → bytesOf body (l ++ m) ≡ bytesOf body l ++ bytesOf body m
 unfolding bytesOf
 bytes-append body [] m = refl
-bytes-append body (p ∷ l) m = ap (λ (r : List ℕ). cut body (p .start) (p .len) ++ r) (bytes-append body l m) ∙ sym (append-assoc (cut body (p .start) (p .len)) (bytesOf body l) (bytesOf body m))
+bytes-append body (p ∷ l) m =
+    ap (λ (r : List ℕ). cut body (p .start) (p .len) ++ r) (bytes-append body l m)
+    ∙ sym (append-assoc (cut body (p .start) (p .len)) (bytesOf body l) (bytesOf body m))
 
-bytes-one : (body : List ℕ) (p : Piece) → bytesOf body (p ∷ []) ≡ cut body (p .start) (p .len)
+pub bytes-one : (body : List ℕ) (p : Piece) → bytesOf body (p ∷ []) ≡ cut body (p .start) (p .len)
 unfolding bytesOf
 bytes-one body p = append-nil (cut body (p .start) (p .len))
 
@@ -183,17 +191,28 @@ module _ {body l : List ℕ} {i : ℕ} {t t′ : List ℕ} {from at k : ℕ} (c 
       unfolding part
       more =
           let z : start + len - start ≡ len = omega arith in
-          bytes-append body (c .front) (pieceAt l k ∷ []) ∙ ap (λ (r : List ℕ). bytesOf body (c .front) ++ r) (bytes-one body (pieceAt l k) ∙ rw (z, a .is, b .is))
+          bytes-append body (c .front) (pieceAt l k ∷ [])
+          ∙ ap (λ (r : List ℕ). bytesOf body (c .front) ++ r) (bytes-one body (pieceAt l k) ∙ rw (z, a .is, b .is))
 
-      pub copied-room : from + length (keptBytes body l i) ≤ length t → at + length (take (start + len - start) (drop start body)) ≤ length t′
+      pub copied-room : from + length (keptBytes body l i) ≤ length t
+          → at + length (take (start + len - start) (drop start body)) ≤ length t′
       unfolding part keptBytes
       copied-room room =
           let r = keptFor i (drop ((k + 1) * 3) l) in
           let whole : bytesOf body (c .front ++ pieceAt l k ∷ []) ++ bytesOf body r ≡ bytesOf body (keptFor i l) =
           sym (bytes-append body (c .front ++ pieceAt l k ∷ []) r) ∙ ap (bytesOf body) (kept-mine (c .pieces) h q .whole) in
-          omega (arith, c .next, c .same, ap length more, length-append (bytesOf body (c .front)) part, length-append (bytesOf body (c .front ++ pieceAt l k ∷ [])) (bytesOf body r), ap length whole)
+          omega (
+            arith,
+            c .next,
+            c .same,
+            ap length more,
+            length-append (bytesOf body (c .front)) part,
+            length-append (bytesOf body (c .front ++ pieceAt l k ∷ [])) (bytesOf body r),
+            ap length whole,
+          )
 
-      turned : {t″ : List ℕ} {r : ℕ} → Stored t′ t″ at (take (start + len - start) (drop start body)) r → CopiedAt body l i t t″ from r (k + 1)
+      turned : {t″ : List ℕ} {r : ℕ} → Stored t′ t″ at (take (start + len - start) (drop start body)) r
+          → CopiedAt body l i t t″ from r (k + 1)
       unfolding part
       turned s =
           record {
@@ -205,11 +224,13 @@ module _ {body l : List ℕ} {i : ℕ} {t t′ : List ℕ} {from at k : ℕ} (c 
           }
 
   -- the store first: it says which start and which length
-  pub copied-mine : {start len : ℕ} {t″ : List ℕ} {r : ℕ} → Stored t′ t″ at (take (start + len - start) (drop start body)) r → k < length l / 3
+  pub copied-mine : {start len : ℕ} {t″ : List ℕ} {r : ℕ} → Stored t′ t″ at (take (start + len - start) (drop start body)) r
+      → k < length l / 3
       → getD l (k * 3) 0 ≡ i → Wide (getD l (k * 3 + 1) 0) start → Wide (getD l (k * 3 + 2) 0) len → CopiedAt body l i t t″ from r (k + 1)
   copied-mine s h q a b = turned h q a b s
 
-module _ {body l : List ℕ} (q : Inside body l) {k : ℕ} (h : k < length l / 3) {start len : ℕ} (a : Wide (getD l (k * 3 + 1) 0) start) (b : Wide (getD l (k * 3 + 2) 0) len) where
+module _ {body l : List ℕ} (q : Inside body l) {k : ℕ} (h : k < length l / 3) {start len : ℕ} (a : Wide (getD l (k * 3 + 1) 0) start)
+    (b : Wide (getD l (k * 3 + 2) 0) len) where
   pub piece-end : start + len ≤ length body
   piece-end = omega (arith, q .each k h, a .is, b .is)
 
@@ -261,20 +282,23 @@ lengths-bytes : (body l : List ℕ) (i : ℕ) → Inside body l → keptLen l i 
 unfolding keptLen keptBytes keptFor lengths bytesOf
 lengths-bytes body l i q = go l (λ k h. q .each k h)
   where
-    go : (l : List ℕ) → ((k : ℕ) → k < length l / 3 → getD l (k * 3 + 1) 0 + getD l (k * 3 + 2) 0 ≤ length body) → lengths (keptFor i l) ≡ length (bytesOf body (keptFor i l))
+    go : (l : List ℕ) → ((k : ℕ) → k < length l / 3 → getD l (k * 3 + 1) 0 + getD l (k * 3 + 2) 0 ≤ length body)
+        → lengths (keptFor i l) ≡ length (bytesOf body (keptFor i l))
     go [] h = refl
     go (a ∷ []) h = refl
     go (a ∷ b ∷ []) h = refl
     go (a ∷ b ∷ c ∷ l) h = by (eqb a i) (go l (λ k g. later k (h (suc k) (omega arith))))
       where
-        later : (k : ℕ) → getD (a ∷ b ∷ c ∷ l) (suc k * 3 + 1) 0 + getD (a ∷ b ∷ c ∷ l) (suc k * 3 + 2) 0 ≤ length body → getD l (k * 3 + 1) 0 + getD l (k * 3 + 2) 0 ≤ length body
+        later : (k : ℕ) → getD (a ∷ b ∷ c ∷ l) (suc k * 3 + 1) 0 + getD (a ∷ b ∷ c ∷ l) (suc k * 3 + 2) 0 ≤ length body
+            → getD l (k * 3 + 1) 0 + getD l (k * 3 + 2) 0 ≤ length body
         later k g =
             let p : suc k * 3 + 1 ≡ suc (suc (suc (k * 3 + 1))) = omega arith in
             let r : suc k * 3 + 2 ≡ suc (suc (suc (k * 3 + 2))) = omega arith in
             rw (p, r) at g
 
         by : (f : Bool) → lengths (keptFor i l) ≡ length (bytesOf body (keptFor i l))
-            → lengths (pick f (record { start = b; len = c } ∷ keptFor i l) (keptFor i l)) ≡ length (bytesOf body (pick f (record { start = b; len = c } ∷ keptFor i l) (keptFor i l)))
+            → lengths (pick f (record { start = b; len = c } ∷ keptFor i l) (keptFor i l))
+            ≡ length (bytesOf body (pick f (record { start = b; len = c } ∷ keptFor i l) (keptFor i l)))
         by true ih = omega (arith, ih, length-append (cut body b c) (bytesOf body (keptFor i l)), length-cut body b c (h 0 (omega arith)))
         by false ih = ih
 
@@ -282,7 +306,8 @@ pub flat-length : (body l : List ℕ) (i : ℕ) → Inside body l → length (fl
 flat-length body l i q = omega (arith, tags body l i, lengths-bytes body l i q)
 
 -- ---- the group with its entry
-module _ {body l : List ℕ} {i : ℕ} {w : Written} {m : ℕ} (q : Inside body l) (z : GroupLen l i m) (y : Ready w (length (flat body l i))) where
+module _ {body l : List ℕ} {i : ℕ} {w : Written} {m : ℕ} (q : Inside body l) (z : GroupLen l i m)
+    (y : Ready w (length (flat body l i))) where
   sized : m + 17 ≡ length (flat body l i)
   sized = omega (arith, flat-length body l i q, z .is)
 
@@ -295,22 +320,26 @@ module _ {body l : List ℕ} {i : ℕ} {w : Written} {m : ℕ} (q : Inside body 
   pub group-sum : Fits w64 (m + 17)
   group-sum = record { fits = omega (arith, y .small, sized) }
 
-  pub group-room : {e : ℕ} (t : List ℕ) {b : Bool} → HasRoom e (length t) w (m + 17) b → b ≡ true → w .used + length (flat body l i) ≤ length t
+  pub group-room : {e : ℕ} (t : List ℕ) {b : Bool} → HasRoom e (length t) w (m + 17) b → b ≡ true
+      → w .used + length (flat body l i) ≤ length t
   group-room t r b = omega (arith, room-bytes r b, sized)
 
   module _ {e t : List ℕ} {b : Bool} (r : HasRoom (length e) (length t) w (m + 17) b) where
     pub group-none : b ≡ false → Does (group i (flat body l i)) e t w e t (Step.Refused Refusal.NoRoom w)
     unfolding group entryOf
     group-none b =
-        entry-as (groupEntry i (flat body l i)) (flat body l i) (record { kind = 3; member = i; «key_start» = 0; «key_len» = 0; start = w .used; len = length (flat body l i) }) refl refl
+        entry-as (groupEntry i (flat body l i)) (flat body l i)
+        (record { kind = 3; member = i; «key_start» = 0; «key_len» = 0; start = w .used; len = length (flat body l i) }) refl refl
         (entered-none _ (flat body l i) r b sized)
 
     pub group-written : {e′ t′ : List ℕ} {c : ℕ} → b ≡ true → Stored t t′ (w .used) (flat body l i) c
-        → e′ ≡ sets e (w .count * 6) (sixNumbers (entryOf (record { kind = 3; member = i; «key_start» = 0; «key_len» = 0; start = w .used; len = m + 17 })))
+        → e′ ≡ sets e (w .count * 6)
+        (sixNumbers (entryOf (record { kind = 3; member = i; «key_start» = 0; «key_len» = 0; start = w .used; len = m + 17 })))
         → Does (group i (flat body l i)) e t w e′ t′ (Step.Done (record { count = w .count + 1; used = c }))
     unfolding group entryOf
     group-written b x s =
-        entry-as (groupEntry i (flat body l i)) (flat body l i) (record { kind = 3; member = i; «key_start» = 0; «key_len» = 0; start = w .used; len = m + 17 }) (rw sized) refl
+        entry-as (groupEntry i (flat body l i)) (flat body l i)
+        (record { kind = 3; member = i; «key_start» = 0; «key_len» = 0; start = w .used; len = m + 17 }) (rw sized) refl
         (entered-done _ (flat body l i) r b sized s (x .is) (x .next ∙ rw sized))
 
 pub ruleset group-laws = (roomy-laws, group-ready, group-fits, group-sum, group-room, group-none, group-written)

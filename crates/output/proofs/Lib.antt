@@ -5,3 +5,4 @@ pub mod Called
 pub mod AllOrNone
 pub mod Sound
 pub mod Kept
+pub mod Siblings

@@ -8,15 +8,15 @@ use native.Mathlib.Omega.{arith}
 use borrow.Author.Needs.{needs}
 use borrow.Author.Tests.{le-leb, lt-ltb, le-ltb, ltb-true, leb-true}
 use mir.Val.{Fits}
-use mir.Syntax.{w32, w64}
+use mir.Syntax.{w64}
 use lib.Dec.{ltb, leb}
 use lib.ListN.{length, set, length-append}
 use lib.Seq.{sets, length-sets}
-use Rattle.lists.specs.Tests.{pick, false-true, tests}
+use Rattle.lists.specs.Tests.{pick, false-true}
 use Rattle.lists.specs.Overwrite.{overwrite-more}
 use Rattle.refusal.specs.declared.Refusal.{Refusal}
 use Rattle.refusal.specs.Numbers.{number}
-use Rattle.readings.specs.Output.{Entry, Room, Output, Reading, finished, refused, sixNumbers, numbersOf, fits, write}
+use Rattle.readings.specs.Output.{Entry, Room, Output, refused, sixNumbers, numbersOf, fits, write}
 use Rattle.output.specs.declared.Written.{Written}
 use Rattle.output.specs.declared.Step.{Step}
 use Rattle.output.specs.declared.Six.{Six}
@@ -25,7 +25,8 @@ use Rattle.output.specs.Held.{roomOf, Holds, Ends, Does, Enters, roomFor
 
 -- ---- six stores
 pub six-stored : (l : List ℕ) (n : ℕ) (s : Six)
-    → set (set (set (set (set (set l n (s .kind)) (n + 1) (s .member)) (n + 2) (s .«key_start»)) (n + 3) (s .«key_len»)) (n + 4) (s .start)) (n + 5) (s .len)
+    → set (set (set (set (set (set l n (s .kind)) (n + 1) (s .member)) (n + 2) (s .«key_start»)) (n + 3) (s .«key_len»))
+    (n + 4) (s .start)) (n + 5) (s .len)
     ≡ sets l n (sixNumbers (entryOf s))
 unfolding entryOf
 six-stored l n s =
@@ -117,7 +118,15 @@ module _ {out : Output} {e0 t0 e t : List ℕ} {w : Written} (h : Holds out e0 t
           holds = record {
             count = omega (arith, h .count, length-append (out .entries) (entry m ∷ []));
             used = omega (arith, h .used, length-append (out .texts) x);
-            entries = p ∙ rw (h .used, h .count, ← numbers-length (out .entries), h .entries, overwrite-more e0 (numbersOf (out .entries)) six few, numbers-more (out .entries) (entry m));
+            entries =
+                p ∙ rw (
+                  h .used,
+                  h .count,
+                  ← numbers-length (out .entries),
+                  h .entries,
+                  overwrite-more e0 (numbersOf (out .entries)) six few,
+                  numbers-more (out .entries) (entry m),
+                );
             texts = q ∙ rw (h .used, h .texts, overwrite-more t0 (out .texts) x less);
             sameEntries = ap length p ∙ length-sets e (w .count * 6) (sixNumbers (entry (w .used))) ∙ h .sameEntries;
             sameTexts = ap length q ∙ length-sets t (w .used) x ∙ h .sameTexts;
@@ -125,7 +134,8 @@ module _ {out : Output} {e0 t0 e t : List ℕ} {w : Written} (h : Holds out e0 t
           };
         })
 
-    pub ends-no-room : roomFor (length e) (length t) w (length x) ≡ false → Ends (write (roomOf e0 t0) entry x out) e0 t0 e t (Step.Refused Refusal.NoRoom w)
+    pub ends-no-room : roomFor (length e) (length t) w (length x) ≡ false
+        → Ends (write (roomOf e0 t0) entry x out) e0 t0 e t (Step.Refused Refusal.NoRoom w)
     ends-no-room room = rw (fits-is ∙ room) stays
 
 -- ---- an entry with bytes, k of them
@@ -134,13 +144,15 @@ module _ (s : Six) (l : List ℕ) {e t : List ℕ} {w : Written} {k : ℕ} {b : 
   unfolding entered
   entered-none y z = record { is = λ h. ends-no-room h (λ (at : ℕ). entryOf s) l (rw (← z) (sym (q .is) ∙ y)) }
 
-  pub entered-done : {e′ t′ : List ℕ} {u : ℕ} → b ≡ true → k ≡ length l → e′ ≡ sets e (w .count * 6) (sixNumbers (entryOf s)) → t′ ≡ sets t (w .used) l → u ≡ w .used + k
+  pub entered-done : {e′ t′ : List ℕ} {u : ℕ} → b ≡ true → k ≡ length l → e′ ≡ sets e (w .count * 6) (sixNumbers (entryOf s))
+      → t′ ≡ sets t (w .used) l → u ≡ w .used + k
       → Does (entered s l) e t w e′ t′ (Step.Done (record { count = w .count + 1; used = u }))
   unfolding entered
   entered-done y z p r v = record { is = λ h. rw (v, z) (ends-written h (λ (at : ℕ). entryOf s) l (rw (← z) (sym (q .is) ∙ y)) p r) }
 
 -- an entry that is another, as its bytes begin where those before them end
-pub entry-as : (entry : ℕ → Entry) (x : List ℕ) (s : Six) {l e t : List ℕ} {w : Written} {e′ t′ : List ℕ} {r : Step} → entry (w .used) ≡ entryOf s → x ≡ l
+pub entry-as : (entry : ℕ → Entry) (x : List ℕ) (s : Six) {l e t : List ℕ} {w : Written} {e′ t′ : List ℕ} {r : Step}
+    → entry (w .used) ≡ entryOf s → x ≡ l
     → Does (entered s l) e t w e′ t′ r → Does (λ (room : Room). write room entry x) e t w e′ t′ r
 unfolding entered
 entry-as entry x s p z d =
@@ -152,7 +164,8 @@ entry-as entry x s p z d =
 
 -- ---- an entry without text
 module _ (s : Six) {e : List ℕ} {w : Written} where
-  full-or : {t : List ℕ} {out : Output} {e0 t0 : List ℕ} → Holds out e0 t0 e t w → roomFor (length e) (length t) w 0 ≡ ltb (w .count) (length e / 6)
+  full-or : {t : List ℕ} {out : Output} {e0 t0 : List ℕ} → Holds out e0 t0 e t w
+      → roomFor (length e) (length t) w 0 ≡ ltb (w .count) (length e / 6)
   full-or {t} h =
       let z : w .used + 0 ≤ length t = omega (arith, h .bytes, h .used, h .sameTexts) in
       rw (le-leb (w .used + 0) (length t) z) (same (ltb (w .count) (length e / 6)))
@@ -167,21 +180,30 @@ module _ (s : Six) {e : List ℕ} {w : Written} where
   enter-written room p =
       record {
         is = λ t. record {
-          is = λ h. rw (add-zero (w .used)) at (ends-written h (λ (at : ℕ). entryOf s) [] {t′ = t} (full-or h ∙ lt-ltb (w .count) (length e / 6) room) p refl);
+          is =
+              λ h. rw (add-zero (w .used)) at
+              (ends-written h (λ (at : ℕ). entryOf s) [] {t′ = t} (full-or h ∙ lt-ltb (w .count) (length e / 6) room) p refl);
         };
       }
 
   pub enter-full : length e / 6 ≤ w .count → Enters (entered s []) e w e (Step.Refused Refusal.NoRoom w)
   unfolding entered
-  enter-full room = record { is = λ t. record { is = λ h. ends-no-room h (λ (at : ℕ). entryOf s) [] (full-or h ∙ le-ltb (w .count) (length e / 6) room) } }
+  enter-full room =
+      record {
+        is = λ t. record {
+          is = λ h. ends-no-room h (λ (at : ℕ). entryOf s) [] (full-or h ∙ le-ltb (w .count) (length e / 6) room);
+        };
+      }
 
 module _ (member start len : ℕ) {e : List ℕ} {w : Written} {e′ : List ℕ} {r : Step} where
-  pub enter-piece : Enters (entered (record { kind = 2; member = member; «key_start» = 0; «key_len» = 0; start = start; len = len }) []) e w e′ r
+  pub enter-piece :
+      Enters (entered (record { kind = 2; member = member; «key_start» = 0; «key_len» = 0; start = start; len = len }) []) e w e′ r
       → Enters (piece member start len) e w e′ r
   unfolding entered entryOf piece
   enter-piece x = x
 
-  pub enter-failed : (why : Refusal) → start ≡ number why → Enters (entered (record { kind = 4; member = member; «key_start» = 0; «key_len» = 0; start = start; len = 0 }) []) e w e′ r
+  pub enter-failed : (why : Refusal) → start ≡ number why
+      → Enters (entered (record { kind = 4; member = member; «key_start» = 0; «key_len» = 0; start = start; len = 0 }) []) e w e′ r
       → Enters (failed member why) e w e′ r
   unfolding entered entryOf failed
   enter-failed why q x = rw q at x

@@ -1,9 +1,9 @@
--- What follows of the numbers alone: buffers that are counted within their lengths hold some output, so a promise says how `Written` grows; and
--- what is used stays small enough for the next text.
-use Prim.Native.Nat.{ℕ, zero, suc, _+_, _*_, _/_, _^_, _≤_, _<_}
-use mathlib.Core.Path.{_≡_, refl, sym, _∙_, ap}
+-- What follows of the numbers alone: buffers that are counted within their lengths hold some output, so a promise says how `Written`
+-- grows; and what is used stays small enough for the next text.
+use Prim.Native.Nat.{ℕ, zero, suc, _+_, _*_, _≤_}
+use mathlib.Core.Path.{_≡_, refl, sym, ap}
 use mathlib.Core.Bool.{Bool, true, false}
-use mathlib.Core.List.{List, [], _∷_, _++_}
+use mathlib.Core.List.{List, [], _∷_}
 use native.Mathlib.Omega.{arith}
 use lib.ListN.{length, getD, take, drop, take-append-drop, length-append, length-drop}
 use lib.Seq.{length-take-le}
@@ -12,7 +12,8 @@ use Rattle.lists.specs.Overwrite.{overwritten}
 use Rattle.refusal.specs.declared.Refusal.{Refusal}
 use Rattle.reference.specs.Text.{Out, bytes, bad, unescaped}
 use Rattle.reference.specs.Result.{unescaped-shorter}
-use Rattle.readings.specs.Output.{Entry, Room, Output, Reading, finished, refused, output, numbersOf, fits, written, write, textEntry, pieceEntry, groupEntry, failedEntry}
+use Rattle.readings.specs.Output.{Entry, Room, Output, Reading, finished, refused, output, numbersOf, fits, written, write, textEntry}
+use Rattle.readings.specs.Output.{pieceEntry, groupEntry, failedEntry}
 use Rattle.readings.specs.Structure.{readScalar}
 use Rattle.document.specs.Text.{unescapedText}
 use Rattle.output.specs.declared.Written.{Written}
@@ -30,7 +31,14 @@ pub record Sound (e t : List ℕ) (w : Written) : Type 0 where
 entriesOf : List ℕ → ℕ → List Entry
 entriesOf l zero = []
 entriesOf l (suc n) =
-    record { kind = getD l 0 0; member = getD l 1 0; keyStart = getD l 2 0; keyLen = getD l 3 0; start = getD l 4 0; len = getD l 5 0 } ∷ entriesOf (drop 6 l) n
+    record {
+      kind = getD l 0 0;
+      member = getD l 1 0;
+      keyStart = getD l 2 0;
+      keyLen = getD l 3 0;
+      start = getD l 4 0;
+      len = getD l 5 0;
+    } ∷ entriesOf (drop 6 l) n
 
 entries-count : (l : List ℕ) (n : ℕ) → length (entriesOf l n) ≡ n
 unfolding entriesOf
@@ -80,7 +88,8 @@ pub sound-nothing : (e t : List ℕ) → Sound e t (record { count = 0; used = 0
 sound-nothing e t = record { entries = omega arith; texts = omega arith }
 
 -- after any step that goes on
-pub sound-next : (step : Room → Output → Reading) {e t e′ t′ : List ℕ} {w w′ : Written} {r : Step} → Sound e t w → Does step e t w e′ t′ r → r ≡ Step.Done w′ → Sound e′ t′ w′
+pub sound-next : (step : Room → Output → Reading) {e t e′ t′ : List ℕ} {w w′ : Written} {r : Step} → Sound e t w → Does step e t w e′ t′ r
+    → r ≡ Step.Done w′ → Sound e′ t′ w′
 sound-next step {e} {t} s d q =
     let y = rw q at (d .is (some-holds s)) in
     let i = holds-within (y .holds) in
@@ -93,17 +102,20 @@ sound-next step {e} {t} s d q =
 pub record Adds (step : Room → Output → Reading) (n : ℕ) : Type 0 where
   pub most : (room : Room) (out : Output) → length (output (step room out) .texts) ≤ length (out .texts) + n
 
-pub used-next : {step : Room → Output → Reading} {n : ℕ} {e t e′ t′ : List ℕ} {w w′ : Written} {r : Step} → Adds step n → Sound e t w → Does step e t w e′ t′ r → r ≡ Step.Done w′
+pub used-next : {step : Room → Output → Reading} {n : ℕ} {e t e′ t′ : List ℕ} {w w′ : Written} {r : Step} → Adds step n → Sound e t w
+    → Does step e t w e′ t′ r → r ≡ Step.Done w′
     → w′ .used ≤ w .used + n
 used-next {e = e} {t} {w = w} a s d q =
     let h = some-holds s in
     let y = rw q at (d .is h) in
     omega (arith, a .most (roomOf e t) (someOutput e t w), y .holds .used, h .used)
 
-write-adds : (room : Room) (entry : ℕ → Entry) (x : List ℕ) (out : Output) → length (output (write room entry x out) .texts) ≤ length (out .texts) + length x
+write-adds : (room : Room) (entry : ℕ → Entry) (x : List ℕ) (out : Output)
+    → length (output (write room entry x out) .texts) ≤ length (out .texts) + length x
 write-adds room entry x out = go (fits room x out)
   where
-    go : (b : Bool) → length (output (pick b (finished (written entry x out)) (refused Refusal.NoRoom out)) .texts) ≤ length (out .texts) + length x
+    go : (b : Bool) → length (output (pick b (finished (written entry x out)) (refused Refusal.NoRoom out)) .texts)
+        ≤ length (out .texts) + length x
     go true = omega (arith, length-append (out .texts) x)
     go false = omega arith
 
@@ -111,7 +123,8 @@ pub text-adds : (member : ℕ) (txt : List ℕ) → Adds (text member txt) (leng
 unfolding text
 text-adds member txt = record { most = go (unescaped txt) refl }
   where
-    go : (o : Out) → unescaped txt ≡ o → (room : Room) (out : Output) → length (output (writeOr room member (unescapedText o) out) .texts) ≤ length (out .texts) + length txt
+    go : (o : Out) → unescaped txt ≡ o → (room : Room) (out : Output)
+        → length (output (writeOr room member (unescapedText o) out) .texts) ≤ length (out .texts) + length txt
     go (bytes l) q room out = omega (arith, write-adds room (textEntry member l) l out, unescaped-shorter txt l q)
     go (bad at) q room out = omega arith
 
@@ -119,7 +132,8 @@ pub scalar-adds : (member : ℕ) (txt : List ℕ) → Adds (scalar member txt) (
 unfolding scalar
 scalar-adds member txt = record { most = go (unescaped txt) refl }
   where
-    go : (o : Out) → unescaped txt ≡ o → (room : Room) (out : Output) → length (output (readScalar room member (unescapedText o) out) .texts) ≤ length (out .texts) + length txt
+    go : (o : Out) → unescaped txt ≡ o → (room : Room) (out : Output)
+        → length (output (readScalar room member (unescapedText o) out) .texts) ≤ length (out .texts) + length txt
     go (bytes l) q room out = omega (arith, write-adds room (textEntry member l) l out, unescaped-shorter txt l q)
     go (bad at) q room out = omega (arith, write-adds room (failedEntry member Refusal.BadReference) [] out)
 

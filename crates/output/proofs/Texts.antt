@@ -1,13 +1,11 @@
 -- Laws of the texts of an entry: measured, then filled into the text buffer one after the other.
-use Prim.Native.Nat.{ℕ, _+_, _-_, _*_, _/_, _^_, _≤_, _<_}
+use Prim.Native.Nat.{ℕ, _+_, _-_, _*_, _≤_}
 use mathlib.Core.Path.{_≡_, refl, sym, _∙_, ap, subst}
 use mathlib.Core.Bool.{Bool, true, false}
 use mathlib.Core.List.{List, [], _++_, append-nil}
 use native.Mathlib.Omega.{arith}
 use borrow.Author.Needs.{needs}
 use borrow.Author.Tests.{le-leb}
-use mir.Val.{Fits}
-use mir.Syntax.{w32}
 use lib.ListN.{length, length-append}
 use lib.Seq.{sets, length-sets}
 use Rattle.lists.specs.Overwrite.{overwritten, rest, back, rest-length, back-stored, sets-append}
@@ -45,36 +43,39 @@ comes-measured txt {n} {r} m d = go (unescaped txt) refl (sym m ∙ d)
     go (bytes l) k a = let z : length l ≡ n = cc in record { is = rw k; size = rw k (sym z) }
     go (bad at) k a = let z : _≡_ {A = ℕ} 0 1 = cc in absurd (omega arith)
 
+abbrev plain : List ℕ → List ℕ
+plain txt = plainOf (unescaped txt)
+
 -- ---- two texts, filled into the tail
 module _ {txt : List ℕ} {n : ℕ} (c : Comes txt n) (t : List ℕ) (at : ℕ) (h : at + n ≤ length t) where
-  few : length (plainOf (unescaped txt)) ≤ length (rest t at)
+  few : length (plain txt) ≤ length (rest t at)
   few = omega (arith, c .size, rest-length t at)
 
   tail-room : Room (unescaped txt) (length (rest t at))
   unfolding Room
   tail-room = subst (λ (o : Out). Room o (length (rest t at))) (sym (c .is)) few
 
-  tail-stored : {p : List ℕ} → p ≡ filled (unescaped txt) (rest t at) → back t at p ≡ sets t at (plainOf (unescaped txt))
+  tail-stored : {p : List ℕ} → p ≡ filled (unescaped txt) (rest t at) → back t at p ≡ sets t at (plain txt)
   unfolding filled
   tail-stored {p} f =
-      let l = plainOf (unescaped txt) in
+      let l = plain txt in
       let g : filled (bytes l) (rest t at) ≡ overwritten (rest t at) l = rw (le-leb (length l) (length (rest t at)) few) in
       back-stored t at l (omega (arith, c .size)) (f ∙ ap (λ (o : Out). filled o (rest t at)) (c .is) ∙ g)
 
 module _ {first second : List ℕ} {n m : ℕ} (c : Comes first n) (d : Comes second m) where
-  texts-size : n + m ≡ length (plainOf (unescaped first) ++ plainOf (unescaped second))
-  texts-size = omega (arith, c .size, d .size, length-append (plainOf (unescaped first)) (plainOf (unescaped second)))
+  texts-size : n + m ≡ length (plain first ++ plain second)
+  texts-size = omega (arith, c .size, d .size, length-append (plain first) (plain second))
 
   module _ {e : ℕ} (t : List ℕ) {w : Written} {b : Bool} (q : HasRoom e (length t) w (n + m) b) (y : b ≡ true) where
     pub first-room : Room (unescaped first) (length (rest t (w .used)))
     first-room = tail-room c t (w .used) (omega (arith, room-bytes q y))
 
     module _ {p : List ℕ} (f : p ≡ filled (unescaped first) (rest t (w .used))) where
-      stored : back t (w .used) p ≡ sets t (w .used) (plainOf (unescaped first))
+      stored : back t (w .used) p ≡ sets t (w .used) (plain first)
       stored = tail-stored c t (w .used) (omega (arith, room-bytes q y)) f
 
       second-fits : w .used + n + m ≤ length (back t (w .used) p)
-      second-fits = omega (arith, ap length stored, length-sets t (w .used) (plainOf (unescaped first)), room-bytes q y)
+      second-fits = omega (arith, ap length stored, length-sets t (w .used) (plain first), room-bytes q y)
 
       pub second-start : w .used + n ≤ length (back t (w .used) p)
       second-start = omega (arith, second-fits)
@@ -83,19 +84,22 @@ module _ {first second : List ℕ} {n m : ℕ} (c : Comes first n) (d : Comes se
       second-room = tail-room d (back t (w .used) p) (w .used + n) second-fits
 
       texts-stored : {p′ : List ℕ} → p′ ≡ filled (unescaped second) (rest (back t (w .used) p) (w .used + n))
-          → back (back t (w .used) p) (w .used + n) p′ ≡ sets t (w .used) (plainOf (unescaped first) ++ plainOf (unescaped second))
+          → back (back t (w .used) p) (w .used + n) p′ ≡ sets t (w .used) (plain first ++ plain second)
       texts-stored g =
-          let k = plainOf (unescaped first) in
-          let v = plainOf (unescaped second) in
-          tail-stored d (back t (w .used) p) (w .used + n) second-fits g ∙ ap (λ (z : List ℕ). sets z (w .used + n) v) stored ∙ rw (c .size) (sets-append t (w .used) k v)
+          let k = plain first in
+          let v = plain second in
+          tail-stored d (back t (w .used) p) (w .used + n) second-fits g ∙ ap (λ (z : List ℕ). sets z (w .used + n) v) stored
+          ∙ rw (c .size) (sets-append t (w .used) k v)
 
-module _ (s : Six) {first second : List ℕ} {n m : ℕ} (c : Comes first n) (d : Comes second m) {e t : List ℕ} {w : Written} {b : Bool} (q : HasRoom (length e) (length t) w (n + m) b) where
-  pub texts-none : b ≡ false → Does (entered s (plainOf (unescaped first) ++ plainOf (unescaped second))) e t w e t (Step.Refused Refusal.NoRoom w)
+module _ (s : Six) {first second : List ℕ} {n m : ℕ} (c : Comes first n) (d : Comes second m) {e t : List ℕ} {w : Written} {b : Bool}
+    (q : HasRoom (length e) (length t) w (n + m) b) where
+  pub texts-none : b ≡ false → Does (entered s (plain first ++ plain second)) e t w e t (Step.Refused Refusal.NoRoom w)
   texts-none y = entered-none s _ q y (texts-size c d)
 
-  pub texts-done : {p p′ e′ : List ℕ} → b ≡ true → p ≡ filled (unescaped first) (rest t (w .used)) → p′ ≡ filled (unescaped second) (rest (back t (w .used) p) (w .used + n))
+  pub texts-done : {p p′ e′ : List ℕ} → b ≡ true → p ≡ filled (unescaped first) (rest t (w .used))
+      → p′ ≡ filled (unescaped second) (rest (back t (w .used) p) (w .used + n))
       → e′ ≡ sets e (w .count * 6) (sixNumbers (entryOf s))
-      → Does (entered s (plainOf (unescaped first) ++ plainOf (unescaped second))) e t w e′ (back (back t (w .used) p) (w .used + n) p′)
+      → Does (entered s (plain first ++ plain second)) e t w e′ (back (back t (w .used) p) (w .used + n) p′)
       (Step.Done (record { count = w .count + 1; used = w .used + n + m }))
   texts-done y f g x = entered-done s _ q y (texts-size c d) x (texts-stored c d t q y f g) (omega arith)
 
@@ -103,33 +107,36 @@ pub ruleset texts-laws = (roomy-laws, first-room, second-start, second-room, tex
 
 -- ---- the entries of each kind
 -- a text alone
-none-after : (l : List ℕ) → l ≡ l ++ plainOf (unescaped [])
+none-after : (l : List ℕ) → l ≡ l ++ plain []
 unfolding unescaped decode plainOf
 none-after l = sym (append-nil l)
 
 module _ {e t : List ℕ} {w : Written} {e′ t′ : List ℕ} {r : Step} where
   pub as-text : (member : ℕ) {txt : List ℕ} {n : ℕ} → Comes txt n
-      → Does (entered (record { kind = 1; member = member; «key_start» = 0; «key_len» = 0; start = w .used; len = n }) (plainOf (unescaped txt) ++ plainOf (unescaped []))) e t w e′ t′ r
+      → Does (entered (record { kind = 1; member = member; «key_start» = 0; «key_len» = 0; start = w .used; len = n })
+      (plain txt ++ plain [])) e t w e′ t′ r
       → Does (text member txt) e t w e′ t′ r
   unfolding text entryOf
   as-text member {txt} c d =
-      let l = plainOf (unescaped txt) in
+      let l = plain txt in
       subst (λ (o : Out). Does (λ (room : def.Room). writeOr room member (unescapedText o)) e t w e′ t′ r) (sym (c .is))
       (entry-as (textEntry member l) l _ (rw (c .size)) (none-after l) d)
 
   pub as-key-piece : {key : List ℕ} {n : ℕ} (start len : ℕ) → Comes key n
-      → Does (entered (record { kind = 2; member = 0; «key_start» = w .used; «key_len» = n; start = start; len = len }) (plainOf (unescaped key) ++ plainOf (unescaped []))) e t w e′ t′ r
+      → Does (entered (record { kind = 2; member = 0; «key_start» = w .used; «key_len» = n; start = start; len = len })
+      (plain key ++ plain [])) e t w e′ t′ r
       → Does (keyPiece key start len) e t w e′ t′ r
   unfolding keyPiece entryOf
   as-key-piece {key} start len c d =
-      let l = plainOf (unescaped key) in
+      let l = plain key in
       entry-as (keyPieceEntry l (record { start = start; len = len })) l _ (rw (c .size)) (none-after l) d
 
   pub as-key-text : {key value : List ℕ} {n m : ℕ} → Comes key n → Comes value m
-      → Does (entered (record { kind = 1; member = 0; «key_start» = w .used; «key_len» = n; start = w .used + n; len = m }) (plainOf (unescaped key) ++ plainOf (unescaped value))) e t w e′ t′ r
+      → Does (entered (record { kind = 1; member = 0; «key_start» = w .used; «key_len» = n; start = w .used + n; len = m })
+      (plain key ++ plain value)) e t w e′ t′ r
       → Does (keyText key value) e t w e′ t′ r
   unfolding keyText entryOf
-  as-key-text {key} {value} c k d = entry-as (keyTextEntry (plainOf (unescaped key)) (plainOf (unescaped value))) _ _ (rw (c .size, k .size)) refl d
+  as-key-text {key} {value} c k d = entry-as (keyTextEntry (plain key) (plain value)) _ _ (rw (c .size, k .size)) refl d
 
 -- ---- what measuring found decides the step
 pub ready-less : {w : Written} {k n : ℕ} → Ready w k → n ≤ k → Ready w n
@@ -138,15 +145,18 @@ ready-less q h = record { small = omega (arith, q .small) }
 pub ruleset kind-laws = (needs, comes-empty, ready-less, as-text, as-key-piece, as-key-text)
 
 module _ (member : ℕ) (txt : List ℕ) {e t : List ℕ} {w : Written} {e′ t′ : List ℕ} {r : Step} where
-  text-as : (o : Out) → unescaped txt ≡ o → Does (λ (room : def.Room). writeOr room member (unescapedText o)) e t w e′ t′ r → Does (text member txt) e t w e′ t′ r
+  text-as : (o : Out) → unescaped txt ≡ o → Does (λ (room : def.Room). writeOr room member (unescapedText o)) e t w e′ t′ r
+      → Does (text member txt) e t w e′ t′ r
   unfolding text
   text-as o q d = subst (λ (o : Out). Does (λ (room : def.Room). writeOr room member (unescapedText o)) e t w e′ t′ r) (sym q) d
 
-  scalar-as : (o : Out) → unescaped txt ≡ o → Does (λ (room : def.Room). readScalar room member (unescapedText o)) e t w e′ t′ r → Does (scalar member txt) e t w e′ t′ r
+  scalar-as : (o : Out) → unescaped txt ≡ o → Does (λ (room : def.Room). readScalar room member (unescapedText o)) e t w e′ t′ r
+      → Does (scalar member txt) e t w e′ t′ r
   unfolding scalar
   scalar-as o q d = subst (λ (o : Out). Does (λ (room : def.Room). readScalar room member (unescapedText o)) e t w e′ t′ r) (sym q) d
 
-  pub scalar-measured : {y : Unescaped} {n : ℕ} → Does (text member txt) e t w e′ t′ r → y ≡ sizeOf (unescaped txt) → y ≡ Unescaped.Length n → Does (scalar member txt) e t w e′ t′ r
+  pub scalar-measured : {y : Unescaped} {n : ℕ} → Does (text member txt) e t w e′ t′ r → y ≡ sizeOf (unescaped txt)
+      → y ≡ Unescaped.Length n → Does (scalar member txt) e t w e′ t′ r
   unfolding text
   scalar-measured d m q =
       let c = comes-measured txt m q in
@@ -162,16 +172,19 @@ module _ (member : ℕ) (txt : List ℕ) {y : Unescaped} (m : y ≡ sizeOf (unes
       go (bytes l) k a = let z : _≡_ {A = ℕ} 0 1 = cc in absurd (omega arith)
 
   -- 7, or an entry that says so
-  pub text-bad : (e t : List ℕ) (w : Written) → y ≡ Unescaped.BadReference → Does (text member txt) e t w e t (Step.Refused Refusal.BadReference w)
+  pub text-bad : (e t : List ℕ) (w : Written) → y ≡ Unescaped.BadReference
+      → Does (text member txt) e t w e t (Step.Refused Refusal.BadReference w)
   text-bad e t w d = text-as member txt (bad (is-bad d .0)) (is-bad d .1) (record { is = λ h. stays h })
 
-  pub scalar-bad : {e : List ℕ} (t : List ℕ) {w : Written} {e′ : List ℕ} {r : Step} → Enters (failed member Refusal.BadReference) e w e′ r → y ≡ Unescaped.BadReference
+  pub scalar-bad : {e : List ℕ} (t : List ℕ) {w : Written} {e′ : List ℕ} {r : Step} → Enters (failed member Refusal.BadReference) e w e′ r
+      → y ≡ Unescaped.BadReference
       → Does (scalar member txt) e t w e′ t r
   unfolding failed
   scalar-bad t s d = scalar-as member txt (bad (is-bad d .0)) (is-bad d .1) (s .is t)
 
 -- measuring has no room to run out of
-pub measured-never : (step : def.Room → def.Output → def.Reading) {e t : List ℕ} {w : Written} {e′ t′ : List ℕ} {r : Step} (txt : List ℕ) {y : Unescaped} → y ≡ sizeOf (unescaped txt)
+pub measured-never : (step : def.Room → def.Output → def.Reading) {e t : List ℕ} {w : Written} {e′ t′ : List ℕ} {r : Step} (txt : List ℕ)
+    {y : Unescaped} → y ≡ sizeOf (unescaped txt)
     → y ≡ Unescaped.NoRoom → Does step e t w e′ t′ r
 unfolding sizeOf
 measured-never step {e} {t} {w} {e′} {t′} {r} txt m d = go (unescaped txt) (sym m ∙ d)

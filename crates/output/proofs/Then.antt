@@ -1,10 +1,10 @@
 -- Steps one after another: what is midway through a reading, and the whole from its steps.
 use Prim.Native.Nat.{ℕ}
-use mathlib.Core.Path.{_≡_, refl, sym, _∙_, ap}
+use mathlib.Core.Path.{_≡_, refl, _∙_, ap}
 use mathlib.Core.Bool.{Bool, true, false}
 use mathlib.Core.List.{List, [], _∷_}
 use Rattle.refusal.specs.declared.Refusal.{Refusal}
-use Rattle.readings.specs.Output.{Room, Output, Reading, finished, refused, output, andThen, each}
+use Rattle.readings.specs.Output.{Room, Output, Reading, finished, output, andThen, each}
 use Rattle.output.specs.declared.Written.{Written}
 use Rattle.output.specs.declared.Step.{Step}
 use Rattle.output.specs.Steps.{eachOf, tested}
@@ -26,17 +26,24 @@ midway-start f e t w = record { is = λ h. record { out = _; holds = h; goes = r
 pub ends-as : {x y : Reading} {e0 t0 e t : List ℕ} {r : Step} → x ≡ y → Ends y e0 t0 e t r → Ends x e0 t0 e t r
 ends-as p d = rw p d
 
-module _ {whole rest : Room → Output → Reading} {e t : List ℕ} {w : Written} {e₁ t₁ : List ℕ} {w₁ : Written} (m : Midway whole rest e t w e₁ t₁ w₁) where
+module _ {whole rest : Room → Output → Reading} {e t : List ℕ} {w : Written} {e₁ t₁ : List ℕ} {w₁ : Written}
+    (m : Midway whole rest e t w e₁ t₁ w₁) where
   -- the rest is one step
   pub midway-last : {e₂ t₂ : List ℕ} {r : Step} → Does rest e₁ t₁ w₁ e₂ t₂ r → Does whole e t w e₂ t₂ r
   midway-last d = record { is = λ h. let x = m .is h in ends-as (x .goes) (d .is (x .holds)) }
 
   -- the rest is nothing
   pub midway-ends : ((room : Room) (out : Output) → rest room out ≡ finished out) → Does whole e t w e₁ t₁ (Step.Done w₁)
-  midway-ends f = record { is = λ {e0} {t0} h. let x = m .is h in ends-as (x .goes ∙ f (roomOf e0 t0) (x .out)) (record { is = refl; holds = x .holds }) }
+  midway-ends f =
+      record {
+        is = λ {e0} {t0} h.
+            let x = m .is h in
+            ends-as (x .goes ∙ f (roomOf e0 t0) (x .out)) (record { is = refl; holds = x .holds });
+      }
 
   -- the rest begins with a step
-  module _ {step : Room → Output → Reading} (more : Room → Output → Reading) (begins : (room : Room) (out : Output) → rest room out ≡ andThen (step room out) (more room))
+  module _ {step : Room → Output → Reading} (more : Room → Output → Reading)
+      (begins : (room : Room) (out : Output) → rest room out ≡ andThen (step room out) (more room))
       {e₂ t₂ : List ℕ} {r : Step} (d : Does step e₁ t₁ w₁ e₂ t₂ r) where
     pub midway-goes : {w₂ : Written} → r ≡ Step.Done w₂ → Midway whole more e t w e₂ t₂ w₂
     midway-goes {w₂} q =
@@ -46,7 +53,11 @@ module _ {whole rest : Room → Output → Reading} {e t : List ℕ} {w : Writte
               let x = m .is h in
               let y = rw q at (d .is (x .holds)) in
               let o = output (step room (x .out)) in
-              record { out = o; holds = y .holds; goes = x .goes ∙ begins room (x .out) ∙ ap (λ (z : Reading). andThen z (more room)) (y .is) };
+              record {
+                out = o;
+                holds = y .holds;
+                goes = x .goes ∙ begins room (x .out) ∙ ap (λ (z : Reading). andThen z (more room)) (y .is);
+              };
         }
 
     pub midway-stops : {why : Refusal} {w₂ : Written} → r ≡ Step.Refused why w₂ → Does whole e t w e₂ t₂ (Step.Refused why w₂)
@@ -56,11 +67,13 @@ module _ {whole rest : Room → Output → Reading} {e t : List ℕ} {w : Writte
               let room = roomOf e0 t0 in
               let x = m .is h in
               let y = rw q at (d .is (x .holds)) in
-              ends-as (x .goes ∙ begins room (x .out) ∙ ap (λ (z : Reading). andThen z (more room)) (y .is)) (record { is = refl; holds = y .holds });
+              ends-as (x .goes ∙ begins room (x .out) ∙ ap (λ (z : Reading). andThen z (more room)) (y .is))
+              (record { is = refl; holds = y .holds });
         }
 
 -- a step that is another
-pub does-as : {f g : Room → Output → Reading} {e t : List ℕ} {w : Written} {e′ t′ : List ℕ} {r : Step} → ((room : Room) (out : Output) → f room out ≡ g room out)
+pub does-as : {f g : Room → Output → Reading} {e t : List ℕ} {w : Written} {e′ t′ : List ℕ} {r : Step}
+    → ((room : Room) (out : Output) → f room out ≡ g room out)
     → Does g e t w e′ t′ r → Does f e t w e′ t′ r
 does-as p d = record { is = λ {e0} {t0} {out} h. ends-as (p (roomOf e0 t0) out) (d .is h) }
 
@@ -75,12 +88,14 @@ module _ (e t : List ℕ) (w : Written) where
   tested-ill q = rw q (record { is = λ h. record { is = refl; holds = h } })
 
 -- ---- one after another, over a list
-module _ {A : Type 0} (f : A → Room → Output → Reading) {whole : Room → Output → Reading} {e t : List ℕ} {w : Written} {e₁ t₁ : List ℕ} {w₁ : Written} where
+module _ {A : Type 0} (f : A → Room → Output → Reading) {whole : Room → Output → Reading} {e t : List ℕ} {w : Written} {e₁ t₁ : List ℕ}
+    {w₁ : Written} where
   pub each-ends : Midway whole (eachOf f []) e t w e₁ t₁ w₁ → Does whole e t w e₁ t₁ (Step.Done w₁)
   unfolding eachOf each
   each-ends m = midway-ends m (λ room out. refl)
 
-  module _ (a : A) (l : List A) (m : Midway whole (eachOf f (a ∷ l)) e t w e₁ t₁ w₁) {e₂ t₂ : List ℕ} {r : Step} (d : Does (f a) e₁ t₁ w₁ e₂ t₂ r) where
+  module _ (a : A) (l : List A) (m : Midway whole (eachOf f (a ∷ l)) e t w e₁ t₁ w₁) {e₂ t₂ : List ℕ} {r : Step}
+      (d : Does (f a) e₁ t₁ w₁ e₂ t₂ r) where
     pub each-goes : {w₂ : Written} → r ≡ Step.Done w₂ → Midway whole (eachOf f l) e t w e₂ t₂ w₂
     unfolding eachOf each
     each-goes q = midway-goes m (eachOf f l) (λ room out. refl) d q
@@ -88,15 +103,3 @@ module _ {A : Type 0} (f : A → Room → Output → Reading) {whole : Room → 
     pub each-stops : {why : Refusal} {w₂ : Written} → r ≡ Step.Refused why w₂ → Does whole e t w e₂ t₂ (Step.Refused why w₂)
     unfolding eachOf each
     each-stops q = midway-stops m (eachOf f l) (λ room out. refl) d q
-
-  -- an element of which nothing is written
-  pub each-idle : (a : A) (l : List A) → ((room : Room) (out : Output) → f a room out ≡ finished out) → Midway whole (eachOf f (a ∷ l)) e t w e₁ t₁ w₁
-      → Midway whole (eachOf f l) e t w e₁ t₁ w₁
-  unfolding eachOf each
-  each-idle a l p m =
-      record {
-        is = λ {e0} {t0} h.
-            let room = roomOf e0 t0 in
-            let x = m .is h in
-            record { out = x .out; holds = x .holds; goes = x .goes ∙ ap (λ (z : Reading). andThen z (eachOf f l room)) (p room (x .out)) };
-      }

@@ -10,7 +10,8 @@ use Rattle.document.specs.View.{View}
 use Rattle.document.specs.Scope.{Child}
 use Rattle.document.specs.Text.{unescapedText}
 use Rattle.sheet.specs.Sheet.{Structure}
-use Rattle.readings.specs.Output.{Entry, Room, Output, Reading, refused, each, write, writePiece, writeFailed, writeText, writeGroup, writeKeyText, writeKeyPiece}
+use Rattle.readings.specs.Output.{Entry, Room, Output, Reading, refused, each, write, writePiece, writeFailed, writeText, writeGroup}
+use Rattle.readings.specs.Output.{writeKeyText, writeKeyPiece}
 use Rattle.readings.specs.Opening.{endTest}
 use Rattle.readings.specs.Structure.{readScalar, groupOf, readGroups}
 use Rattle.output.specs.declared.Six.{Six}

@@ -132,7 +132,9 @@ fn write_texts(
     requires { ⌜ Comes (now first) n ⌝ }
     requires { ⌜ Comes (now second) m ⌝ }
     requires { ⌜ Ready w (n + m) ⌝ }
-    ensures { λ r. ⌜ Does (entered s (plainOf (unescaped (now (first .entry))) ++ plainOf (unescaped (now (second .entry))))) (now (entries .entry)) (now (texts .entry)) w (now (entries .exit)) (now (texts .exit)) r ⌝ }
+    ensures { λ r. ⌜ Does (entered s (plainOf (unescaped (now (first .entry))) ++ plainOf (unescaped (now (second .entry)))))
+        (now (entries .entry)) (now (texts .entry)) w
+        (now (entries .exit)) (now (texts .exit)) r ⌝ }
 {
     let count = w.count;
     let used = w.used;
@@ -160,7 +162,8 @@ fn write_measured(
 ) -> Step
     requires { ⌜ Comes (now txt) n ⌝ }
     requires { ⌜ Ready w n ⌝ }
-    ensures { λ r. ⌜ Does (text member (now (txt .entry))) (now (entries .entry)) (now (texts .entry)) w (now (entries .exit)) (now (texts .exit)) r ⌝ }
+    ensures { λ r. ⌜ Does (text member (now (txt .entry))) (now (entries .entry)) (now (texts .entry)) w
+        (now (entries .exit)) (now (texts .exit)) r ⌝ }
 {
     let used = w.used;
     write_texts(
@@ -191,7 +194,8 @@ pub fn write_text(
     w: Written,
 ) -> Step
     requires { ⌜ Ready w (length (now txt)) ⌝ }
-    ensures { λ r. ⌜ Does (text member (now (txt .entry))) (now (entries .entry)) (now (texts .entry)) w (now (entries .exit)) (now (texts .exit)) r ⌝ }
+    ensures { λ r. ⌜ Does (text member (now (txt .entry))) (now (entries .entry)) (now (texts .entry)) w
+        (now (entries .exit)) (now (texts .exit)) r ⌝ }
 {
     match unescape::measure(txt) {
         Unescaped::Length(n) => write_measured(txt, n, member, entries, texts, w),
@@ -210,7 +214,8 @@ pub fn write_scalar(
     w: Written,
 ) -> Step
     requires { ⌜ Ready w (length (now txt)) ⌝ }
-    ensures { λ r. ⌜ Does (scalar member (now (txt .entry))) (now (entries .entry)) (now (texts .entry)) w (now (entries .exit)) (now (texts .exit)) r ⌝ }
+    ensures { λ r. ⌜ Does (scalar member (now (txt .entry))) (now (entries .entry)) (now (texts .entry)) w
+        (now (entries .exit)) (now (texts .exit)) r ⌝ }
 {
     match unescape::measure(txt) {
         Unescaped::Length(n) => write_measured(txt, n, member, entries, texts, w),
@@ -231,7 +236,8 @@ pub fn write_key_piece(
 ) -> Step
     requires { ⌜ Comes (now key) n ⌝ }
     requires { ⌜ Ready w n ⌝ }
-    ensures { λ r. ⌜ Does (keyPiece (now (key .entry)) start len) (now (entries .entry)) (now (texts .entry)) w (now (entries .exit)) (now (texts .exit)) r ⌝ }
+    ensures { λ r. ⌜ Does (keyPiece (now (key .entry)) start len) (now (entries .entry)) (now (texts .entry)) w
+        (now (entries .exit)) (now (texts .exit)) r ⌝ }
 {
     let used = w.used;
     write_texts(
@@ -266,7 +272,8 @@ pub fn write_key_text(
     requires { ⌜ Comes (now key) n ⌝ }
     requires { ⌜ Comes (now value) m ⌝ }
     requires { ⌜ Ready w (n + m) ⌝ }
-    ensures { λ r. ⌜ Does (keyText (now (key .entry)) (now (value .entry))) (now (entries .entry)) (now (texts .entry)) w (now (entries .exit)) (now (texts .exit)) r ⌝ }
+    ensures { λ r. ⌜ Does (keyText (now (key .entry)) (now (value .entry))) (now (entries .entry)) (now (texts .entry)) w
+        (now (entries .exit)) (now (texts .exit)) r ⌝ }
 {
     let used = w.used;
     write_texts(
@@ -383,7 +390,8 @@ pub fn write_group(
     requires { ⌜ Inside (now body) (now kept) ⌝ }
     requires { ⌜ length (now kept) < 2 ^ 32 ⌝ }
     requires { ⌜ Ready w (length (flat (now body) (now kept) member)) ⌝ }
-    ensures { λ r. ⌜ Does (group member (flat (now (body .entry)) (now (kept .entry)) member)) (now (entries .entry)) (now (texts .entry)) w (now (entries .exit)) (now (texts .exit)) r ⌝ }
+    ensures { λ r. ⌜ Does (group member (flat (now (body .entry)) (now (kept .entry)) member)) (now (entries .entry)) (now (texts .entry)) w
+        (now (entries .exit)) (now (texts .exit)) r ⌝ }
 {
     let count = w.count;
     let used = w.used;
