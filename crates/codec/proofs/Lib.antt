@@ -1,2 +1,9 @@
--- What a walk by hand of a function that has a guard in a local cites, here and in the crates above.
 pub mod Lent
+pub mod Names
+pub mod Bits
+pub mod Collections
+pub mod Depths
+pub mod Heads
+pub mod Members
+pub mod Resolving
+pub mod Structures

@@ -1,91 +1,90 @@
--- A name in a sheet by its place and its length, and what reading one at a place gives.
-use Prim.Native.Nat.{ℕ, zero, suc, _+_, _-_, _≤_, _<_}
-use mathlib.Core.Path.{_≡_, refl}
-use mathlib.Core.Bool.{Bool, true, false}
-use mathlib.Core.List.{List, []}
-use mathlib.Core.Option.{Option, none, some, Option·getD}
-use native.Mathlib.Numerals.{add-one}
-use native.Mathlib.Omega.{arith}
-use borrow.Author.Needs.{needs}
-use borrow.Author.Tests.{le-leb, lt-leb, eqb-true, ne-eqb}
+-- The parts that all sheets share (01, "Sheets and entries"), by their places in the sheet, and what reading one at a place gives.
+use Prim.Native.Nat.{ℕ, _+_, _-_, _≤_, _<_}
+use mathlib.Core.Path.{_≡_}
+use mathlib.Core.Bool.{Bool, false}
+use mathlib.Core.List.{List}
+use mathlib.Core.Option.{Option, none, some}
 use lib.Dec.{eqb}
-use lib.ListN.{length, getD, take, drop, length-drop, drop-of-length-le}
-use lib.Seq.{drop-cons, drop-drop}
+use lib.ListN.{length, take, drop}
 use Rattle.lists.specs.Tests.{pick}
-use Rattle.sheet.specs.Front.{front, broken, name, nameIf}
+use Rattle.sheet.specs.Front.{Front, front, broken, then, bitMap, bit, name, nameIf}
+use Rattle.sheet.specs.Names.{orElse}
+use Rattle.codec.specs.declared.field.Span.{Span}
 use Rattle.codec.specs.declared.field.Field.{Field}
+use Rattle.codec.specs.declared.field.Pair.{Pair}
+use Rattle.codec.specs.declared.field.Fields.{Fields}
 
+-- a byte as a number
+pub record Byte (x r : ℕ) : Type 0 where
+  pub is : r ≡ x
+  pub small : r < 256
+
+-- ---- names: "A name is a length byte 1..255, then bytes."
 -- the bytes of a name
-abbrev pub bytesAt : List ℕ → ℕ → ℕ → List ℕ
-bytesAt sheet from len = take len (drop from sheet)
+abbrev pub bytesAt : List ℕ → Span → List ℕ
+bytesAt sheet s = take (s .len) (drop (s .from) sheet)
 
--- a name that may be there: none where its length is 0
-abbrev pub nameIn : List ℕ → ℕ → ℕ → Option (List ℕ)
-nameIn sheet from len = pick (eqb len 0) none (some (bytesAt sheet from len))
+-- a name that may be there: none where the length is 0
+abbrev pub nameOf : List ℕ → Span → Option (List ℕ)
+nameOf sheet s = pick (eqb (s .len) 0) none (some (bytesAt sheet s))
 
-pub bytes-name : (sheet : List ℕ) (from len : ℕ) → bytesAt sheet from len ≡ Option·getD (nameIn sheet from len) []
-bytes-name sheet from len = go (eqb len 0) refl
-  where
-    go : (t : Bool) → eqb len 0 ≡ t → bytesAt sheet from len ≡ Option·getD (pick t none (some (bytesAt sheet from len))) []
-    go true e = rw (eqb-true len 0 e)
-    go false e = refl
+-- the first of two names that is there; it lies where they lie
+pub record OrElse (a b r : Span) : Type 0 where
+  pub name : (sheet : List ℕ) → nameOf sheet r ≡ orElse (nameOf sheet a) (nameOf sheet b)
+  pub inside : (n : ℕ) → a .from + a .len ≤ n → b .from + b .len ≤ n → r .from + r .len ≤ n
 
--- what is read at a place is the name there, where its bit stands; it lies in the sheet, and the next place is near
+-- ---- what is read at a place
+-- a field stands there, or the sheet is broken there; the place after it lies in the sheet, and is near
+pub record ReadAt {A : Type 0} (sheet : List ℕ) (field : Front A) (ok : Bool) (a : A) (next most : ℕ) : Type 0 where
+  pub is : field ≡ pick ok (front a (drop next sheet)) broken
+  pub inside : next ≤ length sheet
+  pub near : next ≤ most
+
+-- the length of the name there, 0 where there is none
+pub record LengthRead (sheet : List ℕ) (at r : ℕ) : Type 0 where
+  pub is : name (drop at sheet) ≡ pick (eqb r 0) broken (front (take r (drop (at + 1) sheet)) (drop (at + 1 + r) sheet))
+  pub inside : r ≤ length sheet - at - 1
+  pub small : r < 256
+
+-- a name, where its bit stands
 pub record FieldRead (sheet : List ℕ) (at : ℕ) (stands : Bool) (r : Field) : Type 0 where
-  pub is : nameIf stands (drop at sheet) ≡ pick (r .ok) (front (nameIn sheet (r .from) (r .len)) (drop (r .next) sheet)) broken
-  pub after : r .next ≡ r .from + r .len
-  pub inside : r .next ≤ length sheet
-  pub near : r .next ≤ at + 1 + r .len
+  pub read : ReadAt sheet (nameIf stands (drop at sheet)) (r .ok) (nameOf sheet (r .name)) (r .next) (at + 256)
+  pub ends : r .name .from + r .name .len ≤ r .next
+  pub onward : at ≤ r .next
+  pub absent : stands ≡ false → r .name .len ≡ 0
 
--- ---- reading it
--- the answer where a sheet is broken
-abbrev pub noField : Field
-noField = record { ok = false; from = 0; len = 0; next = 0 }
+-- two names
+pub record Two : Type 0 where
+  pub first : Option (List ℕ)
+  pub second : Option (List ℕ)
 
-no-field : {sheet : List ℕ} {at : ℕ} {r : Field} → nameIf true (drop at sheet) ≡ broken → r ≡ noField → FieldRead sheet at true r
-no-field e o = rw o (record { is = e; after = omega arith; inside = omega arith; near = omega arith })
+abbrev pub pairIf : Bool → Bool → List ℕ → Front Two
+pairIf t u s = then (nameIf t s) (λ x rest. then (nameIf u rest) (λ y end. front (record { first = x; second = y }) end))
 
-module _ {sheet : List ℕ} {at : ℕ} where
-  pub name-ends : {r : Field} → length sheet ≤ at → r ≡ noField → FieldRead sheet at true r
-  name-ends h = no-field (rw (drop-of-length-le sheet h))
+abbrev pub namesOf : List ℕ → Span → Span → Two
+namesOf sheet a b = record { first = nameOf sheet a; second = nameOf sheet b }
 
-  pub name-empty : {r : Field} → at < length sheet → getD sheet at 0 ≡ 0 → r ≡ noField → FieldRead sheet at true r
-  name-empty h e = no-field (rw (drop-cons sheet at 0 h, e))
+pub record PairRead (sheet : List ℕ) (at : ℕ) (t u : Bool) (r : Pair) : Type 0 where
+  pub read : ReadAt sheet (pairIf t u (drop at sheet)) (r .ok) (namesOf sheet (r .first) (r .second)) (r .next) (at + 512)
+  pub firstEnds : r .first .from + r .first .len ≤ r .next
+  pub secondEnds : r .second .from + r .second .len ≤ r .next
+  pub absent : u ≡ false → r .second .len ≡ 0
 
-  module _ (h : at < length sheet) where
-    pub name-cut : {r : Field} {w : ℕ} → w ≡ getD sheet at 0 → length sheet - (at + 1) < w → r ≡ noField → FieldRead sheet at true r
-    name-cut {r} {w} e l =
-        no-field
-        (rw (drop-cons sheet at 0 h, le-leb 1 (getD sheet at 0) (omega arith), lt-leb (getD sheet at 0) (length (drop (suc at) sheet)) (omega (arith, length-drop (suc at) sheet))))
+-- "A sheet is a bit map byte, then only the fields whose bit stands, in bit order; higher bits are 0.": of these, two names, whose bits are those of v and w
+pub record Named : Type 0 where
+  pub bits : ℕ
+  pub names : Two
 
-    pub name-read : {w v : ℕ} → (getD sheet at 0 ≡ 0 → ⊥) → w ≡ getD sheet at 0 → w ≤ length sheet - (at + 1) → v ≡ getD sheet at 0
-        → FieldRead sheet at true (record { ok = true; from = at + 1; len = getD sheet at 0; next = at + 1 + v })
-    name-read {w} {v} n e l q =
-        record {
-          is =
-              rw (
-                drop-cons sheet at 0 h,
-                le-leb 1 (getD sheet at 0) (positive (getD sheet at 0) n),
-                le-leb (getD sheet at 0) (length (drop (suc at) sheet)) (omega (arith, length-drop (suc at) sheet)),
-                ne-eqb (getD sheet at 0) 0 n,
-                q,
-                add-one at,
-                drop-drop (getD sheet at 0) (suc at) sheet,
-              );
-          after = omega arith;
-          inside = omega arith;
-          near = omega arith;
-        }
-      where
-        positive : (n : ℕ) → (n ≡ 0 → ⊥) → 1 ≤ n
-        positive zero n = absurd (n refl)
-        positive (suc k) n = omega arith
+abbrev pub fieldsOf : ℕ → ℕ → ℕ → List ℕ → Front Named
+fieldsOf values v w s =
+    then (bitMap values s) (λ b rest. then (pairIf (bit v b) (bit w b) rest) (λ p end. front (record { bits = b; names = p }) end))
 
-  module _ {stands : Bool} where
-    pub name-stands : {r : Field} → stands ≡ true → FieldRead sheet at true r → FieldRead sheet at stands r
-    name-stands e x = rw e x
+abbrev pub namedBy : List ℕ → Fields → Named
+namedBy sheet r = record { bits = r .bits; names = namesOf sheet (r .first) (r .second) }
 
-    pub name-absent : stands ≡ false → at ≤ length sheet → FieldRead sheet at stands (record { ok = true; from = at; len = 0; next = at })
-    name-absent e h = rw e (record { is = refl; after = omega arith; inside = h; near = omega arith })
-
-pub ruleset field-laws = (needs, name-ends, name-empty, name-cut, name-read, name-stands, name-absent)
+pub record FieldsRead (sheet : List ℕ) (at values v w : ℕ) (r : Fields) : Type 0 where
+  pub read : ReadAt sheet (fieldsOf values v w (drop at sheet)) (r .ok) (namedBy sheet r) (r .next) (at + 513)
+  pub firstEnds : r .first .from + r .first .len ≤ r .next
+  pub secondEnds : r .second .from + r .second .len ≤ r .next
+  pub absent : bit w (r .bits) ≡ false → r .second .len ≡ 0
+  pub small : r .bits < 256

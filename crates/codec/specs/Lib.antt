@@ -1,11 +1,5 @@
 pub mod Settings
-pub mod Field
-pub mod Pair
-pub mod Member
-pub mod Head
-pub mod Structure
-pub mod Collections
-pub mod Members
-pub mod Resolve
-pub mod Names
 pub mod Guard
+pub mod Field
+pub mod Structure
+pub mod Collection

@@ -1,15 +1,16 @@
+// List and map sheets: a bit map and two names each, and the names that their items, entries, keys and values have.
 ghost use mathlib.Core.Path.{_≡_};
-ghost use mathlib.Core.Bool.{true, false};
-ghost use Prim.Native.Nat.{_-_, _<_};
+ghost use Prim.Native.Nat.{_<_};
 ghost use Rattle.lists.specs.Bytes.{ascii, sameb};
 ghost use Rattle.sheet.specs.Names.{keyName, valueName};
-ghost use Rattle.codec.specs.Names.{ItemNamed, ItemsNamed, EntriesNamed};
-ghost use Rattle.codec.specs.Collections.{ListSaid, ListRead, mapSaid, MapSaid, MapRead};
+ghost use Rattle.codec.specs.Collection.{withThird, isWhole, ListSaid, ListRead, mapSaid, MapSaid, MapRead, ItemNamed, ItemsNamed, EntriesNamed};
+use crate::field::Fields;
 use crate::field::Span;
-use crate::field::bits_fit;
+use crate::field::both;
+use crate::field::fields_at;
+use crate::field::has_bit;
 use crate::field::name_or;
 use crate::field::or_else;
-use crate::field::pair_at;
 use crate::settings::Settings;
 
 // A list sheet that was read. The name is the XML name, else the member name.
@@ -18,52 +19,6 @@ pub struct ListSheet {
     pub member: bool,
     pub flattened: bool,
     pub name: Span,
-}
-
-fn no_list() -> ListSheet
-    ensures { λ r. ⌜ r .ok ≡ false ⌝ }
-{
-    ListSheet {
-        ok: false,
-        member: false,
-        flattened: false,
-        name: Span { from: 0, len: 0 },
-    }
-}
-
-// Reads a list sheet.
-pub fn parse_list(sheet: &[u8]) -> ListSheet
-    ensures { λ r. ⌜ ListRead (now (sheet .entry)) r ⌝ }
-{
-    if sheet.len() == 0 {
-        return no_list();
-    }
-    let flags = sheet[0];
-    if !bits_fit(
-        flags,
-        16,
-        flags % 2 == 1,
-        flags / 4 % 2 == 1,
-        flags / 8 % 2 == 1,
-    ) {
-        return no_list();
-    }
-    let names = pair_at(sheet, 1, flags / 4 % 2 == 1, flags / 8 % 2 == 1);
-    if !names.ok {
-        return no_list();
-    }
-    if names.next < sheet.len() {
-        return no_list();
-    }
-    let first = names.first;
-    let second = names.second;
-    let name = or_else(first, second);
-    ListSheet {
-        ok: true,
-        member: flags % 2 == 1,
-        flattened: flags / 2 % 2 == 1,
-        name,
-    }
 }
 
 // A map sheet that was read.
@@ -75,15 +30,42 @@ pub struct MapSheet {
     pub value: Span,
 }
 
-fn no_map() -> MapSheet
-    ensures { λ r. ⌜ r .ok ≡ false ⌝ }
+// Whether two bits of a bit map stand only with a third.
+fn with_third(bits: usize, third: usize, a: usize, b: usize) -> bool
+    requires { ⌜ (0 < third) × (0 < a) × (0 < b) ⌝ }
+    ensures { λ r. ⌜ r ≡ withThird bits third a b ⌝ }
 {
-    MapSheet {
-        ok: false,
-        flattened: false,
-        aggregate: false,
-        key: Span { from: 0, len: 0 },
-        value: Span { from: 0, len: 0 },
+    if has_bit(bits, third) {
+        return true;
+    }
+    if has_bit(bits, a) {
+        return false;
+    }
+    !has_bit(bits, b)
+}
+
+// Whether the fields that were read are a sheet: it ends with its last field, and two of its bits stand only with a third.
+fn is_whole(sheet: &[u8], f: Fields, third: usize, a: usize, b: usize) -> bool
+    requires { ⌜ (0 < third) × (0 < a) × (0 < b) ⌝ }
+    ensures { λ r. ⌜ r ≡ isWhole (now (sheet .entry)) f third a b ⌝ }
+{
+    let ended = both(f.ok, sheet.len() <= f.next);
+    both(ended, with_third(f.bits, third, a, b))
+}
+
+// Reads a list sheet.
+pub fn parse_list(sheet: &[u8]) -> ListSheet
+    ensures { λ r. ⌜ ListRead (now (sheet .entry)) r ⌝ }
+{
+    let f = fields_at(sheet, 0, 16, 4, 8);
+    let first = f.first;
+    let second = f.second;
+    let name = or_else(first, second);
+    ListSheet {
+        ok: is_whole(sheet, f, 1, 4, 8),
+        member: has_bit(f.bits, 1),
+        flattened: has_bit(f.bits, 2),
+        name,
     }
 }
 
@@ -91,32 +73,13 @@ fn no_map() -> MapSheet
 pub fn parse_map(sheet: &[u8]) -> MapSheet
     ensures { λ r. ⌜ MapRead (now (sheet .entry)) r ⌝ }
 {
-    if sheet.len() == 0 {
-        return no_map();
-    }
-    let flags = sheet[0];
-    if !bits_fit(
-        flags,
-        32,
-        flags / 4 % 2 == 1,
-        flags / 8 % 2 == 1,
-        flags / 16 % 2 == 1,
-    ) {
-        return no_map();
-    }
-    let names = pair_at(sheet, 1, flags / 2 % 2 == 1, flags / 8 % 2 == 1);
-    if !names.ok {
-        return no_map();
-    }
-    if names.next < sheet.len() {
-        return no_map();
-    }
-    let key = names.first;
-    let value = names.second;
+    let f = fields_at(sheet, 0, 32, 2, 8);
+    let key = f.first;
+    let value = f.second;
     MapSheet {
-        ok: true,
-        flattened: flags % 2 == 1,
-        aggregate: flags / 16 % 2 == 1,
+        ok: is_whole(sheet, f, 4, 8, 16),
+        flattened: has_bit(f.bits, 1),
+        aggregate: has_bit(f.bits, 16),
         key,
         value,
     }

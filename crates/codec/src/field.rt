@@ -1,84 +1,28 @@
+// The parts that all sheets share: bit maps, and names by their places in the sheet. Each step answers a place in the sheet even where the sheet is broken, so
+// that steps follow one another with no way out between them, and a sheet is read where all of them are ok.
 ghost use mathlib.Core.Path.{_≡_};
-ghost use mathlib.Core.Bool.{true, false, not};
-ghost use Prim.Native.Nat.{_+_, _-_, _≤_, _<_};
-ghost use lib.ListN.{length, getD};
-ghost use Rattle.sheet.specs.Names.{isNamed};
+ghost use mathlib.Core.Bool.{Bool, true, false, not};
 ghost use mathlib.Core.Option.{Option·getD};
-ghost use Rattle.codec.specs.Field.{bytesAt, nameIn, FieldRead, noField};
-ghost use Rattle.codec.specs.Pair.{nameOf, PairRead, NoPair, fitting, OrElse};
+ghost use Prim.Native.Nat.{_+_, _≤_, _<_};
+ghost use lib.ListN.{length};
+ghost use Rattle.lists.specs.Tests.{pick};
+ghost use Rattle.sheet.specs.Front.{bit};
+ghost use Rattle.codec.specs.Field.{Byte, bytesAt, nameOf, LengthRead, FieldRead, PairRead, FieldsRead, OrElse};
 
 // A name in a sheet: its place, and its length, 0 where there is no name.
 pub struct Span {
-    pub from: u32,
-    pub len: u8,
+    pub from: usize,
+    pub len: usize,
 }
 
 // A name that may stand at a place of a sheet, and the place after it; not ok where the sheet is broken there.
 pub struct Field {
     pub ok: bool,
-    pub from: u32,
-    pub len: u8,
+    pub name: Span,
     pub next: usize,
 }
 
-pub fn wide(x: u8) -> usize
-    ensures { λ r. ⌜ r ≡ x ⌝ }
-{
-    x as usize
-}
-
-pub fn no_field() -> Field
-    ensures { λ r. ⌜ r ≡ noField ⌝ }
-{
-    Field {
-        ok: false,
-        from: 0,
-        len: 0,
-        next: 0,
-    }
-}
-
-// The name at a place.
-pub fn name_at(sheet: &[u8], at: usize) -> Field
-    requires { ⌜ (at ≤ length (now sheet)) × (at ≤ 65536) ⌝ }
-    ensures { λ r. ⌜ FieldRead (now (sheet .entry)) at true r ⌝ }
-{
-    if sheet.len() <= at {
-        return no_field();
-    }
-    let len = sheet[at];
-    if len == 0 {
-        return no_field();
-    }
-    let from = at + 1;
-    if sheet.len() - from < wide(len) {
-        return no_field();
-    }
-    Field {
-        ok: true,
-        from: from as u32,
-        len,
-        next: from + wide(len),
-    }
-}
-
-// The name at a place, where its bit stands.
-pub fn name_if(stands: bool, sheet: &[u8], at: usize) -> Field
-    requires { ⌜ (at ≤ length (now sheet)) × (at ≤ 65536) ⌝ }
-    ensures { λ r. ⌜ FieldRead (now (sheet .entry)) at stands r ⌝ }
-{
-    if stands {
-        return name_at(sheet, at);
-    }
-    Field {
-        ok: true,
-        from: at as u32,
-        len: 0,
-        next: at,
-    }
-}
-
-// Two names that may stand one after the other, and the place after them; not ok where the sheet is broken there.
+// Two names that may stand one after the other, and the place after them.
 pub struct Pair {
     pub ok: bool,
     pub first: Span,
@@ -86,41 +30,123 @@ pub struct Pair {
     pub next: usize,
 }
 
-pub fn no_pair() -> Pair
-    ensures { λ r. ⌜ NoPair r ⌝ }
+// A bit map, two names that may follow it, and the place after them.
+pub struct Fields {
+    pub ok: bool,
+    pub bits: usize,
+    pub first: Span,
+    pub second: Span,
+    pub next: usize,
+}
+
+// A byte as a number.
+pub fn wide(x: u8) -> usize
+    ensures { λ r. ⌜ Byte x r ⌝ }
 {
-    Pair {
-        ok: false,
-        first: Span { from: 0, len: 0 },
-        second: Span { from: 0, len: 0 },
-        next: 0,
+    x as usize
+}
+
+pub fn both(a: bool, b: bool) -> bool
+    ensures { λ r. ⌜ r ≡ pick a b false ⌝ }
+{
+    if a {
+        return b;
+    }
+    false
+}
+
+// Whether the bit of a value (1, 2, 4, ..) stands in a bit map.
+pub fn has_bit(bits: usize, value: usize) -> bool
+    requires { ⌜ 0 < value ⌝ }
+    ensures { λ r. ⌜ r ≡ bit value bits ⌝ }
+{
+    bits / value % 2 == 1
+}
+
+// The length of the name at a place; 0 where no name stands there.
+fn name_length(sheet: &[u8], at: usize) -> usize
+    ensures { λ r. ⌜ LengthRead (now (sheet .entry)) at r ⌝ }
+{
+    if sheet.len() <= at {
+        return 0;
+    }
+    let len = wide(sheet[at]);
+    if sheet.len() - at <= len {
+        return 0;
+    }
+    len
+}
+
+// The name at a place, where its bit stands.
+fn name_if(stands: bool, sheet: &[u8], at: usize) -> Field
+    requires { ⌜ at ≤ length (now sheet) ⌝ }
+    ensures { λ r. ⌜ FieldRead (now (sheet .entry)) at stands r ⌝ }
+{
+    if !stands {
+        return Field {
+            ok: true,
+            name: Span { from: at, len: 0 },
+            next: at,
+        };
+    }
+    let len = name_length(sheet, at);
+    if len < 1 {
+        return Field {
+            ok: false,
+            name: Span { from: at, len: 0 },
+            next: at,
+        };
+    }
+    let from = at + 1;
+    Field {
+        ok: true,
+        name: Span { from, len },
+        next: from + len,
     }
 }
 
 // The two names at a place, where their bits stand.
 pub fn pair_at(sheet: &[u8], at: usize, first: bool, second: bool) -> Pair
-    requires { ⌜ (at ≤ length (now sheet)) × (at ≤ 65000) ⌝ }
+    requires { ⌜ at ≤ length (now sheet) ⌝ }
     ensures { λ r. ⌜ PairRead (now (sheet .entry)) at first second r ⌝ }
 {
     let x = name_if(first, sheet, at);
-    if !x.ok {
-        return no_pair();
-    }
     let y = name_if(second, sheet, x.next);
-    if !y.ok {
-        return no_pair();
-    }
+    let a = x.name;
+    let b = y.name;
     Pair {
-        ok: true,
-        first: Span {
-            from: x.from,
-            len: x.len,
-        },
-        second: Span {
-            from: y.from,
-            len: y.len,
-        },
+        ok: both(x.ok, y.ok),
+        first: a,
+        second: b,
         next: y.next,
+    }
+}
+
+// The bit map at a place, below so many values, and the names whose bits are those of two values.
+pub fn fields_at(sheet: &[u8], at: usize, values: usize, first: usize, second: usize) -> Fields
+    requires { ⌜ at ≤ length (now sheet) ⌝ }
+    requires { ⌜ (0 < first) × (0 < second) ⌝ }
+    ensures { λ r. ⌜ FieldsRead (now (sheet .entry)) at values first second r ⌝ }
+{
+    if sheet.len() <= at {
+        return Fields {
+            ok: false,
+            bits: 0,
+            first: Span { from: at, len: 0 },
+            second: Span { from: at, len: 0 },
+            next: at,
+        };
+    }
+    let bits = wide(sheet[at]);
+    let names = pair_at(sheet, at + 1, has_bit(bits, first), has_bit(bits, second));
+    let a = names.first;
+    let b = names.second;
+    Fields {
+        ok: both(bits < values, names.ok),
+        bits,
+        first: a,
+        second: b,
+        next: names.next,
     }
 }
 
@@ -134,50 +160,17 @@ pub fn or_else(a: Span, b: Span) -> Span
     a
 }
 
-// Whether a bit map has no higher bits, and two of its bits stand only with another.
-pub fn bits_fit(flags: u8, most: u8, base: bool, a: bool, b: bool) -> bool
-    ensures { λ r. ⌜ r ≡ fitting flags most base a b ⌝ }
-{
-    if most <= flags {
-        return false;
-    }
-    if base {
-        return true;
-    }
-    if a {
-        return false;
-    }
-    !b
-}
-
-pub fn place(x: u32) -> usize
-    ensures { λ r. ⌜ r ≡ x ⌝ }
-{
-    x as usize
-}
-
 // The bytes of a name.
-pub fn bytes_at(sheet: &[u8], from: u32, len: u8) -> &[u8]
-    requires { ⌜ from + len ≤ length (now sheet) ⌝ }
-    ensures { λ r. ⌜ now r ≡ bytesAt (now (sheet .entry)) from len ⌝ }
+pub fn bytes_at(sheet: &[u8], name: Span) -> &[u8]
+    requires { ⌜ name .from + name .len ≤ length (now sheet) ⌝ }
+    ensures { λ r. ⌜ now r ≡ bytesAt (now (sheet .entry)) name ⌝ }
 {
-    let a = place(from);
-    let e = a + wide(len);
-    &sheet[a..e]
+    let from = name.from;
+    let end = from + name.len;
+    &sheet[from..end]
 }
 
-// Whether a name that may be there is a child's local name. Lengths are compared first.
-pub fn is_name(sheet: &[u8], from: u32, len: u8, local: &[u8]) -> bool
-    requires { ⌜ from + len ≤ length (now sheet) ⌝ }
-    ensures { λ r. ⌜ r ≡ isNamed (nameIn (now (sheet .entry)) from len) (now (local .entry)) ⌝ }
-{
-    if len == 0 {
-        return false;
-    }
-    slices::same(bytes_at(sheet, from, len), local)
-}
-
-// A name, or what is given where there is none: constants such as b"member" are lent by the caller.
+// The bytes of a name, or what is given where there is none: constants such as b"member" are lent by the caller.
 pub fn name_or<'a>(sheet: &'a [u8], name: Span, otherwise: &'a [u8]) -> &'a [u8]
     requires { ⌜ name .from + name .len ≤ length (now sheet) ⌝ }
     ensures { λ r. ⌜ now r ≡ Option·getD (nameOf (now (sheet .entry)) name) (now (otherwise .entry)) ⌝ }
@@ -185,5 +178,5 @@ pub fn name_or<'a>(sheet: &'a [u8], name: Span, otherwise: &'a [u8]) -> &'a [u8]
     if name.len == 0 {
         return otherwise;
     }
-    bytes_at(sheet, name.from, name.len)
+    bytes_at(sheet, name)
 }

@@ -1,13 +1,11 @@
+// Settings: only the maximum depth and the three flags, and what they ask at a shape depth.
 ghost use mathlib.Core.Path.{_≡_};
-ghost use mathlib.Core.Bool.{false};
-ghost use Prim.Native.Nat.{_-_};
-ghost use Rattle.codec.specs.Guard.{entered};
 ghost use Rattle.sheet.specs.Settings.{isStrict, testsRootName, tooDeep};
 ghost use Rattle.codec.specs.Settings.{settingsOf};
+use crate::field::both;
 use crate::guard::enters;
 use sheet::ShapeDepth;
 
-// Only the maximum depth and the three flags.
 pub struct Settings {
     pub max_depth: u32,
     pub validate_document: bool,
@@ -19,20 +17,14 @@ pub struct Settings {
 pub fn is_strict(settings: Settings, depth: ShapeDepth) -> bool
     ensures { λ r. ⌜ r ≡ isStrict (settingsOf settings) depth ⌝ }
 {
-    if settings.validate_document {
-        return depth.0 == 0;
-    }
-    false
+    both(settings.validate_document, depth.0 == 0)
 }
 
 // Whether it tests the root's name.
 pub fn tests_root_name(settings: Settings, depth: ShapeDepth) -> bool
     ensures { λ r. ⌜ r ≡ testsRootName (settingsOf settings) depth ⌝ }
 {
-    if settings.validate_root_name {
-        return depth.0 == 0;
-    }
-    false
+    both(settings.validate_root_name, depth.0 == 0)
 }
 
 // Whether it is refused: at or above the maximum, where no guard is entered.

@@ -1,4 +1,4 @@
-use Rattle.codec.specs.Names.{asked-laws}
+use Rattle.codec.proofs.Collections.{collection-laws}
 use borrow.Author.Needs.{needs}
 use Rattle.codec.proofs.collection.is_value.Statement.{statement}
 use Rattle.codec.proofs.collection.is_value.Tie as tie
@@ -13,7 +13,7 @@ same-requires : tie.Need-same-requires
 same-requires c κs = search needs
 
 returns : tie.Need-returns
-returns c = search asked-laws
+returns c = search collection-laws
 
 pub is-value-spec : {M : Type 1} → statement M
 is-value-spec = tie.close (tie.spec slice-aggregate-name-or name-or-requires same-requires returns)

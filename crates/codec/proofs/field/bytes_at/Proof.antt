@@ -1,16 +1,10 @@
-use Rattle.codec.specs.Names.{bytes-laws}
+use Rattle.codec.proofs.Names.{name-laws}
 use borrow.Author.Needs.{needs}
 use Rattle.codec.proofs.field.bytes_at.Statement.{statement}
 use Rattle.codec.proofs.field.bytes_at.Tie as tie
 
-place-requires : tie.Need-place-requires
-place-requires c κs = search needs
-
-wide-requires : tie.Need-wide-requires
-wide-requires c κs = search needs
-
-add-e : tie.Need-add-e
-add-e c = search needs
+add-end : tie.Need-add-end
+add-end c = search needs
 
 sub-result : tie.Need-sub-result
 sub-result c = search needs
@@ -22,16 +16,7 @@ part-result-end : tie.Need-part-result-end
 part-result-end c = search needs
 
 returns : tie.Need-returns
-returns c = search bytes-laws
+returns c = search name-laws
 
 pub bytes-at-spec : {M : Type 1} → statement M
-bytes-at-spec =
-    tie.close
-    (tie.spec
-    place-requires
-    wide-requires
-    add-e
-    sub-result
-    part-result-start
-    part-result-end
-    returns)
+bytes-at-spec = tie.close (tie.spec add-end sub-result part-result-start part-result-end returns)

@@ -1,19 +1,26 @@
-use Rattle.codec.specs.Field.{field-laws}
+use Rattle.codec.proofs.Names.{name-laws}
 use borrow.Author.Needs.{needs}
 use Rattle.codec.proofs.field.name_if.Statement.{statement}
 use Rattle.codec.proofs.field.name_if.Tie as tie
 
-name-at-requires : tie.Need-name-at-requires
-name-at-requires c κs = search needs
-
 returns : tie.Need-returns
-returns c = search field-laws
+returns c = search name-laws
 
-cast-t5 : tie.Need-cast-t5
-cast-t5 c = search needs
+name-length-requires : tie.Need-name-length-requires
+name-length-requires c κs = search needs
 
 returns-2 : tie.Need-returns-2
-returns-2 c = search field-laws
+returns-2 c = search name-laws
+
+add-from : tie.Need-add-from
+add-from c = search needs
+
+add-t10 : tie.Need-add-t10
+add-t10 c = search needs
+
+returns-3 : tie.Need-returns-3
+returns-3 c = search name-laws
 
 pub name-if-spec : {M : Type 1} → statement M
-name-if-spec = tie.close (tie.spec name-at-requires returns cast-t5 returns-2)
+name-if-spec =
+    tie.close (tie.spec returns name-length-requires returns-2 add-from add-t10 returns-3)
