@@ -1,0 +1,4 @@
+pub mod List
+pub mod StringList
+pub mod Call
+pub mod StringCall

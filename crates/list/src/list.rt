@@ -1,0 +1,145 @@
+// The list reading: each item a piece.
+ghost use Rattle.decode.specs.Reader.{HasRow, Outside, StartIn, DroppedIs};
+ghost use Rattle.decode.specs.View.{Viewed};
+ghost use Rattle.opening.specs.Wanted.{nameIf};
+ghost use Rattle.list.specs.List.{ItemIs, ItemsIs, ListIs};
+ghost use Rattle.opening.specs.Opening.{RootAt};
+ghost use Rattle.list.specs.Call.{WholeIs};
+ghost use Rattle.sheet.specs.Names.{itemName};
+ghost use Rattle.codec.specs.Settings.{settingsOf};
+ghost use Rattle.codec.specs.Collection.{listSaid, ListSaid};
+use codec::collection::ListSheet;
+use codec::settings::Settings;
+use output::Step;
+use output::Written;
+use decode::reader::Cursor;
+use decode::reader::Next;
+use decode::reader::Past;
+use decode::reader::StartRow;
+use decode::view::View;
+use decode::reader::ScopeRow;
+
+// Writes an element as a piece, if it is wanted.
+fn read_item(
+    body: &[u8],
+    rows: &[u32],
+    view: View,
+    named: bool,
+    name: &[u8],
+    start: StartRow,
+    at: Cursor,
+    past: Past,
+    entries: &mut [u32],
+    w: Written,
+) -> Step
+    requires { ⌜ Viewed (now body) (now rows) view ⌝ }
+    requires { ⌜ StartIn (now body) (now rows) (view .count) start ⌝ }
+    requires { ⌜ DroppedIs (now body) (now rows) (view .count) start at past ⌝ }
+    ensures { λ r. ⌜ ItemIs (now (body .entry)) (now (rows .entry)) view (nameIf named (now (name .entry))) start at (now (entries .entry)) w (now (entries .exit)) r ⌝ }
+{
+    let row = start.row;
+    if opening::is_wanted(body, rows, named, name, row) {
+        let piece = decode::piece::piece_of(body, rows, view, start, at, past);
+        return output::write_piece(entries, w, 0, piece.start as u32, piece.len as u32);
+    }
+    Step::Done(w)
+}
+
+// Writes the elements of a scope, from a place on, to the first for which there is no room.
+fn items_from(
+    body: &[u8],
+    rows: &[u32],
+    view: View,
+    named: bool,
+    name: &[u8],
+    scope: ScopeRow,
+    at: Cursor,
+    entries: &mut [u32],
+    w: Written,
+) -> Step
+    requires { ⌜ Viewed (now body) (now rows) view ⌝ }
+    requires { ⌜ HasRow (now rows) scope ⌝ }
+    requires { ⌜ Outside (now body) (now rows) (view .count) (at .depth .0) (at .row) ⌝ }
+    ensures { λ r. ⌜ ItemsIs (now (body .entry)) (now (rows .entry)) view (nameIf named (now (name .entry))) scope at (now (entries .entry)) w (now (entries .exit)) r ⌝ }
+{
+    let mut c = at;
+    let mut held = w;
+    loop {
+        match decode::reader::next_start_element(body, rows, view.count, scope, c) {
+            Next::Gone(_) => {
+                return Step::Done(held);
+            }
+            Next::Found(start, inner) => {
+                let past = decode::reader::drop_element(body, rows, view.count, start, inner);
+                match read_item(
+                    body,
+                    rows,
+                    view,
+                    named,
+                    name,
+                    start,
+                    inner,
+                    past,
+                    entries,
+                    held,
+                ) {
+                    Step::Done(more) => {
+                        held = more;
+                        c = past.at;
+                    }
+                    Step::Refused(why, last) => {
+                        return Step::Refused(why, last);
+                    }
+                }
+            }
+        }
+    }
+}
+
+// Writes the items of an element: its children that are wanted, in order.
+fn read_items(
+    body: &[u8],
+    rows: &[u32],
+    view: View,
+    named: bool,
+    name: &[u8],
+    root: StartRow,
+    at: Cursor,
+    entries: &mut [u32],
+    w: Written,
+) -> Step
+    requires { ⌜ Viewed (now body) (now rows) view ⌝ }
+    requires { ⌜ StartIn (now body) (now rows) (view .count) root ⌝ }
+    requires { ⌜ Outside (now body) (now rows) (view .count) (at .depth .0) (at .row) ⌝ }
+    ensures { λ r. ⌜ ListIs (now (body .entry)) (now (rows .entry)) view (nameIf named (now (name .entry))) root at (now (entries .entry)) w (now (entries .exit)) r ⌝ }
+{
+    if root.closed {
+        return Step::Done(w);
+    }
+    let own = root.depth;
+    let scope = ScopeRow::Element(own, root.row);
+    items_from(body, rows, view, named, name, scope, at, entries, w)
+}
+
+// The list of a root that was found, by its sheet: "10 as met; 9 last".
+pub fn list_at(
+    body: &[u8],
+    rows: &[u32],
+    view: View,
+    root: StartRow,
+    at: Cursor,
+    sheet: &[u8],
+    said: ListSheet,
+    settings: Settings,
+    entries: &mut [u32],
+) -> Step
+    requires { ⌜ RootAt (now body) (now rows) view root at ⌝ }
+    requires { ⌜ ListSaid (now sheet) said ⌝ }
+    ensures { λ r. ⌜ WholeIs (now (body .entry)) (now (rows .entry)) view (itemName (settingsOf settings) (listSaid (now (sheet .entry)))) root at (now (entries .entry)) (now (entries .exit)) r ⌝ }
+{
+    let named = codec::collection::names_items(settings, said);
+    let name = codec::collection::item_name(sheet, said, b"member");
+    let none = Written { count: 0, used: 0 };
+    let got = read_items(body, rows, view, named, name, root, at, entries, none);
+    opening::tested(view.ill_formed, got)
+}
