@@ -27,8 +27,10 @@ pub record SearchAt (body t pattern : List ℕ) (from end k : ℕ) : Type 0 wher
 no-row : (body t pattern : List ℕ) (k : ℕ) → NoMatch body t pattern k k
 no-row body t pattern k = record { none = λ j l h. absurd (omega arith) }
 
-pub search-start : {body t : List ℕ} {n : ℕ} {s : StartRow} (pattern : List ℕ) → StartIn body t n s → SearchAt body t pattern (s .row + 1) (s .end) (s .row + 1)
-search-start {body} {t} {n} {s} pattern w = record { low = omega arith; high = omega (arith, w .low); earlier = no-row body t pattern (s .row + 1) }
+pub search-start : {body t : List ℕ} {n : ℕ} {s : StartRow} (pattern : List ℕ) → StartIn body t n s
+    → SearchAt body t pattern (s .row + 1) (s .end) (s .row + 1)
+search-start {body} {t} {n} {s} pattern w =
+    record { low = omega arith; high = omega (arith, w .low); earlier = no-row body t pattern (s .row + 1) }
 
 module _ {body t pattern : List ℕ} {from end k : ℕ} (w : SearchAt body t pattern from end k) (h : k < end) where
   pub search-in : {n : ℕ} → Sees body t n → end < n → InTable t k
@@ -45,7 +47,8 @@ module _ {body t pattern : List ℕ} (s : StartRow) {k : ℕ} (w : SearchAt body
   pub search-none : s .end ≤ k → AttributeIs body t s pattern Attribute.Nothing
   search-none h = record { is = record { none = λ j l u. w .earlier .none j l (omega arith) }; row = tt }
 
-  pub search-found : {n : ℕ} {r : Bool} → k < s .end → Sees body t n → StartIn body t n s → r ≡ nameMatches (nameAt body t k) pattern → r ≡ true
+  pub search-found : {n : ℕ} {r : Bool} → k < s .end → Sees body t n → StartIn body t n s → r ≡ nameMatches (nameAt body t k) pattern
+      → r ≡ true
       → AttributeIs body t s pattern (Attribute.Row k)
   search-found h q i e g =
       record {
@@ -66,22 +69,28 @@ module _ (body t pattern : List ℕ) (f : List doc.Attribute → Option (List �
   value-none : (k m : ℕ) → NoMatch body t pattern k (k + m) → f (attributesFrom body t k m) ≡ none
   value-none k zero w = end
   value-none k (suc m) w =
-      turn _ (attributesFrom body t (suc k) m) ∙ rw (w .none k (omega arith) (omega arith)) (value-none (suc k) m (record { none = λ j l h. w .none j (omega arith) (omega arith) }))
+      turn _ (attributesFrom body t (suc k) m) ∙ rw (w .none k (omega arith) (omega arith))
+      (value-none (suc k) m (record { none = λ j l h. w .none j (omega arith) (omega arith) }))
 
-  value-first : (i k m : ℕ) → FirstMatch body t pattern k (k + m) i → f (attributesFrom body t k m) ≡ some (bytesOf (unescaped (valueAt body t i)))
+  value-first : (i k m : ℕ) → FirstMatch body t pattern k (k + m) i
+      → f (attributesFrom body t k m) ≡ some (bytesOf (unescaped (valueAt body t i)))
   value-first i k zero w = absurd (omega (arith, w .low, w .high))
   value-first i k (suc m) w = turn _ (attributesFrom body t (suc k) m) ∙ go (eqb i k) refl (value-first i (suc k) m)
     where
-      go : (b : Bool) → eqb i k ≡ b → (FirstMatch body t pattern (suc k) (suc k + m) i → f (attributesFrom body t (suc k) m) ≡ some (bytesOf (unescaped (valueAt body t i))))
-          → pick (nameMatches (nameAt body t k) pattern) (some (bytesOf (unescaped (valueAt body t k)))) (f (attributesFrom body t (suc k) m)) ≡ some (bytesOf (unescaped (valueAt body t i)))
+      go : (b : Bool) → eqb i k ≡ b
+          → (FirstMatch body t pattern (suc k) (suc k + m) i → f (attributesFrom body t (suc k) m) ≡ valueIn body t (Attribute.Row i))
+          → pick (nameMatches (nameAt body t k) pattern) (valueIn body t (Attribute.Row k)) (f (attributesFrom body t (suc k) m))
+          ≡ valueIn body t (Attribute.Row i)
       go true p more = let z = eqb-true i k p in rw (← z, w .asked)
       go false p more =
           let z = eqb-false i k p in
           let l : k < i = omega (arith, w .low) in
+          let later : NoMatch body t pattern (suc k) i = record { none = λ j u h. w .earlier .none j (omega arith) h } in
           rw (w .earlier .none k (omega arith) l)
-          (more (record { low = l; high = omega (arith, w .high); asked = w .asked; earlier = record { none = λ j u h. w .earlier .none j (omega arith) h } }))
+          (more (record { low = l; high = omega (arith, w .high); asked = w .asked; earlier = later }))
 
-  pub attribute-value : {n : ℕ} {s : StartRow} {r : Attribute} → StartIn body t n s → AttributeIs body t s pattern r → valueIn body t r ≡ f (startAt body t s .attributes)
+  pub attribute-value : {n : ℕ} {s : StartRow} {r : Attribute} → StartIn body t n s → AttributeIs body t s pattern r
+      → valueIn body t r ≡ f (startAt body t s .attributes)
   attribute-value {n} {s} {r} i w = go r (w .is)
     where
       e : s .row + 1 + (s .end - (s .row + 1)) ≡ s .end

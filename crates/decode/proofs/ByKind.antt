@@ -19,7 +19,8 @@ pub record Does (kind : ℕ) (u : Tok) : Type 0 where
   -- no close tag: it ends no scope
   pub ends : (kind ≡ 4 → ⊥) → (s : Scope) (d : Depth) → endsAt s d u ≡ false
   -- no start and no text: the first text comes after it, unless it ends the scope
-  pub text : (kind ≡ 1 → ⊥) → (kind ≡ 6 → ⊥) → (s : Scope) (d : Depth) (more : Answer (List ℕ)) → textTurn s d u more ≡ pick (endsAt s d u) (gives []) more
+  pub text : (kind ≡ 1 → ⊥) → (kind ≡ 6 → ⊥) → (s : Scope) (d : Depth) (more : Answer (List ℕ))
+      → textTurn s d u more ≡ pick (endsAt s d u) (gives []) more
   -- no start, outside of start tags: so does the next start element, and it stays outside
   pub seek : (kind ≡ 1 → ⊥) → mayStand u false ≡ true → (s : Scope) (o : StartEl) (d : Depth) (k : ℕ)
       → (turn s o d k u ≡ onClose o (endsAt s (depthAfter u d) u)) × (inTagAfter u false ≡ false)

@@ -5,7 +5,7 @@ use mathlib.Core.Bool.{Bool, true, false}
 use mathlib.Core.List.{List, _∷_}
 use native.Mathlib.Omega.{arith}
 use borrow.Author.Needs.{needs}
-use lib.ListN.{length, getD, take, drop, length-take}
+use lib.ListN.{length, getD, drop, length-take}
 use lib.Seq.{getD-take, getD-drop}
 use Rattle.lists.specs.Parts.{getD-in}
 use Rattle.lists.specs.Find.{Clear, NextAt}
@@ -38,7 +38,8 @@ module _ {body t : List ℕ} {tag k j : ℕ} (at : RepeatAt body t tag k j) (h :
   names-first : namesBack body t tag j ≡ nameAt body t (j - 1) ∷ namesBack body t tag (j - 1)
   names-first = let e : j - (tag + 1) ≡ suc ((j - 1) - (tag + 1)) = omega arith in rw e
 
-  first-seen : seen (nameAt body t k) (namesBack body t tag j) ≡ pick (sameName (nameAt body t k) (nameAt body t (j - 1))) true (seen (nameAt body t k) (namesBack body t tag (j - 1)))
+  first-seen : seen (nameAt body t k) (namesBack body t tag j)
+      ≡ pick (sameName (nameAt body t k) (nameAt body t (j - 1))) true (seen (nameAt body t k) (namesBack body t tag (j - 1)))
   unfolding seen
   first-seen = ap (seen (nameAt body t k)) names-first
 
@@ -49,7 +50,8 @@ module _ {body t : List ℕ} {tag k j : ℕ} (at : RepeatAt body t tag k j) (h :
     pub repeat-no : u ≡ false → RepeatAt body t tag k (j - 1)
     repeat-no q = record { low = omega arith; high = omega (arith, at .high); rest = sym (rw (← e, q) at first-seen) ∙ at .rest }
 
-pub repeat-end : {body t : List ℕ} {tag k j : ℕ} → RepeatAt body t tag k j → j ≤ tag + 1 → false ≡ seen (nameAt body t k) (namesBack body t tag k)
+pub repeat-end : {body t : List ℕ} {tag k j : ℕ} → RepeatAt body t tag k j → j ≤ tag + 1
+    → false ≡ seen (nameAt body t k) (namesBack body t tag k)
 unfolding seen
 repeat-end {body} {t} {tag} {k} {j} at h = let e : j - (tag + 1) ≡ 0 = omega arith in rw (← at .rest, e)
 
@@ -92,7 +94,8 @@ module _ {body t : List ℕ} (q : Readable body t) {k : ℕ} (h : InTable t k) w
   value-start e = omega (arith, q .each k (h .row) .value)
 
 -- a value in it has none
-plain-cut : {body : List ℕ} {low high : ℕ} → Clear body 38 low high → (from len : ℕ) → low ≤ from → from + len ≤ high → (k : ℕ) → getD (cut body from len) k 0 ≡ 38 → ⊥
+plain-cut : {body : List ℕ} {low high : ℕ} → Clear body 38 low high → (from len : ℕ) → low ≤ from → from + len ≤ high → (k : ℕ)
+    → getD (cut body from len) k 0 ≡ 38 → ⊥
 plain-cut {body} x from len l h k e =
     let g : k < len = omega (arith, getD-in (cut body from len) k 37 e, length-take len (drop from body)) in
     x .none (from + k) (omega arith) (omega arith) (sym (getD-take len (drop from body) k 0 g ∙ getD-drop from body k 0) ∙ e)
@@ -100,11 +103,13 @@ plain-cut {body} x from len l h k e =
 pub lies-not : (t : List ℕ) (k low high : ℕ) → LiesIn t k low high false
 lies-not t k low high = record { says = λ e. false-true e }
 
-pub lies : (t : List ℕ) (k : ℕ) {low high from len : ℕ} → from ≡ getD t (k * 8 + 5) 0 → len ≡ getD t (k * 8 + 6) 0 → low ≤ from → from ≤ high → len ≤ high - from
+pub lies : (t : List ℕ) (k : ℕ) {low high from len : ℕ} → from ≡ getD t (k * 8 + 5) 0 → len ≡ getD t (k * 8 + 6) 0 → low ≤ from
+    → from ≤ high → len ≤ high - from
     → LiesIn t k low high true
 lies t k e f l m h = record { says = λ q. (omega arith, omega arith) }
 
-pub value-plain : {body t : List ℕ} {k low high : ℕ} {r : Bool} → Clear body 38 low high → LiesIn t k low high r → r ≡ true → Fault.Nothing ≡ valueFault (valueAt body t k)
+pub value-plain : {body t : List ℕ} {k low high : ℕ} {r : Bool} → Clear body 38 low high → LiesIn t k low high r → r ≡ true
+    → Fault.Nothing ≡ valueFault (valueAt body t k)
 value-plain {body} {t} {k} x i q =
     let h = i .says q in
     let z = plain-valid (valueAt body t k) (plain-cut x (getD t (k * 8 + 5) 0) (getD t (k * 8 + 6) 0) (h .0) (h .1)) in
@@ -114,32 +119,39 @@ pub ruleset plain-laws = (needs, plain-none, plain-next, value-start, lies-not, 
 
 -- ---- the fault of one row
 module _ (body t : List ℕ) (top : Name) (names : List Name) (k : ℕ) {kind : ℕ} (e : kind ≡ getD t (k * 8 + 0) 0) where
-  pub fault-repeated : {u : Bool} → kind ≡ 2 → u ≡ seen (nameAt body t k) names → u ≡ true → Fault.Is Cause.RepeatedAttribute ≡ faultOf top names (tokAt body t k)
+  pub fault-repeated : {u : Bool} → kind ≡ 2 → u ≡ seen (nameAt body t k) names → u ≡ true
+      → Fault.Is Cause.RepeatedAttribute ≡ faultOf top names (tokAt body t k)
   unfolding tokAs
   fault-repeated h q g = rw (← e, h, ← q, g)
 
-  pub fault-value : {u v : Bool} {f : Fault} → kind ≡ 2 → u ≡ seen (nameAt body t k) names → u ≡ false → v ≡ valuePasses (valueAt body t k) → f ≡ faultIf v → f ≡ faultOf top names (tokAt body t k)
+  pub fault-value : {u v : Bool} {f : Fault} → kind ≡ 2 → u ≡ seen (nameAt body t k) names → u ≡ false → v ≡ valuePasses (valueAt body t k)
+      → f ≡ faultIf v → f ≡ faultOf top names (tokAt body t k)
   unfolding tokAs
   fault-value h q g o p = rw (← e, h, ← q, g, ← fault-if (valueAt body t k), ← o) p
 
-  pub fault-plain : {u v : Bool} {low high : ℕ} → kind ≡ 2 → u ≡ seen (nameAt body t k) names → u ≡ false → Clear body 38 low high → LiesIn t k low high v → v ≡ true
+  pub fault-plain : {u v : Bool} {low high : ℕ} → kind ≡ 2 → u ≡ seen (nameAt body t k) names → u ≡ false → Clear body 38 low high
+      → LiesIn t k low high v → v ≡ true
       → Fault.Nothing ≡ faultOf top names (tokAt body t k)
   unfolding tokAs
   fault-plain h q g c l o = rw (← e, h, ← q, g) (value-plain c l o)
 
-  pub fault-matched : {u : Bool} → kind ≡ 4 → u ≡ sameName (nameAt body t k) top → u ≡ true → Fault.Nothing ≡ faultOf top names (tokAt body t k)
+  pub fault-matched : {u : Bool} → kind ≡ 4 → u ≡ sameName (nameAt body t k) top → u ≡ true
+      → Fault.Nothing ≡ faultOf top names (tokAt body t k)
   unfolding tokAs
   fault-matched h q g = rw (← e, h, ← q, g)
 
-  pub fault-mismatched : {u : Bool} → kind ≡ 4 → u ≡ sameName (nameAt body t k) top → u ≡ false → Fault.Is Cause.MismatchedEnd ≡ faultOf top names (tokAt body t k)
+  pub fault-mismatched : {u : Bool} → kind ≡ 4 → u ≡ sameName (nameAt body t k) top → u ≡ false
+      → Fault.Is Cause.MismatchedEnd ≡ faultOf top names (tokAt body t k)
   unfolding tokAs
   fault-mismatched h q g = rw (← e, h, ← q, g)
 
-  pub fault-text : {v : Bool} {f : Fault} → kind ≡ 6 → v ≡ valuePasses (valueAt body t k) → f ≡ faultIf v → f ≡ faultOf top names (tokAt body t k)
+  pub fault-text : {v : Bool} {f : Fault} → kind ≡ 6 → v ≡ valuePasses (valueAt body t k) → f ≡ faultIf v
+      → f ≡ faultOf top names (tokAt body t k)
   unfolding tokAs
   fault-text h o p = rw (← e, h, ← fault-if (valueAt body t k), ← o) p
 
-  pub text-plain : {v : Bool} {low high : ℕ} → kind ≡ 6 → Clear body 38 low high → LiesIn t k low high v → v ≡ true → Fault.Nothing ≡ faultOf top names (tokAt body t k)
+  pub text-plain : {v : Bool} {low high : ℕ} → kind ≡ 6 → Clear body 38 low high → LiesIn t k low high v → v ≡ true
+      → Fault.Nothing ≡ faultOf top names (tokAt body t k)
   unfolding tokAs
   text-plain h c l o = rw (← e, h) (value-plain c l o)
 
@@ -147,11 +159,13 @@ module _ (body t : List ℕ) (top : Name) (names : List Name) (k : ℕ) {kind : 
   unfolding tokAs
   fault-token h = rw (← e, h)
 
-  pub fault-none : {tag : ℕ} → Placed t tag k → (kind ≡ 2 → ⊥) → (kind ≡ 4 → ⊥) → (kind ≡ 6 → ⊥) → (kind ≡ 8 → ⊥) → Fault.Nothing ≡ faultOf top names (tokAt body t k)
+  pub fault-none : {tag : ℕ} → Placed t tag k → (kind ≡ 2 → ⊥) → (kind ≡ 4 → ⊥) → (kind ≡ 6 → ⊥) → (kind ≡ 8 → ⊥)
+      → Fault.Nothing ≡ faultOf top names (tokAt body t k)
   unfolding tokAs
   fault-none p a b c d = rw (← e) (go kind (omega (arith, p .least)) (omega (arith, p .most)) a b c d)
     where
-      go : (i : ℕ) → 1 ≤ i → i ≤ 8 → (i ≡ 2 → ⊥) → (i ≡ 4 → ⊥) → (i ≡ 6 → ⊥) → (i ≡ 8 → ⊥) → Fault.Nothing ≡ faultOf top names (tokAs i (nameAt body t k) (valueAt body t k))
+      go : (i : ℕ) → 1 ≤ i → i ≤ 8 → (i ≡ 2 → ⊥) → (i ≡ 4 → ⊥) → (i ≡ 6 → ⊥) → (i ≡ 8 → ⊥)
+          → Fault.Nothing ≡ faultOf top names (tokAs i (nameAt body t k) (valueAt body t k))
       go zero l m a b c d = absurd (omega arith)
       go (suc zero) l m a b c d = refl
       go (suc (suc zero)) l m a b c d = absurd (a refl)
@@ -166,4 +180,16 @@ module _ (body t : List ℕ) (top : Name) (names : List Name) (k : ℕ) {kind : 
 pub placed-after : {t : List ℕ} {tag k kind : ℕ} → Placed t tag k → kind ≡ getD t (k * 8 + 0) 0 → kind ≡ 2 → tag < k
 placed-after p e h = p .inTag (sym e ∙ h)
 
-pub ruleset fault-laws = (needs, placed-after, fault-repeated, fault-value, fault-plain, fault-matched, fault-mismatched, fault-text, text-plain, fault-token, fault-none)
+pub ruleset fault-laws = (
+  needs,
+  placed-after,
+  fault-repeated,
+  fault-value,
+  fault-plain,
+  fault-matched,
+  fault-mismatched,
+  fault-text,
+  text-plain,
+  fault-token,
+  fault-none,
+)

@@ -18,11 +18,13 @@ use Rattle.document.specs.Names.{named, beforeColon, nameMatches}
 use Rattle.decode.specs.Rows.{InTable, Readable, SpanAt, nameAt}
 
 -- ---- a name and a pattern
-colon-is : (s : List ℕ) (r : ℕ) → r ≤ length s → ((k : ℕ) → k < r → getD s k 0 ≡ 58 → ⊥) → (r < length s → getD s r 0 ≡ 58) → beforeColon s ≡ r
+colon-is : (s : List ℕ) (r : ℕ) → r ≤ length s → ((k : ℕ) → k < r → getD s k 0 ≡ 58 → ⊥) → (r < length s → getD s r 0 ≡ 58)
+    → beforeColon s ≡ r
 unfolding beforeColon
 colon-is [] r h n f = omega arith
 colon-is (b ∷ s) zero h n f = rw (f (omega arith))
-colon-is (b ∷ s) (suc r) h n f = rw (ne-eqb b 58 (n 0 (omega arith))) (ap suc (colon-is s r (omega arith) (λ k l. n (suc k) (omega arith)) (λ l. f (omega arith))))
+colon-is (b ∷ s) (suc r) h n f =
+    rw (ne-eqb b 58 (n 0 (omega arith))) (ap suc (colon-is s r (omega arith) (λ k l. n (suc k) (omega arith)) (λ l. f (omega arith))))
 
 found : {s : List ℕ} {r : ℕ} → NextAt s 58 0 r → beforeColon s ≡ r
 found {s} {r} x = colon-is s r (x .clear .high) (λ k l. x .clear .none k (omega arith) l) (x .found)
@@ -40,7 +42,8 @@ module _ (prefix local pattern : List ℕ) {c : ℕ} (x : NextAt pattern 58 0 c)
     unfolding nameMatches
     match-no e = rw (found x, lt-ltb c (length pattern) short, ← tail (c + 1) pattern, ← k, e)
 
-    pub match-prefix : {t : Bool} → u ≡ true → t ≡ sameb prefix (take (c - 0) (drop 0 pattern)) → t ≡ nameMatches (named prefix local) pattern
+    pub match-prefix : {t : Bool} → u ≡ true → t ≡ sameb prefix (take (c - 0) (drop 0 pattern))
+        → t ≡ nameMatches (named prefix local) pattern
     unfolding nameMatches
     match-prefix e q =
         let z : c - 0 ≡ c = omega arith in
@@ -67,13 +70,15 @@ module _ {body t : List ℕ} {k j : ℕ} (s : SpanAt body t k j) where
   pub span-end : {from len : ℕ} → from ≡ getD t (k * 8 + j) 0 → len ≡ getD t (k * 8 + (j + 1)) 0 → from + len ≤ length body
   span-end e f = omega (arith, s .within)
 
-  pub span-fits : {from len : ℕ} → from ≡ getD t (k * 8 + j) 0 → len ≡ getD t (k * 8 + (j + 1)) 0 → length body < 2 ^ 64 → Fits w64 (from + len)
+  pub span-fits : {from len : ℕ} → from ≡ getD t (k * 8 + j) 0 → len ≡ getD t (k * 8 + (j + 1)) 0 → length body < 2 ^ 64
+      → Fits w64 (from + len)
   span-fits e f g = record { fits = omega (arith, s .within) }
 
 pub ruleset span-laws = (needs, prefix-span, local-span, value-span, span-is, span-end, span-fits)
 
 -- ---- names, from the spans that were cut
-module _ (body t : List ℕ) (i j : ℕ) {x y : List ℕ} {u : Bool} (p : x ≡ nameAt body t i .prefix) (q : y ≡ nameAt body t j .prefix) (e : u ≡ sameb x y) where
+module _ (body t : List ℕ) (i j : ℕ) {x y : List ℕ} {u : Bool} (p : x ≡ nameAt body t i .prefix) (q : y ≡ nameAt body t j .prefix)
+    (e : u ≡ sameb x y) where
   pub name-local : {z w : List ℕ} {v : Bool} → u ≡ true → z ≡ nameAt body t i .local → w ≡ nameAt body t j .local → v ≡ sameb z w
       → v ≡ sameName (nameAt body t i) (nameAt body t j)
   unfolding sameName
@@ -86,7 +91,8 @@ module _ (body t : List ℕ) (i j : ℕ) {x y : List ℕ} {u : Bool} (p : x ≡ 
 pub ruleset name-laws = (needs, prefix-span, local-span, name-local, name-prefix)
 
 -- ---- the name of a row and a pattern
-pub row-matches : (body t pattern : List ℕ) (k : ℕ) {p l : List ℕ} {r : Bool} → p ≡ nameAt body t k .prefix → l ≡ nameAt body t k .local → r ≡ nameMatches (named p l) pattern
+pub row-matches : (body t pattern : List ℕ) (k : ℕ) {p l : List ℕ} {r : Bool} → p ≡ nameAt body t k .prefix → l ≡ nameAt body t k .local
+    → r ≡ nameMatches (named p l) pattern
     → r ≡ nameMatches (nameAt body t k) pattern
 row-matches body t pattern k e f h = rw (← e, ← f) h
 

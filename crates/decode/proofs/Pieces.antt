@@ -23,7 +23,7 @@ use Rattle.decode.specs.Rows.{InTable}
 use Rattle.decode.specs.Reader.{pastAt, RulesAt, Sees, StartIn, DroppedIs}
 use Rattle.decode.specs.View.{viewAt, Viewed}
 use Rattle.decode.specs.Piece.{EndIn, PieceIs}
-use Rattle.decode.proofs.Places.{start-seen}
+use Rattle.decode.proofs.Places.{start-scope}
 use Rattle.decode.proofs.Seen.{take-rows}
 
 -- ---- the end of a piece
@@ -41,7 +41,8 @@ module _ {body t : List ℕ} {v : View} {p : Past} (w : EndIn body t v p) where
   pub end-first : p .ended ≡ true → p .at .row ≡ 0 → 0 ≡ pieceEnd (viewAt t v) (pastAt body t (v .count) p)
   end-first e z = rw (e, taken, z)
 
-  pub end-row : {x : ℕ} → p .ended ≡ true → (p .at .row ≡ 0 → ⊥) → x ≡ getD t ((p .at .row - 1) * 8 + 7) 0 → x ≡ pieceEnd (viewAt t v) (pastAt body t (v .count) p)
+  pub end-row : {x : ℕ} → p .ended ≡ true → (p .at .row ≡ 0 → ⊥) → x ≡ getD t ((p .at .row - 1) * 8 + 7) 0
+      → x ≡ pieceEnd (viewAt t v) (pastAt body t (v .count) p)
   end-row {x} e z q = rw (e, taken) (go (p .at .row) z q)
     where
       go : (k : ℕ) → (k ≡ 0 → ⊥) → x ≡ getD t ((k - 1) * 8 + 7) 0 → x ≡ lastPosition 0 (rowsFrom t 0 k)
@@ -62,7 +63,8 @@ module _ {body t : List ℕ} {v : View} {p : Past} (w : EndIn body t v p) where
   end-low : pieceEnd (viewAt t v) (pastAt body t (v .count) p) ≤ length body
   end-low = go (p .ended) refl (eqb (p .at .row) 0) refl
     where
-      go : (a : Bool) → p .ended ≡ a → (b : Bool) → eqb (p .at .row) 0 ≡ b → pieceEnd (viewAt t v) (pastAt body t (v .count) p) ≤ length body
+      go : (a : Bool) → p .ended ≡ a → (b : Bool) → eqb (p .at .row) 0 ≡ b
+          → pieceEnd (viewAt t v) (pastAt body t (v .count) p) ≤ length body
       go false e b q = rw (← end-out e) (w .viewed .ends)
       go true e true q = rw (← end-first e (eqb-true (p .at .row) 0 q)) (omega arith)
       go true e false q =
@@ -82,7 +84,7 @@ drop-rows t s (suc i) (suc m) h =
 
 module _ {body t : List ℕ} {n : ℕ} {s : StartRow} (q : Sees body t n) (w : StartIn body t n s) where
   pub local-in : {from : ℕ} → from ≡ getD t (s .row * 8 + 3) 0 → from ≤ length body
-  local-in e = omega (arith, q .readable .each (s .row) (start-seen q w .row) .local)
+  local-in e = omega (arith, q .readable .each (s .row) (start-scope q w .row) .local)
 
   pub begins : {from r : ℕ} → from ≡ getD t (s .row * 8 + 3) 0 → LastIn body 0 from r → r ≡ pieceStart body (drop (s .row) (rowsFrom t 0 n))
   begins {from} {r} e l =
@@ -94,7 +96,10 @@ module _ {body t : List ℕ} {n : ℕ} {s : StartRow} (q : Sees body t n) (w : S
       lt o = let x = o .rules .tagBegins (rw (w .starts)) in rw e (x .is, x .before)
 
       here : RulesAt body t (s .row) → r ≡ lastLt body (getD t (s .row * 8 + 3) 0)
-      here o = rw (← e) (⊎-elim (λ z. absurd (l .none z (lastLt body from) (omega arith) (lt o .1) (lt o .0))) (λ h. l .last h) (eq-or-lt-of-le (l .high)))
+      here o =
+          rw (← e)
+          (⊎-elim (λ z. absurd (l .none z (lastLt body from) (omega arith) (lt o .1) (lt o .0))) (λ h. l .last h)
+          (eq-or-lt-of-le (l .high)))
 
   -- it begins in the body
   begins-low : pieceStart body (drop (s .row) (rowsFrom t 0 n)) ≤ length body
@@ -105,11 +110,13 @@ module _ {body t : List ℕ} {n : ℕ} {s : StartRow} (q : Sees body t n) (w : S
       rw y (omega (arith, x .before, local-in refl))
 
 -- ---- the piece
-module _ {body t : List ℕ} {v : View} {s : StartRow} {c : Cursor} {p : Past} (q : Viewed body t v) (w : DroppedIs body t (v .count) s c p) where
+module _ {body t : List ℕ} {v : View} {s : StartRow} {c : Cursor} {p : Past} (q : Viewed body t v)
+    (w : DroppedIs body t (v .count) s c p) where
   pub piece-end : EndIn body t v p
   piece-end = record { viewed = q; high = w .stands .high }
 
-  pub piece-is : {from end len : ℕ} → StartIn body t (v .count) s → from ≡ pieceStart body (drop (s .row) (rowsFrom t 0 (v .count))) → end ≡ pieceEnd (viewAt t v) (pastAt body t (v .count) p) → len ≡ end - from
+  pub piece-is : {from end len : ℕ} → StartIn body t (v .count) s → from ≡ pieceStart body (drop (s .row) (rowsFrom t 0 (v .count)))
+      → end ≡ pieceEnd (viewAt t v) (pastAt body t (v .count) p) → len ≡ end - from
       → PieceIs body t v s c (record { start = from; len = len })
   unfolding pieceOf
   piece-is {from} {end} {len} i e f g =
@@ -117,4 +124,4 @@ module _ {body t : List ℕ} {v : View} {s : StartRow} {c : Cursor} {p : Past} (
       let b : end ≤ length body = rw f (end-low piece-end) in
       record { is = rw (← w .is, ← e, ← f, g); start = a; len = omega arith; inside = omega arith }
 
-pub ruleset piece-laws = (needs, start-seen, local-in, begins, piece-end, piece-is)
+pub ruleset piece-laws = (needs, start-scope, local-in, begins, piece-end, piece-is)

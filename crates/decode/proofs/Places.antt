@@ -1,4 +1,5 @@
--- Laws of places in the rows of a view: the tokens that are left there, and one row on. Laws of the functions on depths and on the end of a scope.
+-- Laws of places in the rows of a view: the tokens that are left there, and one row on. Laws of the functions on depths and on the end of
+-- a scope.
 use Prim.Native.Nat.{ℕ, zero, suc, _+_, _-_, _*_, _≤_, _<_}
 use mathlib.Core.Path.{_≡_, refl, ap}
 use mathlib.Core.Bool.{Bool, true, false}
@@ -7,7 +8,7 @@ use native.Mathlib.Omega.{arith}
 use borrow.Author.Needs.{needs}
 use borrow.Author.Tests.{eq-eqb, ne-eqb}
 use lib.ListN.{getD}
-use Rattle.table.specs.Row.{Name, Tok, tokAs, toksOf}
+use Rattle.table.specs.Row.{Tok, tokAs, toksOf}
 use Rattle.table.specs.Flat.{unroll, rolled-out}
 use Rattle.xml.specs.Drain.{sameName}
 use Rattle.document.specs.declared.Depth.{Depth}
@@ -27,7 +28,8 @@ pub toks-none : (body t : List ℕ) (n k : ℕ) → n ≤ k → toksFrom body t 
 toks-none body t n k h = ap (toksOf body) (rolled-out t k n h)
 
 -- the token of row k, by its kind
-pub tok-is : (body t : List ℕ) (k : ℕ) {kind : ℕ} → kind ≡ getD t (k * 8 + 0) 0 → (c : ℕ) → kind ≡ c → tokAt body t k ≡ tokAs c (nameAt body t k) (valueAt body t k)
+pub tok-is : (body t : List ℕ) (k : ℕ) {kind : ℕ} → kind ≡ getD t (k * 8 + 0) 0 → (c : ℕ) → kind ≡ c
+    → tokAt body t k ≡ tokAs c (nameAt body t k) (valueAt body t k)
 tok-is body t k f c e = rw (← f, e)
 
 -- start tags are in order: the next token may stand there, and those after it are in order
@@ -48,8 +50,8 @@ row-seen q h = record { row = omega (arith, q .rows) }
 pub scope-seen : {body t : List ℕ} {n k : ℕ} {s : ScopeRow} → Sees body t n → HasRow t s → k < n → ScopeIn body t s k
 scope-seen q p h = record { readable = q .readable; row = row-seen q h; scope = p }
 
-pub start-seen : {body t : List ℕ} {n : ℕ} {s : StartRow} → Sees body t n → StartIn body t n s → InTable t (s .row)
-start-seen q i = row-seen q (omega (arith, i .low, i .high))
+pub start-scope : {body t : List ℕ} {n : ℕ} {s : StartRow} → Sees body t n → StartIn body t n s → InTable t (s .row)
+start-scope q i = row-seen q (omega (arith, i .low, i .high))
 
 -- ---- one less
 pub less-zero : (d : ℕ) → d ≡ 0 → 0 ≡ less d
@@ -81,23 +83,27 @@ module _ (kind d : ℕ) where
 pub ruleset depth-laws = (needs, after-close, after-slash, after-other)
 
 -- ---- whether a close tag ends a scope
-pub scope-row : {body t : List ℕ} {s : ScopeRow} {k : ℕ} → ScopeIn body t s k → {own : Depth} {i : ℕ} → s ≡ ScopeRow.Element own i → InTable t i
+pub scope-row : {body t : List ℕ} {s : ScopeRow} {k : ℕ} → ScopeIn body t s k → {own : Depth} {i : ℕ} → s ≡ ScopeRow.Element own i
+    → InTable t i
 scope-row w e = rw e at (w .scope)
 
 module _ (body t : List ℕ) (s : ScopeRow) (d k : ℕ) where
   pub end-document : s ≡ ScopeRow.Document → false ≡ isEnd (scopeAt body t s) (depth d) (nameAt body t k)
   end-document e = rw e
 
-  pub end-name : {own : Depth} {i : ℕ} {r : Bool} → s ≡ ScopeRow.Element own i → d ≡ own .0 → r ≡ sameName (nameAt body t k) (nameAt body t i)
+  pub end-name : {own : Depth} {i : ℕ} {r : Bool} → s ≡ ScopeRow.Element own i → d ≡ own .0
+      → r ≡ sameName (nameAt body t k) (nameAt body t i)
       → r ≡ isEnd (scopeAt body t s) (depth d) (nameAt body t k)
   end-name {own} {i} e q h = rw (e, eq-eqb d (own .0) q) h
 
-  pub end-depth : {own : Depth} {i : ℕ} → s ≡ ScopeRow.Element own i → (d ≡ own .0 → ⊥) → false ≡ isEnd (scopeAt body t s) (depth d) (nameAt body t k)
+  pub end-depth : {own : Depth} {i : ℕ} → s ≡ ScopeRow.Element own i → (d ≡ own .0 → ⊥)
+      → false ≡ isEnd (scopeAt body t s) (depth d) (nameAt body t k)
   end-depth {own} {i} e q = rw (e, ne-eqb d (own .0) q)
 
   -- ---- whether a row does
   module _ {kind : ℕ} (f : kind ≡ getD t (k * 8 + 0) 0) where
-    pub ends-close : {r : Bool} → kind ≡ 4 → r ≡ isEnd (scopeAt body t s) (depth d) (nameAt body t k) → r ≡ endsAt (scopeAt body t s) (depth d) (tokAt body t k)
+    pub ends-close : {r : Bool} → kind ≡ 4 → r ≡ isEnd (scopeAt body t s) (depth d) (nameAt body t k)
+        → r ≡ endsAt (scopeAt body t s) (depth d) (tokAt body t k)
     unfolding tokAs
     ends-close q e = rw (tok-is body t k f 4 q) e
 

@@ -9,6 +9,8 @@ use borrow.Author.Needs.{needs}
 use lib.ListN.{getD}
 use Rattle.table.specs.Row.{Tok}
 use Rattle.document.specs.Reader.{reader, depth, depthAfter, endsAt, StartEl, blank, onClose, takeTurn, turn, next}
+use Rattle.document.specs.Reader as doc
+use Rattle.document.specs.declared.Depth.{Depth}
 use Rattle.document.specs.Scope.{rootOf, onRoot}
 use Rattle.document.specs.Laws.Steps.{next-token, next-end}
 use Rattle.document.specs.Laws.Tags.{inTagAfter}
@@ -16,21 +18,27 @@ use Rattle.decode.specs.declared.reader.ScopeRow.{ScopeRow}
 use Rattle.decode.specs.declared.reader.Past.{Past}
 use Rattle.decode.specs.declared.reader.Next.{Next}
 use Rattle.decode.specs.Rows.{nameAt, valueAt, tokAt}
-use Rattle.decode.specs.Reader.{toksFrom, scopeAt, HasRow, Sees, Outside, Met, GoneIn, StartsAt, overAt, DepthIs, TagIs, NextIs, RootIs}
+use Rattle.decode.specs.Reader.{toksFrom, scopeAt, HasRow, Sees, Outside, Met, GoneIn, StartsAt, overAt, DepthIs, TagIs, NextIs}
+use Rattle.decode.specs.Reader.{RootIs}
 use Rattle.decode.proofs.ByKind.{other}
 use Rattle.decode.proofs.Places.{toks-next, toks-none, tags-next, out-at, row-seen, scope-seen}
+
+-- the definition's answer, from depth d and row k
+abbrev sought : List ℕ → List ℕ → ℕ → ScopeRow → Depth → ℕ → doc.Next
+sought body t n s d k = next (scopeAt body t s) blank d k (toksFrom body t n k)
 
 -- ---- the loop: at depth d and row k, outside of start tags, what is left gives the whole
 pub record SeekAt (body t : List ℕ) (n : ℕ) (s : ScopeRow) (d₀ k₀ d k : ℕ) : Type 0 where
   pub since : k₀ ≤ k
   pub at : Outside body t n d k
-  pub rest : next (scopeAt body t s) blank (depth d) k (toksFrom body t n k) ≡ next (scopeAt body t s) blank (depth d₀) k₀ (toksFrom body t n k₀)
+  pub rest : sought body t n s (depth d) k ≡ sought body t n s (depth d₀) k₀
 
 pub seek-start : {body t : List ℕ} {n d k : ℕ} (s : ScopeRow) → Outside body t n d k → SeekAt body t n s d k d k
 seek-start s w = record { since = omega arith; at = w; rest = refl }
 
 met-later : (body t : List ℕ) (n k j : ℕ) → k ≤ j → (r : Next) → Met body t n j r → Met body t n k r
-met-later body t n k j h (Next.Found s c) m = record { start = m .start; stands = m .stands; since = omega (arith, m .since); past = m .past }
+met-later body t n k j h (Next.Found s c) m =
+    record { start = m .start; stands = m .stands; since = omega (arith, m .since); past = m .past }
 met-later body t n k j h (Next.Gone p) m = record { ended = m .ended; since = omega (arith, m .since) }
 
 gone-out : {body t : List ℕ} {n k d j : ℕ} (ended : Bool) → k ≤ j → Outside body t n d j → GoneIn body t n k (overAt ended j d)
@@ -40,7 +48,11 @@ module _ {body t : List ℕ} {n : ℕ} {s : ScopeRow} {d₀ k₀ d k : ℕ} (w :
   pub seek-done : {p : Past} → n ≤ k → p ≡ overAt false k d → NextIs body t n s d₀ k₀ (Next.Gone p)
   seek-done h q =
       let z = toks-none body t n k h in
-      rw q (record { is = rw z (sym (next-end (scopeAt body t s) blank (depth d) k) ∙ rw z at (w .rest)); met = gone-out false (w .since) (w .at) })
+      rw q
+      (record {
+        is = rw z (sym (next-end (scopeAt body t s) blank (depth d) k) ∙ rw z at (w .rest));
+        met = gone-out false (w .since) (w .at);
+      })
 
   pub seek-found : {r : Next} → TagIs body t n d k r → NextIs body t n s d₀ k₀ r
   seek-found {r} x = record { is = x .is (scopeAt body t s) ∙ w .rest; met = met-later body t n k₀ k (w .since) r (x .met) }
@@ -49,26 +61,35 @@ module _ {body t : List ℕ} {n : ℕ} {s : ScopeRow} {d₀ k₀ d k : ℕ} (w :
     pub seek-tag : Sees body t n → kind ≡ 1 → StartsAt body t n d k
     seek-tag q e = record { sees = q; at = w .at; here = h; starts = sym f ∙ e }
 
-    module _ (a : (kind ≡ 1 → ⊥)) {e : ℕ} (x : DepthIs kind d e) {r : Bool} (g : r ≡ endsAt (scopeAt body t s) (depth e) (tokAt body t k)) where
+    module _ (a : (kind ≡ 1 → ⊥)) {e : ℕ} (x : DepthIs kind d e) {r : Bool}
+        (g : r ≡ endsAt (scopeAt body t s) (depth e) (tokAt body t k)) where
       depth-here : depthAfter (tokAt body t k) (depth d) ≡ depth e
       depth-here = rw (← f) (x .is a (nameAt body t k) (valueAt body t k))
 
       -- what one row does
-      does : (turn (scopeAt body t s) blank (depth d) k (tokAt body t k) ≡ onClose blank (endsAt (scopeAt body t s) (depthAfter (tokAt body t k) (depth d)) (tokAt body t k)))
+      does : (turn (scopeAt body t s) blank (depth d) k (tokAt body t k)
+          ≡ onClose blank (endsAt (scopeAt body t s) (depthAfter (tokAt body t k) (depth d)) (tokAt body t k)))
           × (inTagAfter (tokAt body t k) false ≡ false)
-      does = rw (← f) (other kind (nameAt body t k) (valueAt body t k) .seek a (rw f (tags-next body t n k (w .at .tags) h .0)) (scopeAt body t s) blank (depth d) k)
+      does =
+          let o = other kind (nameAt body t k) (valueAt body t k) in
+          rw (← f) (o .seek a (rw f (tags-next body t n k (w .at .tags) h .0)) (scopeAt body t s) blank (depth d) k)
 
-      turned : takeTurn (onClose blank r) (reader (depth e) (suc k) (toksFrom body t n (suc k))) (λ (o : StartEl). next (scopeAt body t s) o (depth e) (suc k) (toksFrom body t n (suc k)))
-          ≡ next (scopeAt body t s) blank (depth d₀) k₀ (toksFrom body t n k₀)
+      turned : takeTurn (onClose blank r) (reader (depth e) (suc k) (toksFrom body t n (suc k)))
+          (λ (o : StartEl). next (scopeAt body t s) o (depth e) (suc k) (toksFrom body t n (suc k)))
+          ≡ sought body t n s (depth d₀) k₀
       turned =
-          let u = tokAt body t k in
-          let l = toksFrom body t n (suc k) in
+          let e = rw (add-one k) at (toks-next body t n k h) in
           rw (does .0, depth-here, ← g) at
-          (sym (next-token (scopeAt body t s) blank (depth d) k u l)
-          ∙ (ap (λ (l : List Tok). next (scopeAt body t s) blank (depth d) k l) (sym (rw (add-one k) at (toks-next body t n k h))) ∙ w .rest))
+          (sym (next-token (scopeAt body t s) blank (depth d) k (tokAt body t k) (toksFrom body t n (suc k)))
+          ∙ (ap (λ (l : List Tok). next (scopeAt body t s) blank (depth d) k l) (sym e) ∙ w .rest))
 
       outside : Outside body t n e (k + 1)
-      outside = record { high = omega arith; low = omega (arith, w .at .low, x .low); tags = rw (does .1) at (tags-next body t n k (w .at .tags) h .1) }
+      outside =
+          record {
+            high = omega arith;
+            low = omega (arith, w .at .low, x .low);
+            tags = rw (does .1) at (tags-next body t n k (w .at .tags) h .1);
+          }
 
       pub seek-on : r ≡ false → SeekAt body t n s d₀ k₀ e (k + 1)
       seek-on q = record { since = omega (arith, w .since); at = outside; rest = rw (add-one k) (rw q at turned) }

@@ -9,7 +9,7 @@ use borrow.Author.Tests.{leb-true, leb-false}
 use lib.Dec.{leb}
 use lib.ListN.{length, getD, take}
 use Rattle.lists.specs.Tests.{false-true}
-use Rattle.table.specs.Row.{Row, Name, tokAs, toksOf, rowsOf}
+use Rattle.table.specs.Row.{Row, toksOf, rowsOf}
 use Rattle.table.specs.Rules.{Place, RowRules, EachRow}
 use Rattle.table.specs.Test.{first}
 use Rattle.table.specs.Flat.{rowAt, rowsFrom, length-rows, rows-same, rows-whole}
@@ -29,7 +29,8 @@ take-rows t s (suc k) (suc m) h = ap {B = List Row} (λ l. rowAt t s ∷ l) (tak
 pub position-row : (t : List ℕ) (final s k m : ℕ) → k < m → positionAt final (rowsFrom t s m) k ≡ getD t ((s + k) * 8 + 7) 0
 position-row t final s k zero h = absurd (omega arith)
 position-row t final s zero (suc m) h = let z : s + 0 ≡ s = omega arith in rw z
-position-row t final s (suc k) (suc m) h = let z : s + suc k ≡ suc s + k = omega arith in rw z (position-row t final (suc s) k m (omega arith))
+position-row t final s (suc k) (suc m) h =
+    let z : s + suc k ≡ suc s + k = omega arith in rw z (position-row t final (suc s) k m (omega arith))
 
 pub position-past : (t : List ℕ) (final s k m : ℕ) → m ≤ k → positionAt final (rowsFrom t s m) k ≡ final
 position-past t final s k zero h = refl
@@ -52,21 +53,24 @@ module _ (body t : List ℕ) where
       no : isError (tokAt body t s) ≡ true → ⊥
       no q = let z = o .errorLast (other _ _ _ .error (o .knownKind .0) (o .knownKind .1) q) in omega (arith, length-rows t (suc s) (suc m))
 
-  pub error-at : {p : Place} (s m : ℕ) → EachRow body p (rowsFrom t s (suc m)) → isError (tokAt body t (s + m)) ≡ true → errorAt (toksOf body (rowsFrom t s (suc m))) ≡ some m
+  pub error-at : {p : Place} (s m : ℕ) → EachRow body p (rowsFrom t s (suc m)) → isError (tokAt body t (s + m)) ≡ true
+      → errorAt (toksOf body (rowsFrom t s (suc m))) ≡ some m
   unfolding errorAt
   error-at s zero e q = let z : s + 0 ≡ s = omega arith in rw (rw z at q)
   error-at s (suc m) e q =
       let z : s + suc m ≡ suc s + m = omega arith in
       rw (error-early s m e, error-at (suc s) m (first e .1) (rw z at q))
 
-  pub error-none : {p : Place} (s m : ℕ) → EachRow body p (rowsFrom t s (suc m)) → isError (tokAt body t (s + m)) ≡ false → errorAt (toksOf body (rowsFrom t s (suc m))) ≡ none
+  pub error-none : {p : Place} (s m : ℕ) → EachRow body p (rowsFrom t s (suc m)) → isError (tokAt body t (s + m)) ≡ false
+      → errorAt (toksOf body (rowsFrom t s (suc m))) ≡ none
   unfolding errorAt
   error-none s zero e q = let z : s + 0 ≡ s = omega arith in rw (rw z at q)
   error-none s (suc m) e q =
       let z : s + suc m ≡ suc s + m = omega arith in
       rw (error-early s m e, error-none (suc s) m (first e .1) (rw z at q))
 
-  error-last : {p : Place} (m s k : ℕ) → EachRow body p (rowsFrom t s m) → s ≤ k → k < s + m → isError (tokAt body t k) ≡ true → s + m ≤ k + 1
+  error-last : {p : Place} (m s k : ℕ) → EachRow body p (rowsFrom t s m) → s ≤ k → k < s + m → isError (tokAt body t k) ≡ true
+      → s + m ≤ k + 1
   error-last zero s k e l u q = absurd (omega arith)
   error-last (suc zero) s k e l u q = omega arith
   error-last (suc (suc m)) s k e l u q = go (leb (suc s) k) refl (λ h. error-last (suc m) (suc s) k (first e .1) h (omega arith) q)
@@ -87,7 +91,8 @@ module _ (body t : List ℕ) where
       go false z f = let y : s ≡ k = omega (arith, leb-false (suc s) k z) in rw y at here
 
 -- the tokens of the first rows have their tags in order if those of all have
-tags-front : (body t : List ℕ) (n s m : ℕ) {b : Bool} → n ≤ m → Tags b (toksOf body (rowsFrom t s m)) → Tags b (toksOf body (rowsFrom t s n))
+tags-front : (body t : List ℕ) (n s m : ℕ) {b : Bool} → n ≤ m → Tags b (toksOf body (rowsFrom t s m))
+    → Tags b (toksOf body (rowsFrom t s n))
 tags-front body t zero s m h g = no-token
 tags-front body t (suc n) s zero h g = absurd (omega arith)
 tags-front body t (suc n) s (suc m) h (token e g) = token e (tags-front body t n (suc s) m (omega arith) g)
@@ -103,10 +108,12 @@ module _ {body t : List ℕ} (w : Walkable body t) where
         rows = omega (arith, rows-whole t (w .whole));
         readable = w .readable;
         each = λ k l. rules-at body t (length t / 8) 0 k (rw all-rows at (w .each)) (omega arith) (omega arith);
-        last = λ k l e. let z = error-last body t (length t / 8) 0 k (rw all-rows at (w .each)) (omega arith) (omega arith) e in omega arith;
+        last =
+            λ k l e. let z = error-last body t (length t / 8) 0 k (rw all-rows at (w .each)) (omega arith) (omega arith) e in omega arith;
       }
 
   pub outside : (n : ℕ) → n ≤ length t / 8 → Outside body t n 0 0
   outside n h =
       let z : n - 0 ≡ n = omega arith in
-      record { high = omega arith; low = omega arith; tags = rw z (tags-front body t n 0 (length t / 8) h (rows-tags (rw all-rows at (w .each)))) }
+      let g = rows-tags (rw all-rows at (w .each)) in
+      record { high = omega arith; low = omega arith; tags = rw z (tags-front body t n 0 (length t / 8) h g) }

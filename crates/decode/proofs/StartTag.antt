@@ -22,7 +22,8 @@ use Rattle.document.specs.Laws.Tags.{inTagAfter, Tags}
 use Rattle.decode.specs.declared.reader.Past.{Past}
 use Rattle.decode.specs.declared.reader.Next.{Next}
 use Rattle.decode.specs.Rows.{InTable, Readable, nameAt, valueAt, tokAt}
-use Rattle.decode.specs.Reader.{toksFrom, isBytes, bytesOf, attributeAt, attributesFrom, startAt, FoundIn, GoneIn, StartsAt, overAt, foundAt, TagRead, TagEnd, TagIs}
+use Rattle.decode.specs.Reader.{toksFrom, isBytes, bytesOf, attributeAt, attributesFrom, startAt, FoundIn, GoneIn, StartsAt, overAt}
+use Rattle.decode.specs.Reader.{foundAt, TagRead, TagEnd, TagIs}
 use Rattle.decode.proofs.Names.{value-span}
 use Rattle.decode.proofs.ByKind.{other}
 use Rattle.decode.proofs.Places.{toks-next, toks-none, tok-is, tags-next, row-seen}
@@ -34,7 +35,8 @@ isLength (Unescaped.Length m) = true
 isLength Unescaped.BadReference = false
 isLength Unescaped.NoRoom = false
 
-pub unescapes : (v : List ℕ) {x : List ℕ} {r u : Unescaped} {b : Bool} → x ≡ v → r ≡ sizeOf (unescaped x) → r ≡ u → b ≡ isLength u → b ≡ isBytes (unescaped v)
+pub unescapes : (v : List ℕ) {x : List ℕ} {r u : Unescaped} {b : Bool} → x ≡ v → r ≡ sizeOf (unescaped x) → r ≡ u → b ≡ isLength u
+    → b ≡ isBytes (unescaped v)
 unfolding sizeOf
 unescapes v {x} {r} {u} {b} p e q i = rw (i, ← q, e, p) (go (unescaped v))
   where
@@ -54,7 +56,8 @@ not-bytes o m (ref.bad at) e = refl
 
 -- ---- the loop over attributes
 -- one attribute more
-attributes-more : (body t : List ℕ) (k m : ℕ) → attributesFrom body t k (suc m) ≡ attributesFrom body t k m ++ attributeAt body t (k + m) ∷ []
+attributes-more : (body t : List ℕ) (k m : ℕ)
+    → attributesFrom body t k (suc m) ≡ attributesFrom body t k m ++ attributeAt body t (k + m) ∷ []
 attributes-more body t k zero = let z : k + 0 ≡ k = omega arith in rw z
 attributes-more body t k (suc m) =
     let z : k + suc m ≡ suc k + m = omega arith in
@@ -115,7 +118,9 @@ module _ {body t : List ℕ} {n i k : ℕ} (w : TagRead body t n i k) where
               high = omega arith;
               tags = tags-after _ (tok-is body t k f 2 e);
               good = λ j a b. good j a b (eqb j k) refl;
-              rest = λ s d. rw (z, x, add-one k) (rw (bytes-are (unescaped (valueAt body t k)) (sym g ∙ q)) at (turned _ (tok-is body t k f 2 e) s d));
+              rest =
+                  λ s d. rw (z, x, add-one k)
+                  (rw (bytes-are (unescaped (valueAt body t k)) (sym g ∙ q)) at (turned _ (tok-is body t k f 2 e) s d));
             }
           where
             good : (j : ℕ) → i < j → j < k + 1 → (u : Bool) → eqb j k ≡ u → isBytes (unescaped (valueAt body t j)) ≡ true
@@ -132,7 +137,8 @@ pub ruleset attributes-laws = (needs, row-after, start-readable, tag-start, tag-
 
 -- ---- its end
 pub at-any-depth : {body t : List ℕ} {n d i : ℕ} → StartsAt body t n d i → StartsAt body t n 0 i
-at-any-depth o = record { sees = o .sees; at = record { high = o .at .high; low = omega arith; tags = o .at .tags }; here = o .here; starts = o .starts }
+at-any-depth o =
+    record { sees = o .sees; at = record { high = o .at .high; low = omega arith; tags = o .at .tags }; here = o .here; starts = o .starts }
 
 module _ {body t : List ℕ} {n d i k : ℕ} (o : StartsAt body t n d i) (e : TagEnd body t n i k) where
   w : TagRead body t n i k
@@ -142,14 +148,19 @@ module _ {body t : List ℕ} {n d i k : ℕ} (o : StartsAt body t n d i) (e : Ta
   gone-in : (j : ℕ) → k ≤ j → j ≤ n → Tags true (toksFrom body t n j) → GoneIn body t n i (overAt false j (d + 1))
   gone-in j l h g =
       record {
-        ended = record { at = record { high = h; low = omega (arith, o .at .low, w .low); inTag = true; tags = g }; out = λ q. false-true q };
+        ended =
+            record { at = record { high = h; low = omega (arith, o .at .low, w .low); inTag = true; tags = g }; out = λ q. false-true q };
         since = omega (arith, w .low);
       }
 
   pub tag-done : {p : Past} → n ≤ k → p ≡ overAt false k (d + 1) → TagIs body t n d i (Next.Gone p)
   tag-done {p} h q =
       let z = toks-none body t n k h in
-      rw q (record { is = λ s. rw (add-one d, z) (sym (next-end s (soFar w d) (depth (suc d)) k) ∙ rw z at (w .rest s d)); met = gone-in k (omega arith) (w .high) (w .tags) })
+      rw q
+      (record {
+        is = λ s. rw (add-one d, z) (sym (next-end s (soFar w d) (depth (suc d)) k) ∙ rw z at (w .rest s d));
+        met = gone-in k (omega arith) (w .high) (w .tags);
+      })
 
   module _ (h : k < n) where
     pub tag-room : length t < 2 ^ 64 → k + 1 < 2 ^ 64
@@ -171,13 +182,15 @@ module _ {body t : List ℕ} {n d i k : ℕ} (o : StartsAt body t n d i) (e : Ta
       unfolding tokAs
       tag-gt q x =
           let y = tok-is body t k f 3 q in
-          rw x (record { is = λ s. rw (add-one k, add-one d) (turned w h _ y s d); met = found-in false (d + 1) (omega (arith, o .at .low, w .low)) (tags-after w h _ y) })
+          let m = found-in false (d + 1) (omega (arith, o .at .low, w .low)) (tags-after w h _ y) in
+          rw x (record { is = λ s. rw (add-one k, add-one d) (turned w h _ y s d); met = m })
 
       pub tag-slash : {r : Next} → kind ≡ 5 → r ≡ foundAt i k true d d → TagIs body t n d i r
       unfolding tokAs
       tag-slash q x =
           let y = tok-is body t k f 5 q in
-          rw x (record { is = λ s. rw (add-one k) (turned w h _ y s d); met = found-in true d (omega (arith, o .at .low, w .low)) (tags-after w h _ y) })
+          let m = found-in true d (omega (arith, o .at .low, w .low)) (tags-after w h _ y) in
+          rw x (record { is = λ s. rw (add-one k) (turned w h _ y s d); met = m })
 
       -- an attribute that does not unescape
       bad-value : kind ≡ 2 → TagIs body t n d i (Next.Gone (overAt false (k + 1) (d + 1)))
@@ -185,7 +198,10 @@ module _ {body t : List ℕ} {n d i k : ℕ} (o : StartsAt body t n d i) (e : Ta
       bad-value q =
           let y = tok-is body t k f 2 q in
           let x = not-bytes (soFar w d) (nameAt body t k) (unescaped (valueAt body t k)) (e .stops h (sym f ∙ q)) in
-          record { is = λ s. rw (add-one k, add-one d) (rw x at (turned w h _ y s d)); met = gone-in (k + 1) (omega arith) (omega arith) (tags-after w h _ y) }
+          record {
+            is = λ s. rw (add-one k, add-one d) (rw x at (turned w h _ y s d));
+            met = gone-in (k + 1) (omega arith) (omega arith) (tags-after w h _ y);
+          }
 
       -- or a token error
       bad-token : tokAt body t k ≡ bad → TagIs body t n d i (Next.Gone (overAt false (k + 1) (d + 1)))
@@ -202,6 +218,7 @@ module _ {body t : List ℕ} {n d i k : ℕ} (o : StartsAt body t n d i) (e : Ta
           go : (u : Bool) → eqb kind 2 ≡ u → TagIs body t n d i (Next.Gone (overAt false (k + 1) (d + 1)))
           go true x = bad-value (eqb-true kind 2 x)
           go false x =
-              bad-token (rw (← f) (other kind (nameAt body t k) (valueAt body t k) .inside (eqb-false kind 2 x) b c (rw f (tags-next body t n k (w .tags) h .0))))
+              let o = other kind (nameAt body t k) (valueAt body t k) in
+              bad-token (rw (← f) (o .inside (eqb-false kind 2 x) b c (rw f (tags-next body t n k (w .tags) h .0))))
 
 pub ruleset tag-laws = (needs, row-after, at-any-depth, tag-room, tag-done, tag-gt, tag-slash, tag-over)

@@ -21,9 +21,9 @@ use Rattle.decode.specs.declared.text.Text.{Text}
 use Rattle.decode.specs.Rows.{nameAt, valueAt, tokAt}
 use Rattle.decode.specs.Reader.{toksFrom, scopeAt, childAt, Sees, DepthIs}
 use Rattle.decode.specs.View.{failureAt}
-use Rattle.decode.specs.Text.{textAt, TextIn, endText, TextIs}
+use Rattle.decode.specs.Text.{endText, firstFrom, TextIs}
 use Rattle.decode.proofs.ByKind.{other}
-use Rattle.decode.proofs.Places.{toks-next, toks-none, tok-is, row-seen, scope-seen, start-seen}
+use Rattle.decode.proofs.Places.{toks-next, toks-none, tok-is, row-seen, scope-seen, start-scope}
 
 -- ---- where the rows run out
 pub end-nothing : (f : Failure) → f ≡ Failure.Nothing → Text.Empty ≡ endText f
@@ -40,27 +40,28 @@ end-text body t (Failure.Is r) = record { same = refl; row = tt }
 
 -- ---- the loop: at depth d and row k what is left gives the whole
 pub record TextFrom (body t : List ℕ) (n : ℕ) (f : Failure) (s : ScopeRow) (d₀ k₀ d k : ℕ) : Type 0 where
-  pub rest : firstText (failureAt f) (scopeAt body t s) (depth d) (toksFrom body t n k) ≡ firstText (failureAt f) (scopeAt body t s) (depth d₀) (toksFrom body t n k₀)
+  pub rest : firstFrom body t n f s (depth d) k ≡ firstFrom body t n f s (depth d₀) k₀
 
 pub text-start : (body t : List ℕ) (n : ℕ) (f : Failure) (s : ScopeRow) (d k : ℕ) → TextFrom body t n f s d k d k
 text-start body t n f s d k = record { rest = refl }
 
 module _ {body t : List ℕ} {n : ℕ} {f : Failure} {s : ScopeRow} {d₀ k₀ d k : ℕ} (w : TextFrom body t n f s d₀ k₀ d k) where
   abbrev answer : Answer (List ℕ)
-  answer = firstText (failureAt f) (scopeAt body t s) (depth d₀) (toksFrom body t n k₀)
+  answer = firstFrom body t n f s (depth d₀) k₀
 
   pub text-done : {r : Text} → n ≤ k → r ≡ endText f → TextIs body t r answer
   text-done {r} h e =
-      let z : answer ≡ atEnd (failureAt f) = sym (w .rest) ∙ rw (toks-none body t n k h) (first-text-end (failureAt f) (scopeAt body t s) (depth d)) in
+      let x = first-text-end (failureAt f) (scopeAt body t s) (depth d) in
+      let z : answer ≡ atEnd (failureAt f) = sym (w .rest) ∙ rw (toks-none body t n k h) x in
       rw (e, z) (end-text body t f)
 
   module _ (h : k < n) {kind : ℕ} (g : kind ≡ getD t (k * 8 + 0) 0) where
     -- what one row does
     turned : (u : Tok) → tokAt body t k ≡ u
-        → textTurn (scopeAt body t s) (depthAfter u (depth d)) u (firstText (failureAt f) (scopeAt body t s) (depthAfter u (depth d)) (toksFrom body t n (suc k))) ≡ answer
+        → textTurn (scopeAt body t s) (depthAfter u (depth d)) u (firstFrom body t n f s (depthAfter u (depth d)) (suc k)) ≡ answer
     turned u e =
         sym (first-text-token (failureAt f) (scopeAt body t s) (depth d) u (toksFrom body t n (suc k)))
-        ∙ (ap (λ (l : List Tok). firstText (failureAt f) (scopeAt body t s) (depth d) l) (sym (rw (e, add-one k) at (toks-next body t n k h))) ∙ w .rest)
+        ∙ (ap (firstText (failureAt f) (scopeAt body t s) (depth d)) (sym (rw (e, add-one k) at (toks-next body t n k h))) ∙ w .rest)
 
     pub text-element : kind ≡ 1 → TextIs body t (Text.Refused Refusal.ElementInText) answer
     unfolding tokAs
@@ -70,16 +71,18 @@ module _ {body t : List ℕ} {n : ℕ} {f : Failure} {s : ScopeRow} {d₀ k₀ d
     unfolding tokAs
     text-row q e = record { same = turned _ (tok-is body t k g 6 e); row = row-seen q h }
 
-    module _ (a : (kind ≡ 6 → ⊥)) (b : (kind ≡ 1 → ⊥)) {e : ℕ} (x : DepthIs kind d e) {r : Bool} (i : r ≡ endsAt (scopeAt body t s) (depth e) (tokAt body t k)) where
-      passed : pick r (gives []) (firstText (failureAt f) (scopeAt body t s) (depth e) (toksFrom body t n (suc k))) ≡ answer
+    module _ (a : (kind ≡ 6 → ⊥)) (b : (kind ≡ 1 → ⊥)) {e : ℕ} (x : DepthIs kind d e) {r : Bool}
+        (i : r ≡ endsAt (scopeAt body t s) (depth e) (tokAt body t k)) where
+      passed : pick r (gives []) (firstFrom body t n f s (depth e) (suc k)) ≡ answer
       passed =
           let m = nameAt body t k in
           let v = valueAt body t k in
           let y : depthAfter (tokAt body t k) (depth d) ≡ depth e = rw (← g) (x .is b m v) in
-          let more = firstText (failureAt f) (scopeAt body t s) (depth e) (toksFrom body t n (suc k)) in
-          let z : textTurn (scopeAt body t s) (depth e) (tokAt body t k) more ≡ pick (endsAt (scopeAt body t s) (depth e) (tokAt body t k)) (gives []) more
+          let more = firstFrom body t n f s (depth e) (suc k) in
+          let u = tokAt body t k in
+          let z : textTurn (scopeAt body t s) (depth e) u more ≡ pick (endsAt (scopeAt body t s) (depth e) u) (gives []) more
           = rw (← g) (other kind m v .text b a (scopeAt body t s) (depth e) more) in
-          rw i (sym z ∙ rw y at (turned (tokAt body t k) refl))
+          rw i (sym z ∙ rw y at (turned u refl))
 
       pub text-on : r ≡ false → TextFrom body t n f s d₀ k₀ e (k + 1)
       text-on q = record { rest = rw (add-one k) (rw q at passed) }
@@ -96,9 +99,9 @@ module _ (body t : List ℕ) (n : ℕ) (f : Failure) (s : StartRow) (c : Cursor)
   text-closed e = record { same = rw e; row = tt }
 
   pub text-inside : {r : Text} → s .closed ≡ false
-      → TextIs body t r (firstText (failureAt f) (scopeAt body t (ScopeRow.Element (s .depth) (s .row))) (depth (c .depth .0)) (toksFrom body t n (c .row)))
+      → TextIs body t r (firstFrom body t n f (ScopeRow.Element (s .depth) (s .row)) (depth (c .depth .0)) (c .row))
       → TextIs body t r (textOf (failureAt f) (childAt body t n s c))
   unfolding textOf
   text-inside e x = record { same = rw e (x .same); row = x .row }
 
-pub ruleset element-text-laws = (needs, text-closed, text-inside, start-seen)
+pub ruleset element-text-laws = (needs, text-closed, text-inside, start-scope)

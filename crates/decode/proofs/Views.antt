@@ -2,7 +2,7 @@
 use Prim.Native.Nat.{ℕ, zero, suc, _+_, _-_, _*_, _/_, _≤_, _<_}
 use mathlib.Core.Path.{_≡_, refl, sym, _∙_, ap}
 use mathlib.Core.Bool.{Bool, true, false}
-use mathlib.Core.List.{List, [], _∷_}
+use mathlib.Core.List.{List, _∷_}
 use native.Mathlib.Omega.{arith}
 use borrow.Author.Needs.{needs}
 use borrow.Author.Tests.{ltb-true, ltb-false}
@@ -26,7 +26,8 @@ use Rattle.decode.specs.Drain.{Walkable}
 use Rattle.decode.specs.View.{wholeAt, Viewed, ViewIs}
 use Rattle.decode.proofs.ByKind.{other}
 use Rattle.decode.proofs.Walking.{walkable, length-toks}
-use Rattle.decode.proofs.Seen.{take-rows, position-row, position-past, is-error, rules-at, error-at, error-none, all-rows, sees, outside}
+use Rattle.decode.proofs.Seen.{take-rows, position-row, position-past, is-error, rules-at, error-at, error-none, all-rows, sees}
+use Rattle.decode.proofs.Seen.{outside}
 
 -- the position of a row, or the final one
 module _ {body t : List ℕ} (w : Walkable body t) (final k : ℕ) where
@@ -40,7 +41,9 @@ module _ {body t : List ℕ} (w : Walkable body t) (final k : ℕ) where
   position-low l = go (ltb k (length t / 8)) refl
     where
       go : (b : Bool) → ltb k (length t / 8) ≡ b → positionAt final (rowsOf t) k ≤ length body
-      go true q = let h = ltb-true k (length t / 8) q in rw (← position-in h refl) (w .readable .each k (omega (arith, rows-whole t (w .whole))) .position)
+      go true q =
+          let h = ltb-true k (length t / 8) q in rw (← position-in h refl)
+          (w .readable .each k (omega (arith, rows-whole t (w .whole))) .position)
       go false q = rw (← position-out (ltb-false k (length t / 8) q)) l
 
 pub row-in : {body t : List ℕ} {k : ℕ} → Walkable body t → k < length t / 8 → InTable t k
@@ -59,7 +62,8 @@ module _ {body t : List ℕ} {final : ℕ} (o : TableRules body t final) where
       record { sees = sees w (v .count) h; ends = l; small = o .rules .fewBytes; few = omega (arith, o .rules .fewRows) }
 
   whole-is : ViewIs body t (wholeAt t final) (doc.whole (rowsOf t) final)
-  whole-is = record { same = rw (all-rows w); viewed = viewed (omega arith) (o .rules .within); fresh = outside w (length t / 8) (omega arith) }
+  whole-is =
+      record { same = rw (all-rows w); viewed = viewed (omega arith) (o .rules .within); fresh = outside w (length t / 8) (omega arith) }
 
   module _ {r : Drained} (e : r ≡ walked (toksOf body (rowsOf t))) where
     -- what is seen of all rows, where the drain passes; a walk never says `Table`
@@ -81,7 +85,8 @@ module _ {body t : List ℕ} {final : ℕ} (o : TableRules body t final) where
         go (at-row a x b s l f g) = omega (arith, size, ap length s, length-append a (x ∷ b))
         go (at-end l d f g) = omega (arith, size)
 
-    pub view-ill : {k : ℕ} {c : Cause} {f : Refusal} {p : ℕ} → r ≡ Drained.IllFormed k c → f ≡ failureOf c → p ≡ positionAt final (rowsOf t) k
+    pub view-ill : {k : ℕ} {c : Cause} {f : Refusal} {p : ℕ} → r ≡ Drained.IllFormed k c → f ≡ failureOf c
+        → p ≡ positionAt final (rowsOf t) k
         → ViewIs body t (record { count = k; failure = Failure.Is f; «ill_formed» = true; ends = p }) (view true body (rowsOf t) final)
     unfolding view
     view-ill {k} {c} {f} {p} q i j =
@@ -109,7 +114,8 @@ module _ {body t : List ℕ} {final : ℕ} (o : TableRules body t final) where
     rows-are = all-rows w ∙ ap (rowsFrom t 0) count
 
     pub lenient-error : kind ≡ 8
-        → ViewIs body t (record { count = length t / 8 - 1; failure = Failure.Is Refusal.TokenError; «ill_formed» = false; ends = final }) (view false body (rowsOf t) final)
+        → ViewIs body t (record { count = length t / 8 - 1; failure = Failure.Is Refusal.TokenError; «ill_formed» = false; ends = final })
+        (view false body (rowsOf t) final)
     unfolding view tokAs
     lenient-error q =
         let m = length t / 8 - 1 in
@@ -131,7 +137,8 @@ module _ {body t : List ℕ} {final : ℕ} (o : TableRules body t final) where
       where
         kind-is : isError (tokAt body t (length t / 8 - 1)) ≡ true → kind ≡ 8
         kind-is z =
-            let r = rules-at body t (length t / 8) 0 (length t / 8 - 1) (rw (all-rows w) at (w .each)) (omega arith) (omega (arith, count)) in
+            let r = rules-at body t (length t / 8) 0 (length t / 8 - 1) (rw (all-rows w) at (w .each)) (omega arith)
+            (omega (arith, count)) in
             f ∙ other _ _ _ .error (r .rules .knownKind .0) (r .rules .knownKind .1) z
 
 module _ {body t : List ℕ} {v : View} (strict : Bool) (rows : List Row) (final : ℕ) where

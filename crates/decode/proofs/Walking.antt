@@ -1,6 +1,7 @@
--- Laws of the walk of the drain over the rows of a flat table: the open names are kept as row numbers, and the attribute names of a start tag are
+-- Laws of the walk of the drain over the rows of a flat table: the open names are kept as row numbers, and the attribute names of a start
+-- tag are
 -- looked up in its rows.
-use Prim.Native.Nat.{ℕ, zero, suc, _+_, _-_, _*_, _/_, _%_, _≤_, _<_}
+use Prim.Native.Nat.{ℕ, zero, suc, _+_, _-_, _*_, _/_, _≤_, _<_}
 use mathlib.Core.Path.{_≡_, refl, sym, _∙_, ap}
 use mathlib.Core.Bool.{Bool, true, false}
 use mathlib.Core.List.{List, [], _∷_}
@@ -22,7 +23,8 @@ use Rattle.table.specs.Rules.{among, Place, atFirst, after, RowRules, EachRow, 
 use Rattle.table.specs.Test.{decTable, first}
 use Rattle.table.specs.Pass.{obeyed}
 use Rattle.table.specs.Flat.{rowAt, rowsFrom, length-rows, rows-same, rows-whole, unroll, rolled-out, spans-in}
-use Rattle.xml.specs.Drain.{sameName, seen, drainedBy, drained, State, going, failed, withValue, withAttribute, popped, step, walk, verdict, walked}
+use Rattle.xml.specs.Drain.{sameName, seen, drainedBy, drained, State, going, failed, withValue, withAttribute, popped, step, walk, verdict}
+use Rattle.xml.specs.Drain.{walked}
 use Rattle.xml.specs.Passed.{openAfter, namesAfter}
 use Rattle.xml.specs.declared.Cause.{Cause}
 use Rattle.xml.specs.declared.Drained.{Drained}
@@ -51,10 +53,12 @@ stack-set body t opened zero i x h = refl
 stack-set body t opened (suc d) i x h =
     rw (getD-set-other opened i d x 0 (λ e. omega arith), stack-set body t opened d i x (omega arith))
 
-stored-stack : (body t opened : List ℕ) (d x : ℕ) → d < length opened → stackOf body t (set opened d x) (d + 1) ≡ nameAt body t x ∷ stackOf body t opened d
+stored-stack : (body t opened : List ℕ) (d x : ℕ) → d < length opened
+    → stackOf body t (set opened d x) (d + 1) ≡ nameAt body t x ∷ stackOf body t opened d
 stored-stack body t opened d x h = rw (add-one d, stack-set body t opened d d x (omega arith), getD-set-same opened d x 0)
 
-stored-in : (opened : List ℕ) (d x : ℕ) → d < length opened → ((i : ℕ) → i < d → getD opened i 0 < x) → (i : ℕ) → i < d + 1 → getD (set opened d x) i 0 < x + 1
+stored-in : (opened : List ℕ) (d x : ℕ) → d < length opened → ((i : ℕ) → i < d → getD opened i 0 < x) → (i : ℕ) → i < d + 1
+    → getD (set opened d x) i 0 < x + 1
 stored-in opened d x h f i l = go (eqb i d) refl
   where
     below : (i d : ℕ) → i < d + 1 → (i ≡ d → ⊥) → i < d
@@ -99,7 +103,8 @@ value-failed v k st {c} = go (validated v)
     go Validated.BadReference e = let q : Cause.BadReference ≡ c = cc in rw q
 
 -- a token without a fault goes on
-step-going : (k : ℕ) (top : Name) (s a : List Name) (t : Tok) → Topped top s t → faultOf top a t ≡ Fault.Nothing → step k s a t ≡ going (openAfter s t) (namesAfter a t)
+step-going : (k : ℕ) (top : Name) (s a : List Name) (t : Tok) → Topped top s t → faultOf top a t ≡ Fault.Nothing
+    → step k s a t ≡ going (openAfter s t) (namesAfter a t)
 unfolding Topped
 step-going k top s a (start n) h e = refl
 step-going k top s a (attr m v) h e = go (seen m a) e
@@ -111,7 +116,8 @@ step-going k top s a (attr m v) h e = go (seen m a) e
 step-going k top s a gt h e = refl
 step-going k top s a (close m) h e = rw (h .1) (go (sameName m top) e)
   where
-    go : (u : Bool) → pick u Fault.Nothing (Fault.Is Cause.MismatchedEnd) ≡ Fault.Nothing → pick u (going (h .0) a) (failed k Cause.MismatchedEnd) ≡ going (h .0) a
+    go : (u : Bool) → pick u Fault.Nothing (Fault.Is Cause.MismatchedEnd) ≡ Fault.Nothing
+        → pick u (going (h .0) a) (failed k Cause.MismatchedEnd) ≡ going (h .0) a
     go true e = refl
     go false e = no-fault e
 step-going k top [] a slash h e = refl
@@ -121,7 +127,8 @@ step-going k top s a misc h e = refl
 step-going k top s a bad h e = no-fault e
 
 -- and one with a fault fails
-step-failed : (k : ℕ) (top : Name) (s a : List Name) (t : Tok) {c : Cause} → Topped top s t → faultOf top a t ≡ Fault.Is c → step k s a t ≡ failed k c
+step-failed : (k : ℕ) (top : Name) (s a : List Name) (t : Tok) {c : Cause} → Topped top s t → faultOf top a t ≡ Fault.Is c
+    → step k s a t ≡ failed k c
 unfolding Topped
 step-failed k top s a (start n) h e = is-fault e
 step-failed k top s a (attr m v) {c} h e = go (seen m a) e
@@ -133,7 +140,8 @@ step-failed k top s a (attr m v) {c} h e = go (seen m a) e
 step-failed k top s a gt h e = is-fault e
 step-failed k top s a (close m) {c} h e = rw (h .1) (go (sameName m top) e)
   where
-    go : (u : Bool) → pick u Fault.Nothing (Fault.Is Cause.MismatchedEnd) ≡ Fault.Is c → pick u (going (h .0) a) (failed k Cause.MismatchedEnd) ≡ failed k c
+    go : (u : Bool) → pick u Fault.Nothing (Fault.Is Cause.MismatchedEnd) ≡ Fault.Is c
+        → pick u (going (h .0) a) (failed k Cause.MismatchedEnd) ≡ failed k c
     go true e = is-fault e
     go false e = let q : Cause.MismatchedEnd ≡ c = cc in rw q
 step-failed k top s a slash h e = is-fault e
@@ -156,7 +164,8 @@ module _ {body : List ℕ} {p : Place} {r : Row} {rest : List Row} (o : RowRules
       go true h = h
       go false h = false-true (sym (o .tagOrder .outside h) ∙ e)
 
-fault-names : (top : Name) (a b : List Name) (kind : ℕ) (n : Name) (v : List ℕ) → (kind ≡ 2 → a ≡ b) → faultOf top a (tokAs kind n v) ≡ faultOf top b (tokAs kind n v)
+fault-names : (top : Name) (a b : List Name) (kind : ℕ) (n : Name) (v : List ℕ) → (kind ≡ 2 → a ≡ b)
+    → faultOf top a (tokAs kind n v) ≡ faultOf top b (tokAs kind n v)
 unfolding tokAs
 fault-names top a b zero n v h = refl
 fault-names top a b (suc zero) n v h = refl
@@ -168,7 +177,8 @@ fault-names top a b (suc (suc (suc (suc (suc (suc zero)))))) n v h = refl
 fault-names top a b (suc (suc (suc (suc (suc (suc (suc zero))))))) n v h = refl
 fault-names top a b (suc (suc (suc (suc (suc (suc (suc (suc k)))))))) n v h = refl
 
-topped : (top : Name) (s : List Name) (kind : ℕ) (n : Name) (v : List ℕ) → (kind ≡ 4 → (l : List Name) × (s ≡ top ∷ l)) → Topped top s (tokAs kind n v)
+topped : (top : Name) (s : List Name) (kind : ℕ) (n : Name) (v : List ℕ) → (kind ≡ 4 → (l : List Name) × (s ≡ top ∷ l))
+    → Topped top s (tokAs kind n v)
 unfolding tokAs Topped
 topped top s zero n v h = tt
 topped top s (suc zero) n v h = tt
@@ -194,7 +204,8 @@ pub record WalkAt (body t : List ℕ) (n : ℕ) (opened : List ℕ) (depth tag k
   pub tagOpen : place .inTag ≡ true → 0 < depth
   pub tagRow : place .inTag ≡ true → tag < k
   pub tagNames : place .inTag ≡ true → names ≡ namesBack body t tag k
-  pub rest : walk k (going (stackOf body t opened depth) names) (toksOf body (rowsFrom t k (n - k))) ≡ walk 0 (going [] []) (toksOf body (rowsOf t))
+  pub rest : walk k (going (stackOf body t opened depth) names) (toksOf body (rowsFrom t k (n - k)))
+      ≡ walk 0 (going [] []) (toksOf body (rowsOf t))
 
 pub walk-start : {body t : List ℕ} (opened : List ℕ) → Walkable body t → length opened ≡ 256 → WalkAt body t (length t / 8) opened 0 0 0
 walk-start {body} {t} opened w s =
@@ -220,9 +231,6 @@ walk-start {body} {t} opened w s =
 module _ {body t : List ℕ} {n : ℕ} {opened : List ℕ} {depth tag k : ℕ} (w : WalkAt body t n opened depth tag k) (h : k < n) where
   pub row-in : InTable t k
   row-in = record { row = omega (arith, w .count) }
-
-  later : List Row
-  later = rowsFrom t (k + 1) (n - (k + 1))
 
   here : RowRules body (w .place) (rowAt t k) (rowsFrom t (k + 1) (n - (k + 1)))
   here = first (rw (unroll t k n h) at (w .each)) .0
@@ -251,24 +259,30 @@ module _ {body t : List ℕ} {n : ℕ} {opened : List ℕ} {depth tag k : ℕ} (
   unfolding walk
   stepped =
       rw (add-one k)
-      (sym (ap (λ (l : List Row). walk k (going (stackOf body t opened depth) (w .names)) (toksOf body l)) (rw (add-one k) at (unroll t k n h))) ∙ w .rest)
+      (sym
+      (ap (λ (l : List Row). walk k (going (stackOf body t opened depth) (w .names)) (toksOf body l)) (rw (add-one k) at (unroll t k n h)))
+      ∙ w .rest)
 
   -- the innermost open name, where a close tag stands
-  at-close : {top : ℕ} → top ≡ topOf opened depth → getD t (k * 8 + 0) 0 ≡ 4 → (l : List Name) × (stackOf body t opened depth ≡ nameAt body t top ∷ l)
+  at-close : {top : ℕ} → top ≡ topOf opened depth → getD t (k * 8 + 0) 0 ≡ 4
+      → (l : List Name) × (stackOf body t opened depth ≡ nameAt body t top ∷ l)
   at-close {top} e q = go depth (omega (arith, w .deep, here .needsOpen (rw q))) e
     where
       go : (d : ℕ) → 0 < d → top ≡ topOf opened d → (l : List Name) × (stackOf body t opened d ≡ nameAt body t top ∷ l)
       go zero g e = absurd (omega arith)
       go (suc d) g e = (stackOf body t opened d, rw e)
 
-  module _ {top : ℕ} {r : Fault} (e : top ≡ topOf opened depth) (q : r ≡ faultOf (nameAt body t top) (namesBack body t tag k) (tokAt body t k)) where
+  module _ {top : ℕ} {r : Fault} (e : top ≡ topOf opened depth)
+      (q : r ≡ faultOf (nameAt body t top) (namesBack body t tag k) (tokAt body t k)) where
     fault-is : faultOf (nameAt body t top) (w .names) (tokAt body t k) ≡ r
     fault-is =
-        fault-names (nameAt body t top) (w .names) (namesBack body t tag k) (getD t (k * 8 + 0) 0) (nameAt body t k) (valueAt body t k) (λ g. w .tagNames (in-tag here (rw g)))
+        fault-names (nameAt body t top) (w .names) (namesBack body t tag k) (getD t (k * 8 + 0) 0) (nameAt body t k) (valueAt body t k)
+        (λ g. w .tagNames (in-tag here (rw g)))
         ∙ sym q
 
     toppedHere : Topped (nameAt body t top) (stackOf body t opened depth) (tokAt body t k)
-    toppedHere = topped (nameAt body t top) (stackOf body t opened depth) (getD t (k * 8 + 0) 0) (nameAt body t k) (valueAt body t k) (at-close e)
+    toppedHere =
+        topped (nameAt body t top) (stackOf body t opened depth) (getD t (k * 8 + 0) 0) (nameAt body t k) (valueAt body t k) (at-close e)
 
     pub walk-fault : {c : Cause} → r ≡ Fault.Is c → Drained.IllFormed k c ≡ walked (toksOf body (rowsOf t))
     unfolding walked
@@ -278,9 +292,11 @@ module _ {body t : List ℕ} {n : ℕ} {opened : List ℕ} {depth tag k : ℕ} (
 
     -- without a fault it goes on
     goes : r ≡ Fault.Nothing
-        → walk (k + 1) (going (openAfter (stackOf body t opened depth) (tokAt body t k)) (namesAfter (w .names) (tokAt body t k))) (toksOf body (rowsFrom t (k + 1) (n - (k + 1))))
+        → walk (k + 1) (going (openAfter (stackOf body t opened depth) (tokAt body t k)) (namesAfter (w .names) (tokAt body t k)))
+        (toksOf body (rowsFrom t (k + 1) (n - (k + 1))))
         ≡ walk 0 (going [] []) (toksOf body (rowsOf t))
-    goes g = rw (step-going k (nameAt body t top) (stackOf body t opened depth) (w .names) (tokAt body t k) toppedHere (fault-is ∙ g)) at stepped
+    goes g =
+        rw (step-going k (nameAt body t top) (stackOf body t opened depth) (w .names) (tokAt body t k) toppedHere (fault-is ∙ g)) at stepped
 
     module _ {kind : ℕ} (f : kind ≡ getD t (k * 8 + 0) 0) (g : r ≡ Fault.Nothing) where
       -- a start row opens an element
@@ -308,7 +324,8 @@ module _ {body t : List ℕ} {n : ℕ} {opened : List ℕ} {depth tag k : ℕ} (
       -- the element is closed: by kind 4 or 5
       closed-walk : (c : ℕ) → getD t (k * 8 + 0) 0 ≡ c → 0 < depth
           → (after (w .place) (rowAt t k)) .opened ≡ depth - 1 → ((after (w .place) (rowAt t k)) .inTag ≡ true → ⊥)
-          → openAfter (stackOf body t opened depth) (tokAt body t k) ≡ stackOf body t opened (depth - 1) → namesAfter (w .names) (tokAt body t k) ≡ w .names
+          → openAfter (stackOf body t opened depth) (tokAt body t k) ≡ stackOf body t opened (depth - 1)
+          → namesAfter (w .names) (tokAt body t k) ≡ w .names
           → WalkAt body t n opened (depth - 1) tag (k + 1)
       closed-walk c i d a b u v =
           record {
@@ -346,7 +363,8 @@ module _ {body t : List ℕ} {n : ℕ} {opened : List ℕ} {depth tag k : ℕ} (
       unfolding tokAs
       by-close i =
           let d : 0 < depth = open-before .0 i in
-          closed-walk 4 i d (rw i (omega (arith, w .deep))) (λ x. outside (rw i at x)) (rw (i, tokAs) (after-close (stackOf body t opened depth) (nameAt body t k) ∙ popped-stack depth d)) (rw (i, tokAs))
+          closed-walk 4 i d (rw i (omega (arith, w .deep))) (λ x. outside (rw i at x))
+          (rw (i, tokAs) (after-close (stackOf body t opened depth) (nameAt body t k) ∙ popped-stack depth d)) (rw (i, tokAs))
         where
           outside : w .place .inTag ≡ true → ⊥
           outside x = false-true (rw i at (here .tagOrder .inside x))
@@ -355,7 +373,8 @@ module _ {body t : List ℕ} {n : ℕ} {opened : List ℕ} {depth tag k : ℕ} (
       unfolding tokAs
       by-slash i =
           let d : 0 < depth = open-before .1 i in
-          closed-walk 5 i d (rw i (omega (arith, w .deep))) (λ x. false-true (rw i at x)) (rw (i, tokAs) (after-slash (stackOf body t opened depth) ∙ popped-stack depth d)) (rw (i, tokAs))
+          closed-walk 5 i d (rw i (omega (arith, w .deep))) (λ x. false-true (rw i at x))
+          (rw (i, tokAs) (after-slash (stackOf body t opened depth) ∙ popped-stack depth d)) (rw (i, tokAs))
 
       -- a close tag and `/>` close the innermost element
       pub walk-close : kind ≡ 4 → WalkAt body t n opened (depth - 1) tag (k + 1)
@@ -366,8 +385,10 @@ module _ {body t : List ℕ} {n : ℕ} {opened : List ℕ} {depth tag k : ℕ} (
 
       -- a row that opens and closes nothing
       other-walk : (names : List Name) → (after (w .place) (rowAt t k)) .opened ≡ depth
-          → ((after (w .place) (rowAt t k)) .inTag ≡ true → w .place .inTag ≡ true) → ((after (w .place) (rowAt t k)) .inTag ≡ true → names ≡ namesBack body t tag (k + 1))
-          → openAfter (stackOf body t opened depth) (tokAt body t k) ≡ stackOf body t opened depth → namesAfter (w .names) (tokAt body t k) ≡ names
+          → ((after (w .place) (rowAt t k)) .inTag ≡ true → w .place .inTag ≡ true)
+          → ((after (w .place) (rowAt t k)) .inTag ≡ true → names ≡ namesBack body t tag (k + 1))
+          → openAfter (stackOf body t opened depth) (tokAt body t k) ≡ stackOf body t opened depth
+          → namesAfter (w .names) (tokAt body t k) ≡ names
           → WalkAt body t n opened depth tag (k + 1)
       other-walk names a b c u v =
           record {
@@ -393,12 +414,14 @@ module _ {body t : List ℕ} {n : ℕ} {opened : List ℕ} {depth tag k : ℕ} (
           let y = w .tagRow inside in
           let z : k + 1 - (tag + 1) ≡ suc (k - (tag + 1)) = omega arith in
           let l : k + 1 - 1 ≡ k = omega arith in
-          let more : nameAt body t k ∷ w .names ≡ namesBack body t tag (k + 1) = rw (z, l) (ap (λ (m : List Name). nameAt body t k ∷ m) (w .tagNames inside)) in
+          let more : nameAt body t k ∷ w .names ≡ namesBack body t tag (k + 1) = rw (z, l)
+          (ap (λ (m : List Name). nameAt body t k ∷ m) (w .tagNames inside)) in
           other-walk (nameAt body t k ∷ w .names) (rw i (w .deep)) (λ x. inside) (λ x. more) (rw (i, tokAs)) (rw (i, tokAs))
 
       by-gt : getD t (k * 8 + 0) 0 ≡ 3 → WalkAt body t n opened depth tag (k + 1)
       unfolding tokAs
-      by-gt i = other-walk (w .names) (rw i (w .deep)) (λ x. false-true (rw i at x)) (λ x. false-true (rw i at x)) (rw (i, tokAs)) (rw (i, tokAs))
+      by-gt i =
+          other-walk (w .names) (rw i (w .deep)) (λ x. false-true (rw i at x)) (λ x. false-true (rw i at x)) (rw (i, tokAs)) (rw (i, tokAs))
 
       by-text : getD t (k * 8 + 0) 0 ≡ 6 → WalkAt body t n opened depth tag (k + 1)
       unfolding tokAs
@@ -436,7 +459,8 @@ pub length-toks : (body : List ℕ) (l : List Row) → length (toksOf body l) �
 length-toks body [] = refl
 length-toks body (r ∷ l) = ap suc (length-toks body l)
 
-module _ {body t : List ℕ} {n : ℕ} {opened : List ℕ} {depth tag k : ℕ} (q : Walkable body t) (w : WalkAt body t n opened depth tag k) (h : n ≤ k) where
+module _ {body t : List ℕ} {n : ℕ} {opened : List ℕ} {depth tag k : ℕ} (q : Walkable body t) (w : WalkAt body t n opened depth tag k)
+    (h : n ≤ k) where
   ended : walk 0 (going [] []) (toksOf body (rowsOf t)) ≡ going (stackOf body t opened depth) (w .names)
   unfolding walk
   ended = sym (rw (rolled-out t k n h) at (w .rest))
@@ -456,16 +480,36 @@ module _ {body t : List ℕ} {n : ℕ} {opened : List ℕ} {depth tag k : ℕ} (
       go zero e = absurd (e refl)
       go (suc d) e = refl
 
-pub open-room : {body t : List ℕ} {n : ℕ} {opened : List ℕ} {depth tag k kind : ℕ} → WalkAt body t n opened depth tag k → k < n → kind ≡ getD t (k * 8 + 0) 0 → kind ≡ 1 → depth < 256
+pub open-room : {body t : List ℕ} {n : ℕ} {opened : List ℕ} {depth tag k kind : ℕ} → WalkAt body t n opened depth tag k → k < n
+    → kind ≡ getD t (k * 8 + 0) 0 → kind ≡ 1 → depth < 256
 open-room w h f i = let x = here w h .openLimit (sym f ∙ i) in omega (arith, w .deep)
 
-pub close-room : {body t : List ℕ} {n : ℕ} {opened : List ℕ} {depth tag k kind : ℕ} → WalkAt body t n opened depth tag k → k < n → kind ≡ getD t (k * 8 + 0) 0 → kind ≡ 4 → 1 ≤ depth
+pub close-room : {body t : List ℕ} {n : ℕ} {opened : List ℕ} {depth tag k kind : ℕ} → WalkAt body t n opened depth tag k → k < n
+    → kind ≡ getD t (k * 8 + 0) 0 → kind ≡ 4 → 1 ≤ depth
 close-room w h f i = let e = sym f ∙ i in let x = here w h .needsOpen (rw e) in omega (arith, w .deep)
 
-pub slash-room : {body t : List ℕ} {n : ℕ} {opened : List ℕ} {depth tag k kind : ℕ} → WalkAt body t n opened depth tag k → k < n → kind ≡ getD t (k * 8 + 0) 0 → kind ≡ 5 → 1 ≤ depth
+pub slash-room : {body t : List ℕ} {n : ℕ} {opened : List ℕ} {depth tag k kind : ℕ} → WalkAt body t n opened depth tag k → k < n
+    → kind ≡ getD t (k * 8 + 0) 0 → kind ≡ 5 → 1 ≤ depth
 slash-room w h f i = let e = sym f ∙ i in w .tagOpen (in-tag (here w h) (rw e))
 
-pub ruleset walk-laws = (needs, walk-start, row-in, top-in, row-placed, walk-fault, walk-open, walk-close, walk-slash, close-room, slash-room, walk-on, walk-passes, walk-unclosed, open-room, plain-none)
+pub ruleset walk-laws = (
+  needs,
+  walk-start,
+  row-in,
+  top-in,
+  row-placed,
+  walk-fault,
+  walk-open,
+  walk-close,
+  walk-slash,
+  close-room,
+  slash-room,
+  walk-on,
+  walk-passes,
+  walk-unclosed,
+  open-room,
+  plain-none,
+)
 
 -- ---- a table that obeys the rules can be walked
 pub walkable : {body t : List ℕ} {final : ℕ} → TableRules body t final → Walkable body t

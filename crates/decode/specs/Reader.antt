@@ -1,4 +1,5 @@
--- The reader over the rows of a view, by row numbers: what a scope, a place and a start element that are held by number stand for in `document`, what is
+-- The reader over the rows of a view, by row numbers: what a scope, a place and a start element that are held by number stand for in
+-- `document`, what is
 -- known of each, and what each function of the reader promises.
 use Prim.Native.Nat.{ℕ, zero, suc, _+_, _-_, _*_, _≤_, _<_}
 use mathlib.Core.Path.{_≡_}
@@ -158,7 +159,8 @@ overAt ended k d = record { ended = ended; at = record { row = k; depth = depth 
 
 -- the start element of row i at depth d, whose tag ends in row k, and the reader after it at another depth
 abbrev pub foundAt : ℕ → ℕ → Bool → ℕ → ℕ → Next
-foundAt i k closed d inner = Next.Found (record { row = i; end = k; closed = closed; depth = depth d }) (record { row = k + 1; depth = depth inner })
+foundAt i k closed d inner =
+    Next.Found (record { row = i; end = k; closed = closed; depth = depth d }) (record { row = k + 1; depth = depth inner })
 
 -- ---- what the functions promise
 -- the depth after a row of a kind, of whatever name and value, that starts no element
@@ -172,7 +174,8 @@ pub record PastIs (body t : List ℕ) (n : ℕ) (s : ScopeRow) (d k : ℕ) (r : 
   pub stands : Outside body t n (r .at .depth .0) (r .at .row)
   pub later : k ≤ r .at .row
 
--- the start tag of row i is read up to row k: the attributes before it unescape, and the search for a start element goes on from there with what was
+-- the start tag of row i is read up to row k: the attributes before it unescape, and the search for a start element goes on from there
+-- with what was
 -- met so far, whatever the scope and the depth
 pub record TagRead (body t : List ℕ) (n i k : ℕ) : Type 0 where
   pub low : i < k

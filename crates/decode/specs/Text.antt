@@ -4,10 +4,14 @@ use mathlib.Core.Path.{_≡_}
 use mathlib.Core.List.{List, []}
 use Rattle.refusal.specs.Answer.{Answer, gives, refuses}
 use Rattle.reference.specs.Text.{unescaped}
-use Rattle.document.specs.Text.{unescapedText}
+use Rattle.document.specs.declared.Depth.{Depth}
+use Rattle.document.specs.Text.{unescapedText, firstText}
+use Rattle.decode.specs.declared.reader.ScopeRow.{ScopeRow}
 use Rattle.decode.specs.declared.view.Failure.{Failure}
 use Rattle.decode.specs.declared.text.Text.{Text}
 use Rattle.decode.specs.Rows.{InTable, valueAt}
+use Rattle.decode.specs.Reader.{toksFrom, scopeAt}
+use Rattle.decode.specs.View.{failureAt}
 
 -- what a text by its row stands for
 abbrev pub textAt : List ℕ → List ℕ → Text → Answer (List ℕ)
@@ -25,6 +29,10 @@ TextIn t (Text.Refused r) = Unit {0}
 abbrev pub endText : Failure → Text
 endText Failure.Nothing = Text.Empty
 endText (Failure.Is r) = Text.Refused r
+
+-- the first text of a scope, from a depth and row k on
+abbrev pub firstFrom : List ℕ → List ℕ → ℕ → Failure → ScopeRow → Depth → ℕ → Answer (List ℕ)
+firstFrom body t n f s d k = firstText (failureAt f) (scopeAt body t s) d (toksFrom body t n k)
 
 -- what is answered: the definition's text
 pub record TextIs (body t : List ℕ) (r : Text) (is : Answer (List ℕ)) : Type 0 where

@@ -4,7 +4,9 @@ ghost use mathlib.Core.Path.{_≡_};
 ghost use Rattle.reference.specs.Text.{unescaped};
 ghost use Rattle.document.specs.Reader.{depth, endsAt, isEnd, less};
 ghost use Rattle.decode.specs.Rows.{InTable, Readable, nameAt, tokAt, valueAt};
-ghost use Rattle.decode.specs.Reader.{At, AttributeIs, DepthIs, DroppedIs, EndedAt, HasRow, LeftIs, NextIs, Outside, PastIs, RootIs, ScopeIn, Sees, StartIn, StartsAt, TagEnd, TagIs, foundAt, isBytes, overAt, scopeAt};
+ghost use Rattle.decode.specs.Reader.{At, EndedAt, HasRow, Outside, ScopeIn, Sees, StartIn, StartsAt};
+ghost use Rattle.decode.specs.Reader.{AttributeIs, DepthIs, DroppedIs, LeftIs, NextIs, PastIs, RootIs, TagEnd, TagIs};
+ghost use Rattle.decode.specs.Reader.{foundAt, isBytes, overAt, scopeAt};
 use crate::name::row_matches;
 use crate::name::same_name;
 use crate::name::span;
@@ -30,7 +32,8 @@ pub struct Past {
     pub at: Cursor,
 }
 
-// A start element: its row, the row that ends its start tag (the rows between are its attributes), whether that is `/>`, and the depth before it.
+// A start element: its row, the row that ends its start tag (the rows between are its attributes), whether that is `/>`, and the depth
+// before it.
 pub struct StartRow {
     pub row: usize,
     pub end: usize,
@@ -152,7 +155,8 @@ fn unescapes(body: &[u8], rows: &[u32], k: usize) -> bool
     }
 }
 
-// Where the start tag of row i stops being attributes that unescape: at its end, at one that does not, at a token error, or where the rows run out.
+// How far the start tag of row i is attributes that unescape: up to its end, to one that does not, to a token error, or to where the rows
+// run out.
 fn tag_end(body: &[u8], rows: &[u32], n: usize, i: usize) -> usize
     requires { ⌜ StartsAt (now body) (now rows) n 0 i ⌝ }
     ensures { λ r. ⌜ TagEnd (now (body .entry)) (now (rows .entry)) n i r ⌝ }
@@ -192,7 +196,8 @@ fn found(i: usize, k: usize, closed: bool, d: usize, inner: usize) -> Next
     )
 }
 
-// The start element of row i, at depth d. An attribute that does not unescape ends the search; so does a token error, which is the last row.
+// The start element of row i, at depth d. The search for it ends at an attribute that does not unescape, and at a token error, which is the
+// last row.
 fn start_tag(body: &[u8], rows: &[u32], n: usize, d: usize, i: usize) -> Next
     requires { ⌜ StartsAt (now body) (now rows) n d i ⌝ }
     ensures { λ r. ⌜ TagIs (now (body .entry)) (now (rows .entry)) n d i r ⌝ }
@@ -262,7 +267,8 @@ pub fn drop_element(body: &[u8], rows: &[u32], n: usize, start: StartRow, at: Cu
     skip(body, rows, n, scope, at)
 }
 
-// Where the reader stands after an element whose children were asked for up to a place: the rest of its scope is dropped, if its end was not read yet.
+// Where the reader stands after an element whose children were asked for up to a place: the rest of its scope is dropped, if its end was
+// not read yet.
 pub fn leave(body: &[u8], rows: &[u32], n: usize, start: StartRow, past: Past) -> Cursor
     requires { ⌜ Sees (now body) (now rows) n ⌝ }
     requires { ⌜ StartIn (now body) (now rows) n start ⌝ }

@@ -1,10 +1,10 @@
 // The first text of an element.
 ghost use mathlib.Core.Path.{_≡_};
 ghost use Rattle.document.specs.Reader.{depth};
-ghost use Rattle.document.specs.Text.{firstText, textOf};
-ghost use Rattle.decode.specs.Reader.{HasRow, Sees, StartIn, childAt, scopeAt, toksFrom};
+ghost use Rattle.document.specs.Text.{textOf};
+ghost use Rattle.decode.specs.Reader.{HasRow, Sees, StartIn, childAt};
 ghost use Rattle.decode.specs.View.{failureAt};
-ghost use Rattle.decode.specs.Text.{TextIs, endText};
+ghost use Rattle.decode.specs.Text.{TextIs, endText, firstFrom};
 use crate::reader::Cursor;
 use crate::reader::ScopeRow;
 use crate::reader::StartRow;
@@ -43,7 +43,7 @@ fn text_from(
 ) -> Text
     requires { ⌜ Sees (now body) (now rows) n ⌝ }
     requires { ⌜ HasRow (now rows) scope ⌝ }
-    ensures { λ r. ⌜ TextIs (now (body .entry)) (now (rows .entry)) r (firstText (failureAt failure) (scopeAt (now (body .entry)) (now (rows .entry)) scope) (depth deep) (toksFrom (now (body .entry)) (now (rows .entry)) n from)) ⌝ }
+    ensures { λ r. ⌜ TextIs (now (body .entry)) (now (rows .entry)) r (firstFrom (now (body .entry)) (now (rows .entry)) n failure scope (depth deep) from) ⌝ }
 {
     let mut k = from;
     let mut d = deep;

@@ -18,7 +18,8 @@ pub enum Failure {
     Is(Refusal),
 }
 
-// The view: how many rows are seen, what is met where they run out, whether the reading is refused with 9 at its end, and the stream position there.
+// The view: how many rows are seen, what is met where they run out, whether the reading is refused with 9 at its end, and the stream
+// position where the rows run out.
 pub struct View {
     pub count: usize,
     pub failure: Failure,

@@ -1,4 +1,3 @@
-use Prim.Native.Nat.{_-_}
 use Rattle.decode.proofs.Faults.{RepeatAt, repeat-laws}
 use Rattle.decode.proofs.drain.is_repeated.Statement.{statement}
 use Rattle.decode.proofs.drain.is_repeated.Tie as tie

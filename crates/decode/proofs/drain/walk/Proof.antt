@@ -6,7 +6,8 @@ use Rattle.decode.proofs.drain.walk.Statement.{statement}
 use Rattle.decode.proofs.drain.walk.Tie as tie
 
 abbrev Inv-loop : tie.InvT-loop
-Inv-loop body rows n opened₀ depth₀ tag₀ k₀ plain₀ opened depth tag k plain = WalkAt body rows n opened depth tag k × Clear body 38 (plain .from) (plain .to)
+Inv-loop body rows n opened₀ depth₀ tag₀ k₀ plain₀ opened depth tag k plain =
+    WalkAt body rows n opened depth tag k × Clear body 38 (plain .from) (plain .to)
 
 abbrev μ-loop : tie.MeasureT-loop
 μ-loop body rows n opened₀ depth₀ tag₀ k₀ plain₀ opened depth tag k plain = n - k
@@ -29,7 +30,9 @@ enum-known-cause c = search walk-laws
 
 returns : tie.Need-returns Inv-loop μ-loop
 returns c =
-    walk-fault (c .before .before .before .before .before .before .before .before .loop .inv .0) (c .before .before .before .before .before .before .before .loop-test .taken) (c .before .before .before .before .before .top-of .ensures) (c .before .before .before .row-fault .ensures) (search needs)
+    walk-fault (c .before .before .before .before .before .before .before .before .loop .inv .0)
+    (c .before .before .before .before .before .before .before .loop-test .taken)
+    (c .before .before .before .before .before .top-of .ensures) (c .before .before .before .row-fault .ensures) (search needs)
 
 enum-told : tie.Need-enum-told Inv-loop μ-loop
 enum-told c = search walk-laws
@@ -53,8 +56,13 @@ loop-less : tie.Need-loop-less Inv-loop μ-loop
 loop-less c = search walk-laws
 
 loop-again : tie.Need-loop-again Inv-loop μ-loop
-loop-again c =
-    (walk-open (c .before .before .before .before .before .before .before .before .before .loop .inv .0) (c .before .before .before .before .before .before .before .before .loop-test .taken) (c .before .before .before .before .before .before .top-of .ensures) (c .before .before .before .before .row-fault .ensures) (c .before .field .ensures) (search needs) (c .if1 .taken), c .before .before .before .before .before .plain-for .ensures)
+loop-again c = (
+  walk-open (c .before .before .before .before .before .before .before .before .before .loop .inv .0)
+      (c .before .before .before .before .before .before .before .before .loop-test .taken)
+      (c .before .before .before .before .before .before .top-of .ensures) (c .before .before .before .before .row-fault .ensures)
+      (c .before .field .ensures) (search needs) (c .if1 .taken),
+  c .before .before .before .before .before .plain-for .ensures,
+)
 
 sub-depth : tie.Need-sub-depth Inv-loop μ-loop
 sub-depth c = search walk-laws
@@ -66,8 +74,14 @@ loop-less-2 : tie.Need-loop-less-2 Inv-loop μ-loop
 loop-less-2 c = search walk-laws
 
 loop-again-2 : tie.Need-loop-again-2 Inv-loop μ-loop
-loop-again-2 c =
-    (walk-close (c .before .before .before .before .before .before .before .before .before .before .loop .inv .0) (c .before .before .before .before .before .before .before .before .before .loop-test .taken) (c .before .before .before .before .before .before .before .top-of .ensures) (c .before .before .before .before .before .row-fault .ensures) (c .before .before .field .ensures) (search needs) (c .if2 .taken), c .before .before .before .before .before .before .plain-for .ensures)
+loop-again-2 c = (
+  walk-close (c .before .before .before .before .before .before .before .before .before .before .loop .inv .0)
+      (c .before .before .before .before .before .before .before .before .before .loop-test .taken)
+      (c .before .before .before .before .before .before .before .top-of .ensures)
+      (c .before .before .before .before .before .row-fault .ensures) (c .before .before .field .ensures) (search needs)
+      (c .if2 .taken),
+  c .before .before .before .before .before .before .plain-for .ensures,
+)
 
 sub-depth-2 : tie.Need-sub-depth-2 Inv-loop μ-loop
 sub-depth-2 c = search walk-laws
@@ -79,8 +93,14 @@ loop-less-3 : tie.Need-loop-less-3 Inv-loop μ-loop
 loop-less-3 c = search walk-laws
 
 loop-again-3 : tie.Need-loop-again-3 Inv-loop μ-loop
-loop-again-3 c =
-    (walk-slash (c .before .before .before .before .before .before .before .before .before .before .before .loop .inv .0) (c .before .before .before .before .before .before .before .before .before .before .loop-test .taken) (c .before .before .before .before .before .before .before .before .top-of .ensures) (c .before .before .before .before .before .before .row-fault .ensures) (c .before .before .before .field .ensures) (search needs) (c .if3 .taken), c .before .before .before .before .before .before .before .plain-for .ensures)
+loop-again-3 c = (
+  walk-slash (c .before .before .before .before .before .before .before .before .before .before .before .loop .inv .0)
+      (c .before .before .before .before .before .before .before .before .before .before .loop-test .taken)
+      (c .before .before .before .before .before .before .before .before .top-of .ensures)
+      (c .before .before .before .before .before .before .row-fault .ensures) (c .before .before .before .field .ensures) (search needs)
+      (c .if3 .taken),
+  c .before .before .before .before .before .before .before .plain-for .ensures,
+)
 
 add-k-4 : tie.Need-add-k-4 Inv-loop μ-loop
 add-k-4 c = search walk-laws
@@ -89,8 +109,15 @@ loop-less-4 : tie.Need-loop-less-4 Inv-loop μ-loop
 loop-less-4 c = search walk-laws
 
 loop-again-4 : tie.Need-loop-again-4 Inv-loop μ-loop
-loop-again-4 c =
-    (walk-on (c .before .before .before .before .before .before .before .before .before .before .before .loop .inv .0) (c .before .before .before .before .before .before .before .before .before .before .loop-test .taken) (c .before .before .before .before .before .before .before .before .top-of .ensures) (c .before .before .before .before .before .before .row-fault .ensures) (c .before .before .before .field .ensures) (search needs) (c .before .before .if1 .left) (c .before .if2 .left) (c .if3 .left), c .before .before .before .before .before .before .before .plain-for .ensures)
+loop-again-4 c = (
+  walk-on (c .before .before .before .before .before .before .before .before .before .before .before .loop .inv .0)
+      (c .before .before .before .before .before .before .before .before .before .before .loop-test .taken)
+      (c .before .before .before .before .before .before .before .before .top-of .ensures)
+      (c .before .before .before .before .before .before .row-fault .ensures) (c .before .before .before .field .ensures) (search needs)
+      (c .before .before .if1 .left) (c .before .if2 .left)
+      (c .if3 .left),
+  c .before .before .before .before .before .before .before .plain-for .ensures,
+)
 
 returns-2 : tie.Need-returns-2 Inv-loop μ-loop
 returns-2 c = search walk-laws

@@ -39,8 +39,10 @@ loop-less c = search text-laws
 
 loop-again : tie.Need-loop-again Inv-loop μ-loop
 loop-again c =
-    text-on (c .before .before .before .before .before .before .before .loop .inv) (c .before .before .before .before .before .before .loop-test .taken)
-    (c .before .before .before .before .before .field .ensures) (search needs) (search needs) (c .before .before .depth-after .ensures) (c .before .ends-here .ensures) (search needs)
+    text-on (c .before .before .before .before .before .before .before .loop .inv)
+    (c .before .before .before .before .before .before .loop-test .taken)
+    (c .before .before .before .before .before .field .ensures) (search needs) (search needs) (c .before .before .depth-after .ensures)
+    (c .before .ends-here .ensures) (search needs)
 
 end-text-requires : tie.Need-end-text-requires Inv-loop μ-loop
 end-text-requires c κs = search text-laws
