@@ -19,13 +19,8 @@ use Rattle.document.specs.Text.{unescapedText}
 use Rattle.output.specs.declared.Written.{Written}
 use Rattle.output.specs.declared.Step.{Step}
 use Rattle.output.specs.Steps.{writeOr, text, scalar, piece, group}
-use Rattle.output.specs.Held.{roomOf, Holds, Does}
+use Rattle.output.specs.Held.{roomOf, Holds, Does, Sound, Adds}
 use Rattle.output.proofs.AllOrNone.{holds-within}
-
--- what is counted lies in the buffers
-pub record Sound (e t : List ℕ) (w : Written) : Type 0 where
-  pub entries : w .count * 6 ≤ length e
-  pub texts : w .used ≤ length t
 
 -- n entries from the front of a list
 entriesOf : List ℕ → ℕ → List Entry
@@ -99,9 +94,6 @@ sound-next step {e} {t} s d q =
     }
 
 -- ---- how many text bytes a step adds at most
-pub record Adds (step : Room → Output → Reading) (n : ℕ) : Type 0 where
-  pub most : (room : Room) (out : Output) → length (output (step room out) .texts) ≤ length (out .texts) + n
-
 pub used-next : {step : Room → Output → Reading} {n : ℕ} {e t e′ t′ : List ℕ} {w w′ : Written} {r : Step} → Adds step n → Sound e t w
     → Does step e t w e′ t′ r → r ≡ Step.Done w′
     → w′ .used ≤ w .used + n

@@ -1,5 +1,5 @@
 -- What the lent buffers hold: what was written at the front, all else as before. And what a step of a reading leaves in them.
-use Prim.Native.Nat.{ℕ, _+_, _/_, _^_, _≤_, _<_}
+use Prim.Native.Nat.{ℕ, _+_, _*_, _/_, _^_, _≤_, _<_}
 use mathlib.Core.Path.{_≡_}
 use mathlib.Core.Bool.{Bool, false}
 use mathlib.Core.List.{List}
@@ -66,3 +66,13 @@ pub record Ready (w : Written) (n : ℕ) : Type 0 where
 pub record Comes (txt : List ℕ) (n : ℕ) : Type 0 where
   pub is : unescaped txt ≡ bytes (plainOf (unescaped txt))
   pub size : n ≡ length (plainOf (unescaped txt))
+
+-- ---- what a function over many steps asks and promises of the numbers alone
+-- what is counted lies in the buffers
+pub record Sound (e t : List ℕ) (w : Written) : Type 0 where
+  pub entries : w .count * 6 ≤ length e
+  pub texts : w .used ≤ length t
+
+-- how many text bytes a step adds at most
+pub record Adds (step : Room → Output → Reading) (n : ℕ) : Type 0 where
+  pub most : (room : Room) (out : Output) → length (output (step room out) .texts) ≤ length (out .texts) + n
