@@ -1,6 +1,6 @@
 -- Laws of a bit map and the two names that may follow it: reading them, and what a sheet makes of them.
 use Prim.Native.Nat.{ℕ, suc, _+_, _≤_, _<_}
-use mathlib.Core.Path.{_≡_, refl, _∙_}
+use mathlib.Core.Path.{_≡_, refl, sym, _∙_}
 use mathlib.Core.Bool.{Bool, true, false, not}
 use mathlib.Core.List.{List}
 use mathlib.Core.Option.{Option, none, some}
@@ -19,6 +19,24 @@ use Rattle.codec.proofs.Names.{read-then, read-as}
 
 abbrev pub two : Option (List ℕ) → Option (List ℕ) → Two
 two x y = record { first = x; second = y }
+
+abbrev named : ℕ → Two → Named
+named b p = record { bits = b; names = p }
+
+-- ---- one field after another, in other words
+module _ {A B : Type 0} where
+  pub then-then : {C : Type 0} (x : Front A) (f : A → List ℕ → Front B) (g : B → List ℕ → Front C) → then (then x f) g ≡ then x (λ a e. then (f a e) g)
+  then-then (front a e) f g = refl
+  then-then broken f g = refl
+
+  pub then-same : {f g : A → List ℕ → Front B} (x : Front A) → ((a : A) (e : List ℕ) → f a e ≡ g a e) → then x f ≡ then x g
+  then-same (front a e) h = h a e
+  then-same broken h = refl
+
+  hold-then : (t : Bool) (x : Front A) (f : A → List ℕ → Front B) → whereHolds t (then x f) ≡ then x (λ a e. whereHolds t (f a e))
+  hold-then true x f = refl
+  hold-then false (front a e) f = refl
+  hold-then false broken f = refl
 
 -- ---- reading them
 module _ {sheet : List ℕ} {at values v w : ℕ} where
@@ -55,45 +73,25 @@ module _ {sheet : List ℕ} {at values v w : ℕ} where
       map = record { is = rw (drop-cons sheet at 0 h, ← y .is, add-one at) (held (ltb n values) (drop (suc at) sheet)); inside = omega arith; near = omega arith }
 
 -- ---- what is made of them, where a test of the bits holds
-abbrev named : ℕ → Two → List ℕ → Front Named
-named b p e = front (record { bits = b; names = p }) e
-
 module _ {B : Type 0} (v w : ℕ) (k : ℕ → Option (List ℕ) → Option (List ℕ) → List ℕ → Front B) where
-  abbrev made : Bool → Named → List ℕ → Front B
-  made t f e = whereHolds t (k (f .bits) (f .names .first) (f .names .second) e)
+  abbrev made : (ℕ → Bool) → Named → List ℕ → Front B
+  made fit f e = whereHolds (fit (f .bits)) (k (f .bits) (f .names .first) (f .names .second) e)
 
   abbrev onward : ℕ → List ℕ → Front B
   onward b s = then (nameIf (bit v b) s) (λ x s2. then (nameIf (bit w b) s2) (λ y s3. k b x y s3))
 
-  names-then : (b : ℕ) (t : Bool) (s : List ℕ) → whereHolds t (onward b s) ≡ then (then (pairIf (bit v b) (bit w b) s) (named b)) (made t)
-  names-then b t s = first t (nameIf (bit v b) s)
-    where
-      second : (t : Bool) (x : Option (List ℕ)) (y : Front (Option (List ℕ)))
-          → whereHolds t (then y (λ y s3. k b x y s3)) ≡ then (then (then y (λ y e. front (two x y) e)) (named b)) (made t)
-      second t x (front y s3) = refl
-      second true x broken = refl
-      second false x broken = refl
-
-      first : (t : Bool) (x : Front (Option (List ℕ)))
-          → whereHolds t (then x (λ x s2. then (nameIf (bit w b) s2) (λ y s3. k b x y s3)))
-          ≡ then (then (then x (λ x s2. then (nameIf (bit w b) s2) (λ y e. front (two x y) e))) (named b)) (made t)
-      first t (front x s2) = second t x (nameIf (bit w b) s2)
-      first true broken = refl
-      first false broken = refl
+  names-then : (fit : ℕ → Bool) (b : ℕ) (s : List ℕ) → whereHolds (fit b) (onward b s) ≡ then (pairIf (bit v b) (bit w b) s) (λ p e. made fit (named b p) e)
+  names-then fit b s =
+      hold-then (fit b) (nameIf (bit v b) s) (λ x s2. then (nameIf (bit w b) s2) (λ y s3. k b x y s3))
+      ∙ then-same (nameIf (bit v b) s) (λ x s2. hold-then (fit b) (nameIf (bit w b) s2) (λ y s3. k b x y s3)
+      ∙ sym (then-then (nameIf (bit w b) s2) (λ y e. front (two x y) e) (λ p e. made fit (named b p) e)))
+      ∙ sym (then-then (nameIf (bit v b) s) (λ x s2. then (nameIf (bit w b) s2) (λ y e. front (two x y) e)) (λ p e. made fit (named b p) e))
 
   pub fields-then : (values : ℕ) (fit : ℕ → Bool) (s : List ℕ)
-      → then (bitMap values s) (λ b rest. whereHolds (fit b) (onward b rest)) ≡ then (fieldsOf values v w s) (λ f e. made (fit (f .bits)) f e)
-  fields-then values fit s = go (bitMap values s)
-    where
-      go : (f : Front ℕ) → then f (λ b rest. whereHolds (fit b) (onward b rest))
-          ≡ then (then f (λ b rest. then (pairIf (bit v b) (bit w b) rest) (named b))) (λ f e. made (fit (f .bits)) f e)
-      go (front b rest) = names-go b rest (pairIf (bit v b) (bit w b) rest) (names-then b (fit b) rest)
-        where
-          names-go : (b : ℕ) (rest : List ℕ) (p : Front Two) → whereHolds (fit b) (onward b rest) ≡ then (then p (named b)) (made (fit b))
-              → whereHolds (fit b) (onward b rest) ≡ then (then p (named b)) (λ f e. made (fit (f .bits)) f e)
-          names-go b rest (front p e) q = q
-          names-go b rest broken q = q
-      go broken = refl
+      → then (bitMap values s) (λ b rest. whereHolds (fit b) (onward b rest)) ≡ then (fieldsOf values v w s) (made fit)
+  fields-then values fit s =
+      then-same (bitMap values s) (λ b rest. names-then fit b rest ∙ sym (then-then (pairIf (bit v b) (bit w b) rest) (λ p e. front (named b p) e) (made fit)))
+      ∙ sym (then-then (bitMap values s) (λ b rest. then (pairIf (bit v b) (bit w b) rest) (λ p e. front (named b p) e)) (made fit))
 
 -- ---- "The sheet ends with its last field."
 pub all-at : {A : Type 0} (sheet : List ℕ) (next : ℕ) (a : A) → all (front a (drop next sheet)) ≡ pick (leb (length sheet) next) (some a) none

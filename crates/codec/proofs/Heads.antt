@@ -20,7 +20,7 @@ use Rattle.codec.specs.declared.field.Fields.{Fields}
 use Rattle.codec.specs.Field.{Byte, bytesAt, nameOf, OrElse, Two, pairIf, namesOf, PairRead, Named, fieldsOf, namedBy, FieldsRead}
 use Rattle.codec.specs.Structure.{RootOf, HeadRead, CountRead}
 use Rattle.codec.proofs.Names.{bytes-name}
-use Rattle.codec.proofs.Bits.{two, fields-then}
+use Rattle.codec.proofs.Bits.{two, then-then, then-same, fields-then}
 
 -- ---- the root's name
 pub root-of : {xml original member shape a b r : Span} → OrElse original member a → OrElse xml a b → OrElse b shape r → RootOf xml original member shape r
@@ -53,22 +53,10 @@ shaped f e = then (pairIf (bit 4 (f .bits)) true e) (λ q e. then (memberList e)
 -- the second of these is always there
 name-then : {B : Type 0} (t : Bool) (s : List ℕ) (k : Option (List ℕ) → List ℕ → List ℕ → Front B)
     → then (nameIf t s) (λ x r. then (name r) (λ n e. k x n e)) ≡ then (pairIf t true s) (λ q e. k (q .first) (Option·getD (q .second) []) e)
-name-then {B} t s k = first (nameIf t s)
-  where
-    second : (x : Option (List ℕ)) (y : Front (List ℕ))
-        → then y (λ n e. k x n e) ≡ then (then (then y (λ n e. front (some n) e)) (λ y e. front (two x y) e)) (λ q e. k (q .first) (Option·getD (q .second) []) e)
-    second x (front n e) = refl
-    second x broken = refl
-
-    first : (a : Front (Option (List ℕ)))
-        → then a (λ x r. then (name r) (λ n e. k x n e)) ≡ then (then a (λ x r. then (nameIf true r) (λ y e. front (two x y) e))) (λ q e. k (q .first) (Option·getD (q .second) []) e)
-    first (front x r) = second x (name r)
-    first broken = refl
-
--- what follows them in two ways that are the same
-then-same : {A B : Type 0} {f g : A → List ℕ → Front B} (x : Front A) → ((a : A) (e : List ℕ) → f a e ≡ g a e) → then x f ≡ then x g
-then-same (front a e) h = h a e
-then-same broken h = refl
+name-then {B} t s k =
+    then-same (nameIf t s) (λ x r. sym (then-then (name r) (λ n e. front (some n) e) (λ y e. k x (Option·getD y []) e)) ∙
+    sym (then-then (nameIf true r) (λ y e. front (two x y) e) (λ q e. k (q .first) (Option·getD (q .second) []) e)))
+    ∙ sym (then-then (nameIf t s) (λ x r. then (nameIf true r) (λ y e. front (two x y) e)) (λ q e. k (q .first) (Option·getD (q .second) []) e))
 
 structure-is : (sheet : List ℕ) → structureOf sheet ≡ all (then (fieldsOf 16 1 2 sheet) shaped)
 unfolding structureOf structureOn
