@@ -24,7 +24,7 @@ use Rattle.decode.specs.declared.reader.Next.{Next}
 use Rattle.decode.specs.declared.view.View.{View}
 use Rattle.decode.specs.declared.piece.Piece.{Piece}
 use Rattle.decode.specs.Reader.{Outside, NextIs, childAt, DroppedIs}
-use Rattle.walk.specs.FirstText.{start-scope}
+use Rattle.decode.proofs.Places.{start-scope}
 use Rattle.decode.specs.View.{viewAt, Viewed}
 use Rattle.decode.specs.Piece.{PieceIs}
 use Rattle.output.specs.declared.Written.{Written}

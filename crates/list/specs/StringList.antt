@@ -27,15 +27,15 @@ use Rattle.decode.specs.declared.view.View.{View}
 use Rattle.decode.specs.declared.text.Text.{Text}
 use Rattle.decode.specs.Reader.{Outside, NextIs, childAt, DroppedIs}
 use Rattle.decode.specs.Text.{textAt, TextIn, TextIs}
-use Rattle.walk.specs.FirstText.{start-scope}
+use Rattle.decode.proofs.Places.{start-scope}
 use Rattle.decode.specs.View.{failureAt, viewAt, Viewed}
 use Rattle.output.specs.declared.Written.{Written}
 use Rattle.output.specs.declared.Step.{Step}
 use Rattle.output.specs.Steps.{writeOr, text, eachOf}
-use Rattle.output.specs.Held.{Does, Ready}
+use Rattle.output.specs.Held.{Does, Ready, Sound, Adds}
 use Rattle.output.proofs.Room.{stays}
 use Rattle.output.proofs.Then.{Midway, midway-start, each-goes, each-stops, each-ends, does-as}
-use Rattle.output.proofs.Sound.{Sound, sound-nothing, sound-next, Adds, used-next, text-adds}
+use Rattle.output.proofs.Sound.{sound-nothing, sound-next, used-next, text-adds}
 use Rattle.opening.specs.Wanted.{wanted, is-it}
 use Rattle.opening.specs.Level.{left, found-in, found-start, found-outside, none-left, one-left, less-left}
 
