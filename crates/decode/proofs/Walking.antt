@@ -1,6 +1,5 @@
 -- Laws of the walk of the drain over the rows of a flat table: the open names are kept as row numbers, and the attribute names of a start
--- tag are
--- looked up in its rows.
+-- tag are looked up in its rows.
 use Prim.Native.Nat.{ℕ, zero, suc, _+_, _-_, _*_, _/_, _≤_, _<_}
 use mathlib.Core.Path.{_≡_, refl, sym, _∙_, ap}
 use mathlib.Core.Bool.{Bool, true, false}

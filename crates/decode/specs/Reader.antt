@@ -1,6 +1,5 @@
 -- The reader over the rows of a view, by row numbers: what a scope, a place and a start element that are held by number stand for in
--- `document`, what is
--- known of each, and what each function of the reader promises.
+-- `document`, what is known of each, and what each function of the reader promises.
 use Prim.Native.Nat.{ℕ, zero, suc, _+_, _-_, _*_, _≤_, _<_}
 use mathlib.Core.Path.{_≡_}
 use mathlib.Core.Bool.{Bool, true, false}
@@ -96,7 +95,7 @@ abbrev pub HasRow : List ℕ → ScopeRow → Type 0
 HasRow t ScopeRow.Document = Unit {0}
 HasRow t (ScopeRow.Element d k) = InTable t k
 
--- so is row k too
+-- rows that can be read, among them row k and the row of the scope's element
 pub record ScopeIn (body t : List ℕ) (s : ScopeRow) (k : ℕ) : Type 0 where
   pub readable : Readable body t
   pub row : InTable t k
@@ -175,8 +174,7 @@ pub record PastIs (body t : List ℕ) (n : ℕ) (s : ScopeRow) (d k : ℕ) (r : 
   pub later : k ≤ r .at .row
 
 -- the start tag of row i is read up to row k: the attributes before it unescape, and the search for a start element goes on from there
--- with what was
--- met so far, whatever the scope and the depth
+-- with what was met so far, whatever the scope and the depth
 pub record TagRead (body t : List ℕ) (n i k : ℕ) : Type 0 where
   pub low : i < k
   pub high : k ≤ n
