@@ -1,5 +1,5 @@
 -- Laws of list and map sheets: what is made of their fields, and the names that a reading asks for.
-use Prim.Native.Nat.{ℕ, _+_, _≤_}
+use Prim.Native.Nat.{ℕ}
 use mathlib.Core.Path.{_≡_, refl, sym, _∙_}
 use mathlib.Core.Bool.{Bool, true, false, not}
 use mathlib.Core.List.{List}
@@ -8,10 +8,10 @@ use native.Mathlib.Omega.{arith}
 use borrow.Author.Needs.{needs}
 use borrow.Author.Tests.{not-true, not-false, eq-eqb}
 use lib.Dec.{leb}
-use lib.ListN.{length, drop}
-use Rattle.lists.specs.Tests.{pick, pick-same, false-true, flags}
+use lib.ListN.{length}
+use Rattle.lists.specs.Tests.{pick, false-true, flags}
 use Rattle.lists.specs.Bytes.{ascii, sameb}
-use Rattle.sheet.specs.Front.{Front, front, broken, then, whereHolds, bitMap, bit, nameIf, all}
+use Rattle.sheet.specs.Front.{front, broken, then, whereHolds, bitMap, bit, nameIf, all}
 use Rattle.sheet.specs.Sheet.{itemIf, onlyWith, listOf, valueIf, mapOf}
 use Rattle.sheet.specs.Sheet as sheet
 use Rattle.sheet.specs.Names.{orElse, namedItem, valueNameOf, aggregateOf}
@@ -20,9 +20,10 @@ use Rattle.codec.specs.declared.field.Span.{Span}
 use Rattle.codec.specs.declared.field.Fields.{Fields}
 use Rattle.codec.specs.declared.collection.ListSheet.{ListSheet}
 use Rattle.codec.specs.declared.collection.MapSheet.{MapSheet}
-use Rattle.codec.specs.Field.{nameOf, OrElse, ReadAt, Named, namedBy, FieldsRead}
-use Rattle.codec.specs.Collection.{isWhole, ListSaid, ListRead, MapSaid, MapRead, ItemNamed, ItemsNamed, EntriesNamed}
-use Rattle.codec.proofs.Bits.{fields-then, all-at}
+use Rattle.codec.specs.Field.{nameOf, OrElse, Named, namedBy, FieldsRead}
+use Rattle.codec.specs.Collection.{isWhole, ListSaid, ListRead, MapRead, ItemNamed, ItemsNamed, EntriesNamed}
+use Rattle.codec.proofs.Fronts.{two, read-then, all-read, held-read}
+use Rattle.codec.proofs.Bits.{fields-then}
 
 -- ---- both kinds
 pub not-as : {t u : Bool} → t ≡ u → not t ≡ not u
@@ -40,31 +41,19 @@ third-is false true b = refl
 third-is false false true = refl
 third-is false false false = refl
 
--- what a sheet is that is made of its fields where a test of its bits holds
-whole-is : {A : Type 0} (make : Named → A) {sheet : List ℕ} {field : Front Named} {f : Named} {t w r : Bool} {next most : ℕ} → ReadAt sheet field t f next most
-    → (fit : Named → Bool) → fit f ≡ w → r ≡ pick (pick t (leb (length sheet) next) false) w false
-    → all (then field (λ f e. whereHolds (fit f) (front (make f) e))) ≡ pick r (some (make f)) none
-whole-is make {sheet} {f = f} {t} {w} {next = next} x fit p e = rw (x .is, e) (go t w p)
-  where
-    ended : (u : Bool) → pick u (some (make f)) none ≡ pick (pick u true false) (some (make f)) none
-    ended true = refl
-    ended false = refl
-
-    go : (t w : Bool) → fit f ≡ w → all (then (pick t (front f (drop next sheet)) broken) (λ f e. whereHolds (fit f) (front (make f) e)))
-        ≡ pick (pick (pick t (leb (length sheet) next) false) w false) (some (make f)) none
-    go true true p = rw p (all-at sheet next (make f) ∙ ended (leb (length sheet) next))
-    go true false p = rw (p, pick-same (leb (length sheet) next) false)
-    go false w p = refl
-
--- what its bytes say
-sheet-is : {A : Type 0} (values v w third a b : ℕ) (make : Named → A) {sheet : List ℕ} {f : Fields} {ok : Bool} → FieldsRead sheet 0 values v w f → ok ≡ isWhole sheet f third a b
+-- what a sheet's bytes say, that is made of its fields where two of its bits stand only with a third
+sheet-is : {A : Type 0} (values v w third a b : ℕ) (make : Named → A) {sheet : List ℕ} {f : Fields} {ok : Bool}
+    → FieldsRead sheet 0 values v w f → ok ≡ isWhole sheet f third a b
     → all (then (bitMap values sheet) (λ n s1. whereHolds (pick (onlyWith (bit third n) (bit a n)) (onlyWith (bit third n) (bit b n)) false)
-    (then (nameIf (bit v n) s1) (λ x s2. then (nameIf (bit w n) s2) (λ y s3. front (make (record { bits = n; names = record { first = x; second = y } })) s3)))))
+    (then (nameIf (bit v n) s1) (λ x s2. then (nameIf (bit w n) s2) (λ y s3. front (make (record { bits = n; names = two x y })) s3)))))
     ≡ pick ok (some (make (namedBy sheet f))) none
 sheet-is values v w third a b make {sheet} {f} x e =
     let fit : ℕ → Bool = λ n. pick (onlyWith (bit third n) (bit a n)) (onlyWith (bit third n) (bit b n)) false in
-    rw (fields-then v w (λ n x y end. front (make (record { bits = n; names = record { first = x; second = y } })) end) values fit sheet)
-    (whole-is make (x .read) (λ f. fit (f .bits)) (third-is (bit third (f .bits)) (bit a (f .bits)) (bit b (f .bits))) e)
+    let test = third-is (bit third (f .bits)) (bit a (f .bits)) (bit b (f .bits)) in
+    rw (fields-then v w (λ n x y end. front (make (record { bits = n; names = two x y })) end) values fit sheet, e, ← test)
+    (all-read (read-then (x .read) (λ f e. whereHolds (fit (f .bits)) (front (make f) e))
+    (held-read (fit (f .bits)) (x .read .inside) (x .read .near))
+    refl (x .read .near)))
 
 -- ---- lists
 listMake : Named → sheet.ListSheet
@@ -74,8 +63,9 @@ item-is : (t : Bool) (x m : Option (List ℕ)) → namedItem (itemIf t x m) ≡ 
 item-is true x m = refl
 item-is false x m = refl
 
-pub list-read : {sheet : List ℕ} {f : Fields} {name : Span} {ok m l : Bool} → FieldsRead sheet 0 16 4 8 f → OrElse (f .first) (f .second) name
-    → ok ≡ isWhole sheet f 1 4 8 → m ≡ bit 1 (f .bits) → l ≡ bit 2 (f .bits) → ListRead sheet (record { ok = ok; member = m; flattened = l; name = name })
+pub list-read : {sheet : List ℕ} {f : Fields} {name : Span} {ok m l : Bool} → FieldsRead sheet 0 16 4 8 f
+    → OrElse (f .first) (f .second) name → ok ≡ isWhole sheet f 1 4 8 → m ≡ bit 1 (f .bits) → l ≡ bit 2 (f .bits)
+    → ListRead sheet (record { ok = ok; member = m; flattened = l; name = name })
 unfolding listOf listMake
 list-read {sheet} {f} {ok = ok} x n e p q =
     let is : listOf sheet ≡ pick ok (some (listMake (namedBy sheet f))) none = sheet-is 16 4 8 1 4 8 listMake x e in
@@ -94,31 +84,36 @@ list-read {sheet} {f} {ok = ok} x n e p q =
 -- ---- maps
 mapMake : Named → sheet.MapSheet
 mapMake f =
-    record { flattened = bit 1 (f .bits); keyXmlName = f .names .first; value = valueIf (bit 4 (f .bits)) (f .names .second) (bit 16 (f .bits)) }
+    record {
+      flattened = bit 1 (f .bits);
+      keyXmlName = f .names .first;
+      value = valueIf (bit 4 (f .bits)) (f .names .second) (bit 16 (f .bits));
+    }
 
 -- where there is no value there is no name of one, and it is no aggregate
 pub record ValueIs (t a : Bool) (x : Option (List ℕ)) : Type 0 where
   pub name : valueNameOf (valueIf t x a) ≡ Option·getD x (ascii "value")
   pub aggregate : aggregateOf (valueIf t x a) ≡ a
 
-value-is : (ok ended t u a : Bool) (x : Option (List ℕ)) → true ≡ pick (pick ok ended false) (pick t true (pick u false (not a))) false → (u ≡ false → x ≡ none)
-    → ValueIs t a x
-value-is true true true u a x e n = record { name = refl; aggregate = refl }
-value-is true true false true a x e n = false-true (sym e)
-value-is true true false false true x e n = false-true (sym e)
-value-is true true false false false x e n = record { name = rw (n refl); aggregate = refl }
-value-is true false t u a x e n = false-true (sym e)
+value-is : (ok ended t u a : Bool) (x : Option (List ℕ)) → true ≡ pick (pick ok (pick t true (pick u false (not a))) false) ended false
+    → (u ≡ false → x ≡ none) → ValueIs t a x
+value-is true ended true u a x e n = record { name = refl; aggregate = refl }
+value-is true ended false true a x e n = false-true (sym e)
+value-is true ended false false true x e n = false-true (sym e)
+value-is true ended false false false x e n = record { name = rw (n refl); aggregate = refl }
 value-is false ended t u a x e n = false-true (sym e)
 
-pub map-read : {sheet : List ℕ} {f : Fields} {ok l a : Bool} → FieldsRead sheet 0 32 2 8 f → ok ≡ isWhole sheet f 4 8 16 → l ≡ bit 1 (f .bits) → a ≡ bit 16 (f .bits)
+pub map-read : {sheet : List ℕ} {f : Fields} {ok l a : Bool} → FieldsRead sheet 0 32 2 8 f → ok ≡ isWhole sheet f 4 8 16
+    → l ≡ bit 1 (f .bits) → a ≡ bit 16 (f .bits)
     → MapRead sheet (record { ok = ok; flattened = l; aggregate = a; key = f .first; value = f .second })
 unfolding mapOf mapMake
 map-read {sheet} {f} {ok} x e p q =
     let is : mapOf sheet ≡ pick ok (some (mapMake (namedBy sheet f))) none = sheet-is 32 2 8 4 8 16 mapMake x e in
     record {
       there = λ t. (let z : mapOf sheet ≡ some (mapMake (namedBy sheet f)) = rw t at is in
-          let v = value-is (f .ok) (leb (length sheet) (f .next)) (bit 4 (f .bits)) (bit 8 (f .bits)) (bit 16 (f .bits)) (nameOf sheet (f .second)) (sym t ∙ e)
-          (λ u. rw (eq-eqb (f .second .len) 0 (x .absent u))) in
+          let v = value-is (f .ok) (leb (length sheet) (f .next)) (bit 4 (f .bits)) (bit 8 (f .bits)) (bit 16 (f .bits))
+          (nameOf sheet (f .second))
+          (sym t ∙ e) (λ u. rw (eq-eqb (f .second .len) 0 (x .absent u))) in
           record {
             said = rw z;
             stands = rw z (record {
@@ -164,5 +159,17 @@ module _ {settings : Settings} {map : MapSheet} where
 pub called : (local asked : List ℕ) {name own : List ℕ} {t : Bool} → asked ≡ own → name ≡ own → t ≡ sameb local name → t ≡ sameb local asked
 called local asked a n e = rw (a, ← n) e
 
-pub ruleset collection-laws =
-    (needs, not-true, not-false, list-read, map-read, item-named, items-lenient, items-flat, items-strict, entries-lenient, entries-strict, called)
+pub ruleset collection-laws = (
+  needs,
+  not-true,
+  not-false,
+  list-read,
+  map-read,
+  item-named,
+  items-lenient,
+  items-flat,
+  items-strict,
+  entries-lenient,
+  entries-strict,
+  called,
+)

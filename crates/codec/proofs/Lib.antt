@@ -1,4 +1,5 @@
 pub mod Lent
+pub mod Fronts
 pub mod Names
 pub mod Bits
 pub mod Collections

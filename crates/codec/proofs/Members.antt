@@ -3,40 +3,43 @@ use Prim.Native.Nat.{ℕ, zero, suc, _+_, _-_, _*_, _≤_, _<_}
 use mathlib.Core.Path.{_≡_, refl, sym, _∙_}
 use mathlib.Core.Bool.{Bool, true, false}
 use mathlib.Core.List.{List, [], _∷_, _++_, append-nil, append-assoc}
-use mathlib.Core.Option.{some}
 use native.Mathlib.Decide.{decLt}
 use native.Mathlib.Numerals.{add-one}
 use native.Mathlib.Omega.{arith}
 use borrow.Author.Needs.{needs}
-use borrow.Author.Tests.{not-true, not-false, eq-eqb, ne-eqb}
+use borrow.Author.Tests.{not-true, not-false}
 use lib.Dec.{leb}
-use lib.ListN.{length, getD, drop, set, length-set, length-append, List·getD-append, drop-of-length-le}
-use lib.Seq.{drop-cons, getD-set-same, getD-set-other, getD-at, sets, length-sets}
-use Rattle.lists.specs.Tests.{pick, pick-same}
-use Rattle.lists.specs.Bytes.{sameb}
-use Rattle.sheet.specs.Front.{Front, front, broken, then, whereHolds, bit, times}
+use lib.ListN.{length, getD, drop, set, length-set, length-append, List·getD-append}
+use lib.Seq.{getD-set-same, getD-set-other, getD-at, sets, length-sets}
+use Rattle.lists.specs.Tests.{pick, pick-same, pick-flag}
+use Rattle.sheet.specs.Front.{Front, front, broken, then, bit, times}
 use Rattle.sheet.specs.Sheet.{member, memberList}
 use Rattle.sheet.specs.Sheet as defined
-use Rattle.sheet.specs.Names.{childName, attributeName, isNamed, Indexed, indexed, firstNamed, resolve}
 use Rattle.codec.specs.declared.field.Span.{Span}
 use Rattle.codec.specs.declared.field.Fields.{Fields}
 use Rattle.codec.specs.declared.structure.Count.{Count}
 use Rattle.codec.specs.declared.structure.Member.{Member}
-use Rattle.codec.specs.declared.structure.Found.{Found}
-use Rattle.codec.specs.declared.structure.Found.the-variants.{At, Nothing}
-use Rattle.codec.specs.Field.{bytesAt, nameOf, OrElse, ReadAt, Named, namedBy, fieldsOf, FieldsRead}
-use Rattle.codec.specs.Structure.{saidBy, nameless, memberIn, MemberAt, MembersAt, MembersSaid, isMember, Resolved, countOf, CountRead, Storable, MembersRead}
-use Rattle.codec.proofs.Names.{bytes-name, read-as}
+use Rattle.codec.specs.Field.{OrElse, Named, namedBy, fieldsOf, FieldsRead}
+use Rattle.codec.specs.Structure.{nameless, memberIn, MemberAt, MembersAt, countOf}
+use Rattle.codec.specs.Structure.{CountRead, Storable, MembersRead}
+use Rattle.codec.proofs.Fronts.{then-hold, read-then, read-as}
 use Rattle.codec.proofs.Bits.{fields-then}
 
 -- ---- one member at a place
 memberOf : Named → defined.Member
 memberOf f =
-    record { xmlName = f .names .first; memberName = f .names .second; attribute = bit 4 (f .bits); flattened = bit 8 (f .bits); aggregate = bit 16 (f .bits) }
+    record {
+      xmlName = f .names .first;
+      memberName = f .names .second;
+      attribute = bit 4 (f .bits);
+      flattened = bit 8 (f .bits);
+      aggregate = bit 16 (f .bits);
+    }
 
 member-is : (s : List ℕ) → member s ≡ then (fieldsOf 32 1 2 s) (λ f e. front (memberOf f) e)
 unfolding memberOf
-member-is s = fields-then 1 2 (λ b x m e. front (record { xmlName = x; memberName = m; attribute = bit 4 b; flattened = bit 8 b; aggregate = bit 16 b }) e) 32 (λ b. true) s
+member-is s = fields-then 1 2 (λ b x m e. front (memberOf (record { bits = b; names = record { first = x; second = m } })) e) 32 (λ b. true)
+    s
 
 -- ---- a run of stores
 pub three-stores : (l : List ℕ) (n a b c : ℕ) → set (set (set l n a) (n + 1) b) (n + 2) c ≡ sets l n (a ∷ b ∷ c ∷ [])
@@ -56,7 +59,8 @@ sets-at (a ∷ vs) l i (suc j) h r =
     rw z (sets-at vs (set l i a) (suc i) j (omega arith) (omega (arith, length-set l i a)))
 
 -- ---- one member more
-module _ {sheet numbers : List ℕ} {l : List defined.Member} (x : MembersAt sheet numbers l) (k : ℕ) (n : length l ≡ k) (w : k * 3 + 3 ≤ length numbers) (b : ℕ) (s : Span) where
+module _ {sheet numbers : List ℕ} {l : List defined.Member} (x : MembersAt sheet numbers l) (k : ℕ) (n : length l ≡ k)
+    (w : k * 3 + 3 ≤ length numbers) (b : ℕ) (s : Span) where
   abbrev new : List ℕ
   new = b ∷ s .from ∷ s .len ∷ []
 
@@ -72,8 +76,12 @@ module _ {sheet numbers : List ℕ} {l : List defined.Member} (x : MembersAt she
 
       go : (i : ℕ) → Dec (i < k) → i ≤ k → MemberAt sheet (memberIn (sets numbers (k * 3) new) i) (getD (l ++ m ∷ []) i nameless)
       go i (yes h) p =
-          rw (below i 0 h (omega arith), below i 1 h (omega arith), below i 2 h (omega arith), List·getD-append l (m ∷ []) nameless i (omega arith))
-          (x .each i (omega arith))
+          rw (
+            below i 0 h (omega arith),
+            below i 1 h (omega arith),
+            below i 2 h (omega arith),
+            List·getD-append l (m ∷ []) nameless i (omega arith),
+          ) (x .each i (omega arith))
       go i (no h) p =
           let e : i ≡ k = omega (arith, h) in
           rw (e, here 0 (omega arith), here 1 (omega arith), here 2 (omega arith), getD-at l m [] nameless k n) y
@@ -85,7 +93,8 @@ pub record Reading (sheet : List ℕ) (at : ℕ) (head : Count) (numbers : List 
   pub list : List defined.Member
   pub size : length list ≡ k
   pub low : k ≤ head .count
-  pub rest : then (times member (head .count - k) (drop next sheet)) (λ l end. front (list ++ l) end) ≡ times member (head .count) (drop (head .next) sheet)
+  pub rest : then (times member (head .count - k) (drop next sheet)) (λ l end. front (list ++ l) end)
+      ≡ times member (head .count) (drop (head .next) sheet)
   pub inside : next ≤ length sheet
   pub near : next ≤ 1026 + 513 * k
   pub wide : length numbers ≡ 192
@@ -95,11 +104,7 @@ pub record Reading (sheet : List ℕ) (at : ℕ) (head : Count) (numbers : List 
 list-is : (s : List ℕ) → memberList s ≡ then (countOf s) (λ n rest. times member n rest)
 unfolding times
 list-is [] = refl
-list-is (n ∷ rest) = go (leb n 64)
-  where
-    go : (t : Bool) → whereHolds t (times member n rest) ≡ then (whereHolds t (front n rest)) (λ n rest. times member n rest)
-    go true = refl
-    go false = refl
+list-is (n ∷ rest) = then-hold (leb n 64) n rest (λ n rest. times member n rest)
 
 later : (m : defined.Member) (past : List defined.Member) (y : Front (List defined.Member))
     → then (then y (λ l end. front (m ∷ l) end)) (λ l end. front (past ++ l) end) ≡ then y (λ l end. front ((past ++ m ∷ []) ++ l) end)
@@ -127,32 +132,30 @@ reading-start {sheet} {at} {head} numbers x h w =
 
 module _ {sheet : List ℕ} {at : ℕ} {head : Count} {numbers : List ℕ} {next k : ℕ} (w : Reading sheet at head numbers next k) where
   -- what the members that were read so far are of the whole
-  answer : (ok : Bool) {f : Front (List defined.Member)} → times member (head .count) (drop (head .next) sheet) ≡ f → pick (head .ok) f broken ≡ pick ok (front (w .list) (drop next sheet)) broken
-      → MembersRead sheet at (record { ok = ok; count = k; next = next; numbers = numbers })
-  answer ok {f} e q =
+  answer : (u : Bool) {ok : Bool} → times member (head .count) (drop (head .next) sheet) ≡ pick u (front (w .list) (drop next sheet)) broken
+      → ok ≡ pick (head .ok) u false → MembersRead sheet at (record { ok = ok; count = k; next = next; numbers = numbers })
+  answer u e q =
+      let near : next ≤ 65536 = omega (arith, w .near, w .low, w .count .few) in
+      let z = read-then (w .count .read) (λ n rest. times member n rest) (record { is = e; inside = w .inside; near = near }) q near in
       record {
         list = w .list;
-        read = record { is = list-is (drop at sheet) ∙ rw (w .count .read .is) (go (head .ok)) ∙ q; inside = w .inside; near = omega (arith, w .near, w .low, w .count .few) };
+        read = record { is = list-is (drop at sheet) ∙ z .is; inside = z .inside; near = near };
         size = w .size;
         few = omega (arith, w .low, w .count .few);
         wide = w .wide;
         stands = w .stands;
       }
-    where
-      go : (t : Bool) → then (pick t (front (head .count) (drop (head .next) sheet)) broken) (λ n rest. times member n rest) ≡ pick t f broken
-      go true = e
-      go false = refl
 
   module _ (h : k < head .count) {f : Fields} (x : FieldsRead sheet next 32 1 2 f) where
     one : head .count - k ≡ suc (head .count - (k + 1))
     one = omega arith
 
     first : member (drop next sheet) ≡ pick (f .ok) (front (memberOf (namedBy sheet f)) (drop (f .next) sheet)) broken
-    first = member-is (drop next sheet) ∙ read-as memberOf (x .read) .is
+    first = member-is (drop next sheet) ∙ read-as (x .read) memberOf .is
 
     pub reading-stop : f .ok ≡ false → MembersRead sheet at (record { ok = false; count = k; next = next; numbers = numbers })
     unfolding times
-    reading-stop e = answer false (sym (rw (one, first, e) at (w .rest))) (pick-same (head .ok) broken)
+    reading-stop e = answer false (sym (rw (one, first, e) at (w .rest))) (sym (pick-same (head .ok) false))
 
     pub reading-storable : {name : Span} → OrElse (f .first) (f .second) name → Storable k (f .bits) name
     reading-storable {name} n =
@@ -164,7 +167,8 @@ module _ {sheet : List ℕ} {at : ℕ} {head : Count} {numbers : List ℕ} {next
           lenFits = omega (arith, x .read .near, w .near, w .count .few);
         }
 
-    pub reading-turn : {name : Span} {numbers′ : List ℕ} → OrElse (f .first) (f .second) name → f .ok ≡ true → numbers′ ≡ sets numbers (k * 3) (f .bits ∷ name .from ∷ name .len ∷ [])
+    pub reading-turn : {name : Span} {numbers′ : List ℕ} → OrElse (f .first) (f .second) name → f .ok ≡ true
+        → numbers′ ≡ sets numbers (k * 3) (f .bits ∷ name .from ∷ name .len ∷ [])
         → Reading sheet at head numbers′ (f .next) (k + 1)
     unfolding times memberOf
     reading-turn {name} n e q =
@@ -183,7 +187,8 @@ module _ {sheet : List ℕ} {at : ℕ} {head : Count} {numbers : List ℕ} {next
             flattened = refl;
             aggregate = refl;
             name = sym (n .name sheet);
-            inside = n .inside (length sheet) (omega (arith, x .firstEnds, x .read .inside)) (omega (arith, x .secondEnds, x .read .inside));
+            inside = n .inside (length sheet) (omega (arith, x .firstEnds, x .read .inside))
+                (omega (arith, x .secondEnds, x .read .inside));
           });
         })
 
@@ -191,6 +196,7 @@ module _ {sheet : List ℕ} {at : ℕ} {head : Count} {numbers : List ℕ} {next
   unfolding times
   reading-end h =
       let z : head .count - k ≡ 0 = omega arith in
-      answer (head .ok) (sym (rw (z, append-nil (w .list)) at (w .rest))) refl
+      answer true (sym (rw (z, append-nil (w .list)) at (w .rest))) (pick-flag (head .ok))
 
-pub ruleset reading-laws = (needs, not-true, not-false, three-stores, reading-start, reading-stop, reading-storable, reading-turn, reading-end)
+pub ruleset reading-laws =
+    (needs, not-true, not-false, three-stores, reading-start, reading-stop, reading-storable, reading-turn, reading-end)

@@ -3,7 +3,7 @@ use Prim.Native.Nat.{ℕ, zero, suc, _+_, _-_, _≤_, _<_}
 use mathlib.Core.Path.{_≡_, refl, sym}
 use mathlib.Core.Bool.{Bool, true, false}
 use mathlib.Core.List.{List, []}
-use mathlib.Core.Option.{Option, none, some, Option·getD}
+use mathlib.Core.Option.{none, some, Option·getD}
 use native.Mathlib.Numerals.{add-one}
 use native.Mathlib.Omega.{arith}
 use borrow.Author.Needs.{needs}
@@ -12,10 +12,11 @@ use lib.Dec.{leb, eqb}
 use lib.ListN.{length, getD, take, drop, length-drop, drop-of-length-le}
 use lib.Seq.{drop-cons, drop-drop}
 use Rattle.lists.specs.Tests.{pick, false-true}
-use Rattle.sheet.specs.Front.{Front, front, broken, then, whereHolds, nameIf}
+use Rattle.sheet.specs.Front.{front, broken, then, whereHolds, nameIf}
 use Rattle.codec.specs.declared.field.Span.{Span}
 use Rattle.codec.specs.declared.field.Field.{Field}
-use Rattle.codec.specs.Field.{Byte, bytesAt, nameOf, OrElse, ReadAt, LengthRead, FieldRead, PairRead}
+use Rattle.codec.specs.Field.{Byte, bytesAt, nameOf, OrElse, LengthRead, FieldRead, PairRead}
+use Rattle.codec.proofs.Fronts.{two, read-then, read-as}
 
 -- ---- bytes
 pub bytes-are : (sheet : List ℕ) (s : Span) → take (s .from + s .len - s .from) (drop (s .from) sheet) ≡ bytesAt sheet s
@@ -52,7 +53,13 @@ module _ {sheet : List ℕ} {at : ℕ} where
     pub length-cut : length sheet - at ≤ n → LengthRead sheet at 0
     length-cut l =
         record {
-          is = rw (drop-cons sheet at 0 h, ← b .is, le-leb 1 n (omega arith), lt-leb n (length (drop (suc at) sheet)) (omega (arith, length-drop (suc at) sheet)));
+          is =
+              rw (
+                drop-cons sheet at 0 h,
+                ← b .is,
+                le-leb 1 n (omega arith),
+                lt-leb n (length (drop (suc at) sheet)) (omega (arith, length-drop (suc at) sheet)),
+              );
           inside = omega arith;
           small = omega arith;
         }
@@ -60,26 +67,36 @@ module _ {sheet : List ℕ} {at : ℕ} where
     pub length-read : n < length sheet - at → LengthRead sheet at n
     length-read l =
         record {
-          is = rw (drop-cons sheet at 0 h, ← b .is, add-one at, ← drop-drop n (suc at) sheet) (whole n (drop (suc at) sheet) (omega (arith, length-drop (suc at) sheet)));
+          is = rw (drop-cons sheet at 0 h, ← b .is, add-one at, ← drop-drop n (suc at) sheet)
+              (whole n (drop (suc at) sheet) (omega (arith, length-drop (suc at) sheet)));
           inside = omega arith;
           small = b .small;
         }
       where
         whole : (n : ℕ) (rest : List ℕ) → n ≤ length rest
-            → whereHolds (pick (leb 1 n) (leb n (length rest)) false) (front (take n rest) (drop n rest)) ≡ pick (eqb n 0) broken (front (take n rest) (drop n rest))
+            → whereHolds (pick (leb 1 n) (leb n (length rest)) false) (front (take n rest) (drop n rest))
+            ≡ pick (eqb n 0) broken (front (take n rest) (drop n rest))
         whole zero rest h = refl
-        whole (suc n) rest h = rw (le-leb 1 (suc n) (omega arith), le-leb (suc n) (length rest) h, ne-eqb (suc n) 0 (λ q. absurd (omega arith)))
+        whole (suc n) rest h =
+            rw (le-leb 1 (suc n) (omega arith), le-leb (suc n) (length rest) h, ne-eqb (suc n) 0 (λ q. absurd (omega arith)))
 
 -- ---- a name, where its bit stands
 module _ {sheet : List ℕ} {at : ℕ} {stands : Bool} where
-  pub name-absent : stands ≡ false → at ≤ length sheet → FieldRead sheet at stands (record { ok = true; name = record { from = at; len = 0 }; next = at })
-  name-absent e h = rw e (record { read = record { is = refl; inside = h; near = omega arith }; ends = omega arith; onward = omega arith; absent = λ q. refl })
+  none-read : {ok : Bool} → nameIf stands (drop at sheet) ≡ pick ok (front none (drop at sheet)) broken → at ≤ length sheet
+      → FieldRead sheet at stands (record { ok = ok; name = record { from = at; len = 0 }; next = at })
+  none-read q h =
+      record { read = record { is = q; inside = h; near = omega arith }; ends = omega arith; onward = omega arith; absent = λ q. refl }
+
+  pub name-absent : stands ≡ false → at ≤ length sheet
+      → FieldRead sheet at stands (record { ok = true; name = record { from = at; len = 0 }; next = at })
+  name-absent e h = none-read (rw e) h
 
   module _ (e : stands ≡ true) {n : ℕ} (x : LengthRead sheet at n) where
-    pub name-broken : n < 1 → at ≤ length sheet → FieldRead sheet at stands (record { ok = false; name = record { from = at; len = 0 }; next = at })
+    pub name-broken : n < 1 → at ≤ length sheet
+        → FieldRead sheet at stands (record { ok = false; name = record { from = at; len = 0 }; next = at })
     name-broken l h =
         let z : n ≡ 0 = omega arith in
-        rw e (record { read = record { is = rw (x .is, z); inside = h; near = omega arith }; ends = omega arith; onward = omega arith; absent = λ q. refl })
+        none-read (rw (e, x .is, z)) h
 
     pub name-read : 1 ≤ n → FieldRead sheet at stands (record { ok = true; name = record { from = at + 1; len = n }; next = at + 1 + n })
     name-read l =
@@ -91,35 +108,32 @@ module _ {sheet : List ℕ} {at : ℕ} {stands : Bool} where
           absent = λ q. false-true (sym q);
         })
 
--- ---- one after another
-pub read-then : {A B : Type 0} {sheet : List ℕ} {field : Front A} {t u v : Bool} {a : A} {b : B} {next end near far most : ℕ} (f : A → List ℕ → Front B)
-    → ReadAt sheet field t a next near → ReadAt sheet (f a (drop next sheet)) u b end far → v ≡ pick t u false → end ≤ most
-    → ReadAt sheet (then field f) v b end most
-read-then {sheet = sheet} {t = t} {u} {a = a} {b} {next} {end} f x y e h = record { is = rw (x .is, e) (go t); inside = y .inside; near = h }
-  where
-    go : (t : Bool) → then (pick t (front a (drop next sheet)) broken) f ≡ pick (pick t u false) (front b (drop end sheet)) broken
-    go true = y .is
-    go false = refl
-
--- what is read and made something else of
-pub read-as : {A B : Type 0} {sheet : List ℕ} {field : Front A} {t : Bool} {a : A} {next most : ℕ} (f : A → B) → ReadAt sheet field t a next most
-    → ReadAt sheet (then field (λ a rest. front (f a) rest)) t (f a) next most
-read-as {sheet = sheet} {t = t} {a} {next} f x = record { is = rw (x .is) (go t); inside = x .inside; near = x .near }
-  where
-    go : (t : Bool) → then (pick t (front a (drop next sheet)) broken) (λ a rest. front (f a) rest) ≡ pick t (front (f a) (drop next sheet)) broken
-    go true = refl
-    go false = refl
-
-pub pair-read : {sheet : List ℕ} {at : ℕ} {t u v : Bool} {x y : Field} → FieldRead sheet at t x → FieldRead sheet (x .next) u y → v ≡ pick (x .ok) (y .ok) false
-    → PairRead sheet at t u (record { ok = v; first = x .name; second = y .name; next = y .next })
+-- ---- two names
+pub pair-read : {sheet : List ℕ} {at : ℕ} {t u v : Bool} {x y : Field} → FieldRead sheet at t x → FieldRead sheet (x .next) u y
+    → v ≡ pick (x .ok) (y .ok) false → PairRead sheet at t u (record { ok = v; first = x .name; second = y .name; next = y .next })
 pair-read {sheet} {u = u} {x = x} f g e =
     record {
-      read = read-then (λ a rest. then (nameIf u rest) (λ b end. front (record { first = a; second = b }) end)) (f .read)
-          (read-as (λ b. record { first = nameOf sheet (x .name); second = b }) (g .read)) e (omega (arith, f .read .near, g .read .near));
+      read = read-then (f .read) (λ a rest. then (nameIf u rest) (λ b end. front (two a b) end))
+          (read-as (g .read) (two (nameOf sheet (x .name)))) e (omega (arith, f .read .near, g .read .near));
       firstEnds = omega (arith, f .ends, g .onward);
       secondEnds = g .ends;
       absent = g .absent;
     }
 
-pub ruleset name-laws =
-    (needs, not-true, not-false, bytes-are, given-other, own-name, else-second, else-first, length-ends, length-cut, length-read, name-absent, name-broken, name-read, pair-read)
+pub ruleset name-laws = (
+  needs,
+  not-true,
+  not-false,
+  bytes-are,
+  given-other,
+  own-name,
+  else-second,
+  else-first,
+  length-ends,
+  length-cut,
+  length-read,
+  name-absent,
+  name-broken,
+  name-read,
+  pair-read,
+)

@@ -14,21 +14,23 @@ use Rattle.lists.specs.Tests.{pick}
 use Rattle.lists.specs.Bytes.{sameb}
 use Rattle.sheet.specs.Front.{bit}
 use Rattle.sheet.specs.Sheet as defined
-use Rattle.sheet.specs.Names.{attributeName, Indexed, indexed, firstNamed, membersOf, resolve}
+use Rattle.sheet.specs.Names.{attributeName, indexed, firstNamed, membersOf, resolve}
 use Rattle.codec.specs.declared.structure.Member.{Member}
 use Rattle.codec.specs.declared.structure.Found.{Found}
 use Rattle.codec.specs.declared.structure.Found.the-variants.{At, Nothing}
-use Rattle.codec.specs.Field.{bytesAt, nameOf}
+use Rattle.codec.specs.Field.{bytesAt}
 use Rattle.codec.specs.Structure.{saidBy, nameless, MemberRead, MemberAt, MembersSaid, isMember, Resolved}
 use Rattle.codec.proofs.Names.{bytes-name}
 
 -- ---- by index
-pub member-read : {members : List ℕ} {i b from len : ℕ} {t u v : Bool} → b ≡ getD members (i * 3 + 0) 0 → t ≡ bit 4 b → u ≡ bit 8 b → v ≡ bit 16 b
+pub member-read : {members : List ℕ} {i b from len : ℕ} {t u v : Bool} → b ≡ getD members (i * 3 + 0) 0 → t ≡ bit 4 b → u ≡ bit 8 b
+    → v ≡ bit 16 b
     → from ≡ getD members (i * 3 + 1) 0 → len ≡ getD members (i * 3 + 2) 0
     → MemberRead members i (record { attribute = t; flattened = u; aggregate = v; name = record { from = from; len = len } })
 member-read e p q r f l = record { is = rw (p, q, r, e, f, l) }
 
-module _ {sheet members : List ℕ} {i : ℕ} {m : Member} (said : MembersSaid sheet members) (x : MemberRead members i m) (h : i * 3 + 3 ≤ length members) where
+module _ {sheet members : List ℕ} {i : ℕ} {m : Member} (said : MembersSaid sheet members) (x : MemberRead members i m)
+    (h : i * 3 + 3 ≤ length members) where
   -- a member that was read says what the sheet says
   pub member-said : MemberAt sheet m (getD (saidBy sheet .members) i nameless)
   member-said = rw (x .is) (said .stands .each i (omega (arith, said .size)))
@@ -65,7 +67,8 @@ module _ (sheet : List ℕ) (m : Member) (local : List ℕ) where
   pub not-named : m .name .len ≡ 0 → false ≡ isMember sheet m local
   not-named e = rw (eq-eqb (m .name .len) 0 e)
 
-  pub named-same : {part : List ℕ} {t : Bool} → (m .name .len ≡ 0 → ⊥) → part ≡ bytesAt sheet (m .name) → t ≡ sameb part local → t ≡ isMember sheet m local
+  pub named-same : {part : List ℕ} {t : Bool} → (m .name .len ≡ 0 → ⊥) → part ≡ bytesAt sheet (m .name) → t ≡ sameb part local
+      → t ≡ isMember sheet m local
   named-same n e q = rw (ne-eqb (m .name .len) 0 n, ← e) q
 
 -- the members before this one have another name
@@ -85,10 +88,12 @@ module _ {sheet members local : List ℕ} {i : ℕ} (w : Looking sheet members l
     looking-inside = member-inside (w .said) x inside
 
     module _ {t : Bool} (q : t ≡ isMember sheet m local) where
-      step : pick t (some (record { index = i; member = getD (saidBy sheet .members) i nameless })) (firstNamed (drop (i + 1) (membersOf (saidBy sheet))) local)
+      step : pick t (some (record { index = i; member = getD (saidBy sheet .members) i nameless }))
+          (firstNamed (drop (i + 1) (membersOf (saidBy sheet))) local)
           ≡ resolve (saidBy sheet) local
       unfolding firstNamed
-      step = rw (members-next (saidBy sheet .members) i (omega (arith, w .said .size)), member-said (w .said) x inside .name, ← q) at (w .rest)
+      step = rw (members-next (saidBy sheet .members) i (omega (arith, w .said .size)), member-said (w .said) x inside .name, ← q) at
+          (w .rest)
 
       pub looking-found : t ≡ true → Resolved sheet members local (At i)
       looking-found e = record { is = sym (rw e at step); low = λ j p. (let z : i ≡ j = cc in rw (← z) inside) }

@@ -8,7 +8,7 @@ use native.Mathlib.Omega.{arith}
 use borrow.Author.Needs.{needs}
 use borrow.Author.Tests.{not-true, not-false}
 use lib.Dec.{leb}
-use lib.ListN.{length, getD, take, drop}
+use lib.ListN.{length, getD, drop}
 use lib.Seq.{getD-take, length-take-le}
 use Rattle.lists.specs.Tests.{pick}
 use Rattle.lists.specs.Parts.{part}
@@ -20,19 +20,24 @@ use Rattle.codec.specs.declared.structure.Head.{Head}
 use Rattle.codec.specs.declared.structure.Members.{Members}
 use Rattle.codec.specs.declared.structure.StructureSheet.{StructureSheet}
 use Rattle.codec.specs.Field.{bytesAt}
-use Rattle.codec.specs.Structure.{saidBy, nameless, memberIn, MemberAt, MembersAt, MembersSaid, PartIn, StructureSaid, StructureRead, HeadRead, MembersRead}
-use Rattle.codec.proofs.Bits.{all-at}
+use Rattle.codec.specs.Structure.{saidBy, MembersAt, MembersSaid, PartIn, StructureSaid, StructureRead}
+use Rattle.codec.specs.Structure.{HeadRead, MembersRead}
+use Rattle.codec.proofs.Fronts.{read-as, all-read}
 
 -- the numbers of the first members, as a part
-part-stands : {sheet numbers : List ℕ} {l : List defined.Member} (n : ℕ) → length l ≡ n → MembersAt sheet numbers l → MembersAt sheet (part numbers 0 (n * 3)) l
-part-stands {sheet} {numbers} {l} n e x = record { each = λ i h. rw (at i 0 h (omega arith), at i 1 h (omega arith), at i 2 h (omega arith)) (x .each i h) }
+part-stands : {sheet numbers : List ℕ} {l : List defined.Member} (n : ℕ) → length l ≡ n → MembersAt sheet numbers l
+    → MembersAt sheet (part numbers 0 (n * 3)) l
+part-stands {sheet} {numbers} {l} n e x =
+    record { each = λ i h. rw (at i 0 h (omega arith), at i 1 h (omega arith), at i 2 h (omega arith)) (x .each i h) }
   where
     at : (i j : ℕ) → i < length l → j < 3 → getD (part numbers 0 (n * 3)) (i * 3 + j) 0 ≡ getD numbers (i * 3 + j) 0
     at i j h k = getD-take (n * 3 - 0) numbers (i * 3 + j) 0 (omega arith)
 
 module _ {sheet : List ℕ} {head : Head} {list : Members} {t ok : Bool} where
-  pub structure-read : HeadRead sheet head → MembersRead sheet (head .next) list → t ≡ pick (list .ok) (leb (length sheet) (list .next)) false → ok ≡ pick (head .ok) t false
-      → StructureRead sheet (record { ok = ok; unwrapped = head .unwrapped; root = head .root; count = list .count; members = list .numbers })
+  pub structure-read : HeadRead sheet head → MembersRead sheet (head .next) list
+      → t ≡ pick (list .ok) (leb (length sheet) (list .next)) false → ok ≡ pick (head .ok) t false
+      → StructureRead sheet
+      (record { ok = ok; unwrapped = head .unwrapped; root = head .root; count = list .count; members = list .numbers })
   structure-read x y p q =
       record {
         there = λ e. (let z : structureOf sheet ≡ some (x .with (y .list)) = rw e at is in record {
@@ -42,7 +47,8 @@ module _ {sheet : List ℕ} {head : Head} {list : Members} {t ok : Bool} where
           inside = x .rootInside;
           filled = filled;
           members = record {
-            size = rw (z, x .members (y .list), y .size) (length-take-le (list .count * 3 - 0) (list .numbers) (omega (arith, y .few, y .wide)) ∙ omega arith);
+            size = rw (z, x .members (y .list), y .size)
+                (length-take-le (list .count * 3 - 0) (list .numbers) (omega (arith, y .few, y .wide)) ∙ omega arith);
             few = rw (z, x .members (y .list)) (omega (arith, y .few, y .size));
             stands = rw (z, x .members (y .list)) (part-stands (list .count) (y .size) (y .stands));
           };
@@ -54,13 +60,9 @@ module _ {sheet : List ℕ} {head : Head} {list : Members} {t ok : Bool} where
       filled : PartIn (record { ok = ok; unwrapped = head .unwrapped; root = head .root; count = list .count; members = list .numbers })
       filled = record { few = y .few; fits = omega (arith, y .few, y .wide) }
 
-      after : (u : Bool) → all (then (pick u (front (y .list) (drop (list .next) sheet)) broken) (λ l end. front (x .with l) end))
-          ≡ pick (pick u (leb (length sheet) (list .next)) false) (some (x .with (y .list))) none
-      after true = all-at sheet (list .next) (x .with (y .list))
-      after false = refl
-
-      go : (h : Bool) → all (then (pick h (memberList (drop (head .next) sheet)) broken) (λ l end. front (x .with l) end)) ≡ pick (pick h t false) (some (x .with (y .list))) none
-      go true = rw (p, y .read .is) (after (list .ok))
+      go : (h : Bool) → all (then (pick h (memberList (drop (head .next) sheet)) broken) (λ l end. front (x .with l) end))
+          ≡ pick (pick h t false) (some (x .with (y .list))) none
+      go true = rw p (all-read (read-as (y .read) (x .with)))
       go false = refl
 
       is : structureOf sheet ≡ pick ok (some (x .with (y .list))) none

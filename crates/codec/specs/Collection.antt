@@ -26,7 +26,7 @@ withThird bits third a b = pick (bit third bits) true (pick (bit a bits) false (
 
 -- they do, and "The sheet ends with its last field."
 abbrev pub isWhole : List ℕ → Fields → ℕ → ℕ → ℕ → Bool
-isWhole sheet f third a b = pick (pick (f .ok) (leb (length sheet) (f .next)) false) (withThird (f .bits) third a b) false
+isWhole sheet f third a b = pick (pick (f .ok) (withThird (f .bits) third a b) false) (leb (length sheet) (f .next)) false
 
 -- ---- lists: "bits 0 has member, 1 flattened, 2 its XML name, 3 its member name"
 -- what a sheet says; where it is broken it says nothing, and this is any
@@ -76,7 +76,8 @@ pub record ItemNamed (sheet : List ℕ) (list : ListSheet) (name : List ℕ) : T
 
 -- whether items must have it, in any list sheet that the struct stands for
 pub record ItemsNamed (settings : Settings) (list : ListSheet) (r : Bool) : Type 0 where
-  pub is : (l : sheet.ListSheet) (name : List ℕ) → l .flattened ≡ list .flattened → namedItem (l .item) ≡ pick (list .member) (some name) none
+  pub is : (l : sheet.ListSheet) (name : List ℕ) → l .flattened ≡ list .flattened
+      → namedItem (l .item) ≡ pick (list .member) (some name) none
       → itemName (settingsOf settings) l ≡ pick r (some name) none
 
 -- whether map entries must be named `entry`

@@ -70,7 +70,8 @@ pub record PairRead (sheet : List ℕ) (at : ℕ) (t u : Bool) (r : Pair) : Type
   pub secondEnds : r .second .from + r .second .len ≤ r .next
   pub absent : u ≡ false → r .second .len ≡ 0
 
--- "A sheet is a bit map byte, then only the fields whose bit stands, in bit order; higher bits are 0.": of these, two names, whose bits are those of v and w
+-- "A sheet is a bit map byte, then only the fields whose bit stands, in bit order; higher bits are 0.": of these, two names, whose bits are
+-- those of v and w
 pub record Named : Type 0 where
   pub bits : ℕ
   pub names : Two

@@ -1,4 +1,5 @@
--- The depth guard (01, "Forms that stand in the way": "one depth guard, lent to enter and leave and changed by them"): what entering and leaving make of it.
+-- The depth guard (01, "Forms that stand in the way": "one depth guard, lent to enter and leave and changed by them"): what entering and
+-- leaving make of it.
 use Prim.Native.Nat.{_+_, _-_}
 use mathlib.Core.Bool.{Bool}
 use lib.Dec.{leb}

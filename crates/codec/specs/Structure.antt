@@ -104,7 +104,8 @@ pub record Resolved (sheet members local : List ℕ) (r : Found) : Type 0 where
 -- the root's name of four: XML name, original name, member name, shape name
 pub record RootOf (xml original member shape r : Span) : Type 0 where
   pub name : (sheet : List ℕ)
-      → bytesAt sheet r ≡ Option·getD (orElse (nameOf sheet xml) (orElse (nameOf sheet original) (nameOf sheet member))) (bytesAt sheet shape)
+      → bytesAt sheet r ≡ Option·getD (orElse (nameOf sheet xml) (orElse (nameOf sheet original) (nameOf sheet member)))
+      (bytesAt sheet shape)
   pub inside : (n : ℕ) → xml .from + xml .len ≤ n → original .from + original .len ≤ n → member .from + member .len ≤ n
       → shape .from + shape .len ≤ n → r .from + r .len ≤ n
 

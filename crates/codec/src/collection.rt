@@ -3,7 +3,8 @@ ghost use mathlib.Core.Path.{_≡_};
 ghost use Prim.Native.Nat.{_<_};
 ghost use Rattle.lists.specs.Bytes.{ascii, sameb};
 ghost use Rattle.sheet.specs.Names.{keyName, valueName};
-ghost use Rattle.codec.specs.Collection.{withThird, isWhole, ListSaid, ListRead, mapSaid, MapSaid, MapRead, ItemNamed, ItemsNamed, EntriesNamed};
+ghost use Rattle.codec.specs.Collection.{withThird, isWhole, ListSaid, ListRead, mapSaid, MapSaid, MapRead};
+ghost use Rattle.codec.specs.Collection.{ItemNamed, ItemsNamed, EntriesNamed};
 use crate::field::Fields;
 use crate::field::Span;
 use crate::field::both;
@@ -49,8 +50,8 @@ fn is_whole(sheet: &[u8], f: Fields, third: usize, a: usize, b: usize) -> bool
     requires { ⌜ (0 < third) × (0 < a) × (0 < b) ⌝ }
     ensures { λ r. ⌜ r ≡ isWhole (now (sheet .entry)) f third a b ⌝ }
 {
-    let ended = both(f.ok, sheet.len() <= f.next);
-    both(ended, with_third(f.bits, third, a, b))
+    let fits = both(f.ok, with_third(f.bits, third, a, b));
+    both(fits, sheet.len() <= f.next)
 }
 
 // Reads a list sheet.

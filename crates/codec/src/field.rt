@@ -1,7 +1,7 @@
-// The parts that all sheets share: bit maps, and names by their places in the sheet. Each step answers a place in the sheet even where the sheet is broken, so
-// that steps follow one another with no way out between them, and a sheet is read where all of them are ok.
+// The parts that all sheets share: bit maps, and names by their places in the sheet. Each step answers a place in the sheet even where the
+// sheet is broken, so that steps follow one another with no way out between them; a sheet was read where all of them are ok.
 ghost use mathlib.Core.Path.{_≡_};
-ghost use mathlib.Core.Bool.{Bool, true, false, not};
+ghost use mathlib.Core.Bool.{false};
 ghost use mathlib.Core.Option.{Option·getD};
 ghost use Prim.Native.Nat.{_+_, _≤_, _<_};
 ghost use lib.ListN.{length};

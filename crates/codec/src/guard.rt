@@ -1,9 +1,10 @@
+// The depth guard: `enter_aggregate` and `leave_aggregate`, proved by hand over three small functions on numbers.
 ghost use mathlib.Core.Path.{_≡_};
-ghost use mathlib.Core.Bool.{false, not};
-ghost use Prim.Native.Nat.{_+_, _-_, _<_};
+ghost use mathlib.Core.Bool.{not};
+ghost use Prim.Native.Nat.{_+_, _-_};
 ghost use lib.Dec.{leb};
-ghost use Rattle.codec.specs.Guard.{refuses, entered, left};
 ghost use Rattle.lists.specs.Tests.{pick};
+ghost use Rattle.codec.specs.Guard.{refuses, entered, left};
 
 // The depth of shapes and its maximum, lent to enter and leave and changed by them.
 pub struct Guard {
@@ -11,12 +12,14 @@ pub struct Guard {
     pub max: u32,
 }
 
+// Whether an aggregate may be entered at a depth.
 fn may_enter(depth: u32, max: u32) -> bool
     ensures { λ r. ⌜ r ≡ not (leb max depth) ⌝ }
 {
     !(max <= depth)
 }
 
+// The depth in it, or the same where it may not be entered.
 fn deeper(depth: u32, max: u32) -> u32
     ensures { λ r. ⌜ r ≡ pick (leb max depth) depth (depth + 1) ⌝ }
 {
@@ -26,6 +29,7 @@ fn deeper(depth: u32, max: u32) -> u32
     depth + 1
 }
 
+// The depth outside of it.
 fn shallower(depth: u32) -> u32
     ensures { λ r. ⌜ r ≡ depth - 1 ⌝ }
 {
@@ -53,7 +57,7 @@ pub fn leave_aggregate(g: &mut Guard)
     g.depth = shallower(depth);
 }
 
-// Whether an aggregate at this depth is entered: by a guard of its own. Its parameters are plain, so whoever calls it needs no walk by hand.
+// Whether an aggregate at this depth is entered: by a guard of its own. Its parameters are plain, so that a caller needs no proof by hand.
 pub fn enters(depth: u32, max: u32) -> bool
     ensures { λ r. ⌜ r ≡ not (leb max depth) ⌝ }
 {

@@ -1,12 +1,14 @@
-// Structure sheets: a sheet that was read, its root's name, and its members by index. The members are one array of numbers, three a member: its bit map, the
-// place of its name in the sheet, and the name's length. Functions over them take the part that is filled, whose length says how many there are.
+// Structure sheets: a sheet that was read, its root's name, and its members by index and by name. The members are one array of numbers, three
+// a member: its bit map, the place of its name in the sheet, and the name's length. Functions over them take the part that is filled, whose
+// length says how many there are.
 ghost use mathlib.Core.Path.{_≡_};
 ghost use mathlib.Core.List.{[], _∷_};
 ghost use Prim.Native.Nat.{_+_, _*_, _≤_, _<_};
 ghost use lib.ListN.{length, getD};
 ghost use lib.Seq.{sets};
 ghost use Rattle.sheet.specs.Names.{attributeName, rootName};
-ghost use Rattle.codec.specs.Structure.{RootOf, HeadRead, CountRead, Storable, MembersRead, saidBy, MemberRead, isMember, MembersSaid, StructureSaid, StructureRead, nameless, Resolved};
+ghost use Rattle.codec.specs.Structure.{saidBy, nameless, MemberRead, MembersSaid, StructureSaid, StructureRead, isMember, Resolved};
+ghost use Rattle.codec.specs.Structure.{RootOf, HeadRead, CountRead, Storable, MembersRead};
 use crate::field::Span;
 use crate::field::both;
 use crate::field::bytes_at;
