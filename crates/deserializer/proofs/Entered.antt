@@ -1,0 +1,111 @@
+-- What each way through a reading gives, below the depth guard.
+use Prim.Native.Nat.{ℕ}
+use mathlib.Core.Path.{_≡_, refl, sym, _∙_, ap}
+use mathlib.Core.Bool.{Bool, true, false, not}
+use mathlib.Core.List.{List}
+use mathlib.Core.Option.{Option, none, some}
+use borrow.Author.Needs.{needs}
+use Rattle.refusal.specs.declared.Refusal.{Refusal}
+use Rattle.document.specs.Scope.{childrenOf}
+use Rattle.sheet.specs.declared.ShapeDepth.{ShapeDepth}
+use Rattle.sheet.specs.Settings.{Settings, isStrict, tooDeep}
+use Rattle.sheet.specs.Names.{itemName}
+use Rattle.codec.specs.declared.collection.ListSheet.{ListSheet}
+use Rattle.codec.specs.Collection.{listSaid, ListSaid, ListRead}
+use Rattle.readings.specs.Output.{Room, Output, nothing, Reading, refused}
+use Rattle.readings.specs.Collection.{readItems, readStrings, listReading, stringListReading}
+use Rattle.decode.specs.declared.reader.StartRow.{StartRow}
+use Rattle.decode.specs.declared.reader.Cursor.{Cursor}
+use Rattle.decode.specs.declared.view.View.{View}
+use Rattle.decode.specs.Reader.{childAt}
+use Rattle.decode.specs.View.{viewAt}
+use Rattle.output.specs.declared.Written.{Written}
+use Rattle.output.specs.declared.Step.{Step}
+use Rattle.output.specs.Held.{roomOf, writtenOf, Does}
+use Rattle.output.specs.Steps.{eachOf, tested}
+use Rattle.output.specs.Call.{ReadingCall}
+use Rattle.output.proofs.Called.{call-early, call-done, call-refused}
+use Rattle.opening.specs.declared.Opening.{Opening}
+use Rattle.opening.specs.Opening.{AskedIs, RootAt, asked-ok, asked-root, asked-early, asked-found}
+use Rattle.opening.specs.Level.{collected}
+use Rattle.list.specs.List.{itemOf}
+use Rattle.list.specs.StringList.{stringOf}
+use Rattle.list.specs.Call.{WholeIs, none-written}
+use Rattle.list.specs.StringCall.{StringsWholeIs}
+use Rattle.deserializer.specs.declared.Shape.{Shape}
+use Rattle.deserializer.specs.Call.{numberOf, EnteredRead}
+
+-- the guard was not entered exactly where the depth is too deep
+not-entered : {entered : Bool} (b : Bool) → entered ≡ not b → not entered ≡ b
+not-entered true e = ap not e
+not-entered false e = ap not e
+
+-- what a step did, called with nothing written, told as a call
+told : (reading : Room → Reading) (step : Room → Output → Reading) {e t e′ t′ : List ℕ} {r : Step} → reading (roomOf e t) ≡ step (roomOf e t) nothing
+    → Does step e t none-written e′ t′ r → ReadingCall reading e t e′ t′ (writtenOf r .count) (writtenOf r .used) (numberOf r)
+told reading step {e} {t} {e′} {t′} {r} p d = go r d
+  where
+    go : (r : Step) → Does step e t none-written e′ t′ r → ReadingCall reading e t e′ t′ (writtenOf r .count) (writtenOf r .used) (numberOf r)
+    go (Step.Done w) d = call-done reading step p d refl
+    go (Step.Refused why w) d = call-refused reading step p d refl refl
+
+-- ---- lists and string lists
+pub list-said : {body t : List ℕ} {final : ℕ} {sheet : List ℕ} {said : ListSheet} {deep strict : Bool} {r : Opening} {v : View} {s : StartRow} {c : Cursor} → ListRead sheet said
+    → AskedIs body t final (said .ok) deep strict r → r ≡ Opening.Found v s c → ListSaid sheet said
+list-said p a q = p .there (asked-ok a q)
+
+module _ (body t : List ℕ) (final : ℕ) (sheet : List ℕ) {said : ListSheet} (settings : Settings) (depth : ShapeDepth) (entered : Bool) (p : ListRead sheet said) {strict : Bool} {r : Opening}
+    (a : AskedIs body t final (said .ok) (not entered) strict r) (i : strict ≡ isStrict settings depth) where
+  too-deep : entered ≡ not (tooDeep settings depth) → not entered ≡ tooDeep settings depth
+  too-deep = not-entered (tooDeep settings depth)
+
+  pub list-refused : (e tx : List ℕ) {why : Refusal} → r ≡ Opening.Refused why
+      → EnteredRead Shape.List body t final sheet settings depth entered e tx e tx (Step.Refused why none-written)
+  unfolding listReading
+  list-refused e tx {why} q =
+      record {
+        read = λ g. record {
+          call = record { is = call-early (listReading body t final sheet settings depth) {why = why}
+              (rw (asked-early a settings depth (too-deep g) i (λ o. p .there o .said) (p .broken) q)) refl };
+        };
+      }
+
+  pub list-found : {v : View} {s : StartRow} {c : Cursor} {e e′ : List ℕ} (tx : List ℕ) {got : Step} → r ≡ Opening.Found v s c
+      → WholeIs body t v (itemName settings (listSaid sheet)) s c e e′ got → EnteredRead Shape.List body t final sheet settings depth entered e tx e′ tx got
+  unfolding listReading readItems collected eachOf tested itemOf
+  list-found {v} {s} {c} tx q x =
+      record {
+        read = λ g. record {
+          call = record { is = told (listReading body t final sheet settings depth)
+              (collected (itemOf body (viewAt t v) (itemName settings (listSaid sheet))) (childrenOf (childAt body t (v .count) s c)) (v .«ill_formed»))
+              (rw (asked-found a settings depth (too-deep g) i (λ o. p .there o .said) q)) (x .enters .is tx) };
+        };
+      }
+
+  pub strings-refused : (e tx : List ℕ) {why : Refusal} → r ≡ Opening.Refused why
+      → EnteredRead Shape.StringList body t final sheet settings depth entered e tx e tx (Step.Refused why none-written)
+  unfolding stringListReading
+  strings-refused e tx {why} q =
+      record {
+        read = λ g. record {
+          call = record { is = call-early (stringListReading body t final sheet settings depth) {why = why}
+              (rw (asked-early a settings depth (too-deep g) i (λ o. p .there o .said) (p .broken) q)) refl };
+        };
+      }
+
+  pub strings-found : {v : View} {s : StartRow} {c : Cursor} {e tx e′ tx′ : List ℕ} {got : Step} → r ≡ Opening.Found v s c
+      → StringsWholeIs body t v (itemName settings (listSaid sheet)) s c e tx e′ tx′ got
+      → EnteredRead Shape.StringList body t final sheet settings depth entered e tx e′ tx′ got
+  unfolding stringListReading readStrings collected eachOf tested stringOf
+  strings-found {v} {s} {c} q x =
+      record {
+        read = λ g. record {
+          call = record { is = told (stringListReading body t final sheet settings depth)
+              (collected (stringOf (viewAt t v) (itemName settings (listSaid sheet))) (childrenOf (childAt body t (v .count) s c)) (v .«ill_formed»))
+              (rw (asked-found a settings depth (too-deep g) i (λ o. p .there o .said) q)) (x .does) };
+        };
+      }
+
+pub ruleset list-laws = (needs, asked-root, list-said, list-refused, list-found)
+
+pub ruleset string-list-laws = (needs, asked-root, list-said, strings-refused, strings-found)

@@ -1,0 +1,49 @@
+-- The promise of a reading by a sheet: number, count, every entry, every text byte, and all else of both buffers as it was, on every input.
+use Prim.Native.Nat.{ℕ}
+use mathlib.Core.Path.{_≡_}
+use mathlib.Core.Bool.{Bool, not}
+use mathlib.Core.List.{List}
+use Rattle.refusal.specs.Numbers.{number}
+use Rattle.sheet.specs.declared.ShapeDepth.{ShapeDepth}
+use Rattle.sheet.specs.Settings.{Settings, tooDeep}
+use Rattle.readings.specs.Output.{Room}
+use Rattle.readings.specs.Structure.{OrderFor, structureReading}
+use Rattle.readings.specs.Collection.{listReading, mapReading, stringListReading}
+use Rattle.output.specs.declared.Step.{Step}
+use Rattle.output.specs.Held.{writtenOf}
+use Rattle.output.specs.Call.{ReadingCall}
+use Rattle.deserializer.specs.declared.Shape.{Shape}
+
+-- an answer's number: 0 where it finished
+abbrev pub numberOf : Step → ℕ
+numberOf (Step.Done w) = 0
+numberOf (Step.Refused why w) = number why
+
+-- What is asked of a reading, and what came of it: body, table, final position, sheet, settings and depth; both buffers as they were and as they are; how
+-- many entries and text bytes are written; and the number.
+
+-- a structure: "then the groups, in an order left open". There is an order in which each group comes once, and the answer is the definition's at it.
+pub record StructCall (body table : List ℕ) (final : ℕ) (sheet : List ℕ) (settings : Settings) (depth : ShapeDepth) (e t e′ t′ : List ℕ) (n m r : ℕ) : Type 0 where
+  pub order : List ℕ
+  pub ordered : OrderFor body table final sheet settings depth order
+  pub call : ReadingCall (λ (room : Room). structureReading body table final sheet settings depth room order) e t e′ t′ n m r
+
+-- any of the four
+abbrev pub ShapeCall : Shape → List ℕ → List ℕ → ℕ → List ℕ → Settings → ShapeDepth → List ℕ → List ℕ → List ℕ → List ℕ → ℕ → ℕ → ℕ → Type 0
+ShapeCall Shape.Struct body table final sheet settings depth = StructCall body table final sheet settings depth
+ShapeCall Shape.List body table final sheet settings depth = ReadingCall (listReading body table final sheet settings depth)
+ShapeCall Shape.Map body table final sheet settings depth = ReadingCall (mapReading body table final sheet settings depth)
+ShapeCall Shape.StringList body table final sheet settings depth = ReadingCall (stringListReading body table final sheet settings depth)
+
+-- THE PROMISE of a call
+pub record SheetCall (shape : Shape) (body table : List ℕ) (final : ℕ) (sheet : List ℕ) (settings : Settings) (depth : ShapeDepth) (e t e′ t′ : List ℕ) (n m r : ℕ) : Type 0 where
+  pub is : ShapeCall shape body table final sheet settings depth e t e′ t′ n m r
+
+-- of a step: its count, its bytes and its number
+pub record SheetRead (shape : Shape) (body table : List ℕ) (final : ℕ) (sheet : List ℕ) (settings : Settings) (depth : ShapeDepth) (e t e′ t′ : List ℕ) (r : Step) : Type 0 where
+  pub call : SheetCall shape body table final sheet settings depth e t e′ t′ (writtenOf r .count) (writtenOf r .used) (numberOf r)
+
+-- the same below the depth guard, which was entered or not
+pub record EnteredRead (shape : Shape) (body table : List ℕ) (final : ℕ) (sheet : List ℕ) (settings : Settings) (depth : ShapeDepth) (entered : Bool) (e t e′ t′ : List ℕ) (r : Step)
+    : Type 0 where
+  pub read : entered ≡ not (tooDeep settings depth) → SheetRead shape body table final sheet settings depth e t e′ t′ r
