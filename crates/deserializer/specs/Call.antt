@@ -1,11 +1,15 @@
 -- The promise of a reading by a sheet: number, count, every entry, every text byte, and all else of both buffers as it was, on every input.
-use Prim.Native.Nat.{ℕ}
+use Prim.Native.Nat.{ℕ, _/_, _%_}
 use mathlib.Core.Path.{_≡_}
 use mathlib.Core.Bool.{Bool, not}
 use mathlib.Core.List.{List}
+use lib.Dec.{eqb}
+use Rattle.lists.specs.Tests.{pick}
 use Rattle.refusal.specs.Numbers.{number}
 use Rattle.sheet.specs.declared.ShapeDepth.{ShapeDepth}
 use Rattle.sheet.specs.Settings.{Settings, tooDeep}
+use Rattle.codec.specs.declared.settings.Settings as codec
+use Rattle.codec.specs.Settings.{settingsOf}
 use Rattle.readings.specs.Output.{Room}
 use Rattle.readings.specs.Structure.{OrderFor, structureReading}
 use Rattle.readings.specs.Collection.{listReading, mapReading, stringListReading}
@@ -47,3 +51,36 @@ pub record SheetRead (shape : Shape) (body table : List ℕ) (final : ℕ) (shee
 pub record EnteredRead (shape : Shape) (body table : List ℕ) (final : ℕ) (sheet : List ℕ) (settings : Settings) (depth : ShapeDepth) (entered : Bool) (e t e′ t′ : List ℕ) (r : Step)
     : Type 0 where
   pub read : entered ≡ not (tooDeep settings depth) → SheetRead shape body table final sheet settings depth e t e′ t′ r
+
+-- ---- by numbers, for C
+-- flags: 1 validate_document, 2 validate_root_name, 4 strict_collection_element_names; other bits say nothing
+abbrev pub settingsBy : ℕ → ℕ → Settings
+settingsBy flags max =
+    record {
+      maxDepth = max;
+      validateDocument = eqb (flags % 2) 1;
+      validateRootName = eqb (flags / 2 % 2) 1;
+      strictCollectionElementNames = eqb (flags / 4 % 2) 1;
+    }
+
+abbrev pub shapeDepth : ℕ → ShapeDepth
+shapeDepth d = record { 0 = d }
+
+-- the settings that a struct stands for are those
+pub record SetBy (flags max : ℕ) (s : codec.Settings) : Type 0 where
+  pub is : settingsOf s ≡ settingsBy flags max
+
+-- a step told in numbers
+pub record Told (step : Step) (n m r : ℕ) : Type 0 where
+  pub count : n ≡ writtenOf step .count
+  pub length : m ≡ writtenOf step .used
+  pub number : r ≡ numberOf step
+
+-- a shape by its number: 1 structure, 2 list, 3 map, and any other a string list
+abbrev pub shapeOf : ℕ → Shape
+shapeOf kind = pick (eqb kind 1) Shape.Struct (pick (eqb kind 2) Shape.List (pick (eqb kind 3) Shape.Map Shape.StringList))
+
+-- a call below the depth guard, which was entered or not
+pub record EnteredCall (shape : Shape) (body table : List ℕ) (final : ℕ) (sheet : List ℕ) (settings : Settings) (depth : ShapeDepth) (entered : Bool) (e t e′ t′ : List ℕ) (n m r : ℕ)
+    : Type 0 where
+  pub call : entered ≡ not (tooDeep settings depth) → SheetCall shape body table final sheet settings depth e t e′ t′ n m r

@@ -1,6 +1,6 @@
 // The port of src/codec/deserializer.rs: the readings by a sheet, from what is asked first to 9 at the end. What each answers is defined in `readings`.
 ghost use Rattle.codec.specs.Settings.{settingsOf};
-ghost use Rattle.deserializer.specs.Call.{EnteredRead};
+ghost use Rattle.deserializer.specs.Call.{EnteredRead, SetBy, Told};
 use codec::settings::Settings;
 use opening::Opening;
 use output::Step;
@@ -15,8 +15,8 @@ pub enum Shape {
     StringList,
 }
 
-// The list reading, below the depth guard. It writes no text.
-fn list_entered(
+// The list reading, where the depth guard was entered or not. It writes no text.
+fn read_list(
     body: &[u8],
     rows: &[u32],
     end: u32,
@@ -48,8 +48,8 @@ fn list_entered(
     }
 }
 
-// The string list reading, below the depth guard.
-fn string_list_entered(
+// The string list reading, where the depth guard was entered or not.
+fn read_string_list(
     body: &[u8],
     rows: &[u32],
     end: u32,
@@ -79,5 +79,35 @@ fn string_list_entered(
             entries,
             texts,
         ),
+    }
+}
+
+// The settings that flags say: 1 validate_document, 2 validate_root_name, 4 strict_collection_element_names; other bits are passed over.
+pub fn settings_by(flags: u32, max_depth: u32) -> Settings
+    ensures { λ r. ⌜ SetBy flags «max_depth» r ⌝ }
+{
+    Settings {
+        max_depth,
+        validate_document: flags % 2 == 1,
+        validate_root_name: flags / 2 % 2 == 1,
+        strict_collection_element_names: flags / 4 % 2 == 1,
+    }
+}
+
+// The number of a step, and how many entries and text bytes are written.
+fn tell(step: Step, count: &mut usize, length: &mut usize) -> u32
+    ensures { λ r. ⌜ Told step (now (count .exit)) (now (length .exit)) r ⌝ }
+{
+    match step {
+        Step::Done(w) => {
+            *count = w.count;
+            *length = w.used;
+            0
+        }
+        Step::Refused(why, w) => {
+            *count = w.count;
+            *length = w.used;
+            refusal::number_of(why)
+        }
     }
 }

@@ -1,7 +1,7 @@
 use Rattle.deserializer.proofs.Entered.{list-laws}
 use borrow.Author.Needs.{needs}
-use Rattle.deserializer.proofs.list_entered.Statement.{statement}
-use Rattle.deserializer.proofs.list_entered.Tie as tie
+use Rattle.deserializer.proofs.read_list.Statement.{statement}
+use Rattle.deserializer.proofs.read_list.Tie as tie
 
 parse-list-requires : tie.Need-parse-list-requires
 parse-list-requires c κs = search needs
@@ -30,8 +30,8 @@ same-length c = search needs
 returns-2 : tie.Need-returns-2
 returns-2 c = search list-laws
 
-pub list-entered-spec : {M : Type 1} → statement M
-list-entered-spec =
+pub read-list-spec : {M : Type 1} → statement M
+read-list-spec =
     tie.close
     (tie.spec
     parse-list-requires

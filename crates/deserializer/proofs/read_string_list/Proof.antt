@@ -1,7 +1,7 @@
 use Rattle.deserializer.proofs.Entered.{string-list-laws}
 use borrow.Author.Needs.{needs}
-use Rattle.deserializer.proofs.string_list_entered.Statement.{statement}
-use Rattle.deserializer.proofs.string_list_entered.Tie as tie
+use Rattle.deserializer.proofs.read_string_list.Statement.{statement}
+use Rattle.deserializer.proofs.read_string_list.Tie as tie
 
 parse-list-requires : tie.Need-parse-list-requires
 parse-list-requires c κs = search needs
@@ -33,8 +33,8 @@ same-length-2 c = search needs
 returns-2 : tie.Need-returns-2
 returns-2 c = search string-list-laws
 
-pub string-list-entered-spec : {M : Type 1} → statement M
-string-list-entered-spec =
+pub read-string-list-spec : {M : Type 1} → statement M
+read-string-list-spec =
     tie.close
     (tie.spec
     parse-list-requires
