@@ -11,6 +11,7 @@ pub mod named;
 pub mod random;
 pub mod reader;
 pub mod readings;
+pub mod recorded;
 pub mod rules;
 pub mod shaped;
 pub mod sheets;
