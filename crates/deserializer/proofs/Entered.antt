@@ -5,12 +5,15 @@ use mathlib.Core.Bool.{Bool, true, false, not}
 use mathlib.Core.List.{List}
 use mathlib.Core.Option.{Option, none, some}
 use borrow.Author.Needs.{needs}
+use borrow.Author.Tests.{eq-eqb, ne-eqb}
 use Rattle.refusal.specs.declared.Refusal.{Refusal}
 use Rattle.document.specs.Scope.{childrenOf}
 use Rattle.sheet.specs.declared.ShapeDepth.{ShapeDepth}
 use Rattle.sheet.specs.Settings.{Settings, isStrict, tooDeep}
 use Rattle.sheet.specs.Names.{itemName}
+use Rattle.codec.specs.declared.settings.Settings as codec
 use Rattle.codec.specs.declared.collection.ListSheet.{ListSheet}
+use Rattle.codec.specs.Settings.{settingsOf}
 use Rattle.codec.specs.Collection.{listSaid, ListSaid, ListRead}
 use Rattle.readings.specs.Output.{Room, Output, nothing, Reading, refused}
 use Rattle.readings.specs.Collection.{readItems, readStrings, listReading, stringListReading}
@@ -33,7 +36,7 @@ use Rattle.list.specs.StringList.{stringOf}
 use Rattle.list.specs.Call.{WholeIs, none-written}
 use Rattle.list.specs.StringCall.{StringsWholeIs}
 use Rattle.deserializer.specs.declared.Shape.{Shape}
-use Rattle.deserializer.specs.Call.{numberOf, EnteredRead}
+use Rattle.deserializer.specs.Call.{numberOf, EnteredRead, EnteredCall, SetBy, Told, settingsBy, shapeOf}
 
 -- the guard was not entered exactly where the depth is too deep
 not-entered : {entered : Bool} (b : Bool) → entered ≡ not b → not entered ≡ b
@@ -109,3 +112,21 @@ module _ (body t : List ℕ) (final : ℕ) (sheet : List ℕ) {said : ListSheet}
 pub ruleset list-laws = (needs, asked-root, list-said, list-refused, list-found)
 
 pub ruleset string-list-laws = (needs, asked-root, list-said, strings-refused, strings-found)
+
+-- ---- told in numbers
+module _ {body table : List ℕ} {final : ℕ} {sheet : List ℕ} {flags max : ℕ} {s : codec.Settings} (b : SetBy flags max s) {depth : ShapeDepth} {entered : Bool} {e t e′ t′ : List ℕ} {step : Step}
+    {n m r : ℕ} (x : Told step n m r) where
+  told-call : {shape : Shape} → EnteredRead shape body table final sheet (settingsOf s) depth entered e t e′ t′ step
+      → EnteredCall shape body table final sheet (settingsBy flags max) depth entered e t e′ t′ n m r
+  told-call y = rw (← b .is, x .count, x .length, x .number) (record { call = λ g. y .read g .call })
+
+  module _ (kind : ℕ) where
+    pub told-list : kind ≡ 2 → EnteredRead Shape.List body table final sheet (settingsOf s) depth entered e t e′ t′ step
+        → EnteredCall (shapeOf kind) body table final sheet (settingsBy flags max) depth entered e t e′ t′ n m r
+    told-list q y = rw (eq-eqb kind 2 q) (told-call y)
+
+    pub told-strings : (kind ≡ 2 → ⊥) → EnteredRead Shape.StringList body table final sheet (settingsOf s) depth entered e t e′ t′ step
+        → EnteredCall (shapeOf kind) body table final sheet (settingsBy flags max) depth entered e t e′ t′ n m r
+    told-strings q y = rw (ne-eqb kind 2 q) (told-call y)
+
+pub ruleset told-laws = (needs, told-list, told-strings)

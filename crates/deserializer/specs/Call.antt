@@ -78,7 +78,7 @@ pub record Told (step : Step) (n m r : ℕ) : Type 0 where
 
 -- a shape by its number: 1 structure, 2 list, 3 map, and any other a string list
 abbrev pub shapeOf : ℕ → Shape
-shapeOf kind = pick (eqb kind 1) Shape.Struct (pick (eqb kind 2) Shape.List (pick (eqb kind 3) Shape.Map Shape.StringList))
+shapeOf kind = pick (eqb kind 2) Shape.List Shape.StringList
 
 -- a call below the depth guard, which was entered or not
 pub record EnteredCall (shape : Shape) (body table : List ℕ) (final : ℕ) (sheet : List ℕ) (settings : Settings) (depth : ShapeDepth) (entered : Bool) (e t e′ t′ : List ℕ) (n m r : ℕ)

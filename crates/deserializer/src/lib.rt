@@ -1,6 +1,7 @@
 // The port of src/codec/deserializer.rs: the readings by a sheet, from what is asked first to 9 at the end. What each answers is defined in `readings`.
 ghost use Rattle.codec.specs.Settings.{settingsOf};
-ghost use Rattle.deserializer.specs.Call.{EnteredRead, SetBy, Told};
+ghost use Rattle.deserializer.specs.Call.{EnteredRead, SetBy, Told, EnteredCall, SheetCall, settingsBy, shapeDepth, shapeOf};
+use codec::guard::Guard;
 use codec::settings::Settings;
 use opening::Opening;
 use output::Step;
@@ -110,4 +111,63 @@ fn tell(step: Step, count: &mut usize, length: &mut usize) -> u32
             refusal::number_of(why)
         }
     }
+}
+
+// A reading by its shape's number, where the depth guard was entered or not.
+fn read_entered(
+    kind: u32,
+    body: &[u8],
+    rows: &[u32],
+    end: u32,
+    sheet: &[u8],
+    flags: u32,
+    max_depth: u32,
+    depth: u32,
+    entered: bool,
+    entries: &mut [u32],
+    texts: &mut [u8],
+    count: &mut usize,
+    length: &mut usize,
+) -> u32
+    ensures { λ r. ⌜ EnteredCall (shapeOf kind) (now (body .entry)) (now (rows .entry)) end (now (sheet .entry)) (settingsBy flags «max_depth») (shapeDepth depth) entered
+        (now (entries .entry)) (now (texts .entry)) (now (entries .exit)) (now (texts .exit)) (now (count .exit)) (now (length .exit)) r ⌝ }
+{
+    let settings = settings_by(flags, max_depth);
+    let deep = ShapeDepth(depth);
+    if kind == 2 {
+        let step = read_list(body, rows, end, sheet, settings, deep, entered, entries, texts);
+        return tell(step, count, length);
+    }
+    let step = read_string_list(body, rows, end, sheet, settings, deep, entered, entries, texts);
+    tell(step, count, length)
+}
+
+// A reading by its shape's number: it enters by the depth guard and leaves by it, whatever came of it.
+pub fn read_sheet(
+    kind: u32,
+    body: &[u8],
+    rows: &[u32],
+    end: u32,
+    sheet: &[u8],
+    flags: u32,
+    max_depth: u32,
+    depth: u32,
+    entries: &mut [u32],
+    texts: &mut [u8],
+    count: &mut usize,
+    length: &mut usize,
+) -> u32
+    ensures { λ r. ⌜ SheetCall (shapeOf kind) (now (body .entry)) (now (rows .entry)) end (now (sheet .entry)) (settingsBy flags «max_depth») (shapeDepth depth)
+        (now (entries .entry)) (now (texts .entry)) (now (entries .exit)) (now (texts .exit)) (now (count .exit)) (now (length .exit)) r ⌝ }
+{
+    let mut guard = Guard {
+        depth,
+        max: max_depth,
+    };
+    let entered = codec::guard::enter_aggregate(&mut guard);
+    let number = read_entered(kind, body, rows, end, sheet, flags, max_depth, depth, entered, entries, texts, count, length);
+    if entered {
+        codec::guard::leave_aggregate(&mut guard);
+    }
+    number
 }

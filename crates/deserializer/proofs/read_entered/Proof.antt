@@ -1,0 +1,53 @@
+use Rattle.deserializer.proofs.Entered.{told-laws}
+use borrow.Author.Needs.{needs}
+use Rattle.deserializer.proofs.read_entered.Statement.{statement}
+use Rattle.deserializer.proofs.read_entered.Tie as tie
+
+settings-by-requires : tie.Need-settings-by-requires
+settings-by-requires c κs = search needs
+
+read-list-requires : tie.Need-read-list-requires
+read-list-requires c κs = search needs
+
+tell-requires : tie.Need-tell-requires
+tell-requires c κs = search needs
+
+same-length : tie.Need-same-length
+same-length c = search needs
+
+same-length-2 : tie.Need-same-length-2
+same-length-2 c = search needs
+
+returns : tie.Need-returns
+returns c = search told-laws
+
+read-string-list-requires : tie.Need-read-string-list-requires
+read-string-list-requires c κs = search needs
+
+tell-requires-2 : tie.Need-tell-requires-2
+tell-requires-2 c κs = search needs
+
+same-length-3 : tie.Need-same-length-3
+same-length-3 c = search needs
+
+same-length-4 : tie.Need-same-length-4
+same-length-4 c = search needs
+
+returns-2 : tie.Need-returns-2
+returns-2 c = search told-laws
+
+pub read-entered-spec : {M : Type 1} → statement M
+read-entered-spec =
+    tie.close
+    (tie.spec
+    settings-by-requires
+    read-list-requires
+    tell-requires
+    same-length
+    same-length-2
+    returns
+    read-string-list-requires
+    tell-requires-2
+    same-length-3
+    same-length-4
+    returns-2)
