@@ -1,10 +1,13 @@
 -- What each way through a reading gives, below the depth guard.
-use Prim.Native.Nat.{ℕ}
+use Prim.Native.Nat.{ℕ, _≤_, _<_}
 use mathlib.Core.Path.{_≡_, refl, sym, _∙_, ap}
 use mathlib.Core.Bool.{Bool, true, false, not}
-use mathlib.Core.List.{List}
+use mathlib.Core.List.{List, [], _∷_}
 use mathlib.Core.Option.{Option, none, some}
+use native.Mathlib.Omega.{arith}
 use borrow.Author.Needs.{needs}
+use lib.ListN.{length, getD, set}
+use Rattle.refusal.specs.Numbers.{number}
 use borrow.Author.Tests.{eq-eqb, ne-eqb}
 use Rattle.refusal.specs.declared.Refusal.{Refusal}
 use Rattle.document.specs.Scope.{childrenOf}
@@ -36,7 +39,7 @@ use Rattle.list.specs.StringList.{stringOf}
 use Rattle.list.specs.Call.{WholeIs, none-written}
 use Rattle.list.specs.StringCall.{StringsWholeIs}
 use Rattle.deserializer.specs.declared.Shape.{Shape}
-use Rattle.deserializer.specs.Call.{numberOf, EnteredRead, EnteredCall, SetBy, Told, settingsBy, shapeOf}
+use Rattle.deserializer.specs.Call.{numberOf, EnteredRead, EnteredCall, SetBy, Tells, settingsBy, shapeOf}
 
 -- the guard was not entered exactly where the depth is too deep
 not-entered : {entered : Bool} (b : Bool) → entered ≡ not b → not entered ≡ b
@@ -114,19 +117,39 @@ pub ruleset list-laws = (needs, asked-root, list-said, list-refused, list-found)
 pub ruleset string-list-laws = (needs, asked-root, list-said, strings-refused, strings-found)
 
 -- ---- told in numbers
+two-stored : (two : List ℕ) (a b : ℕ) → 2 ≤ length two → (getD (set (set two 0 a) 1 b) 0 0 ≡ a) × (getD (set (set two 0 a) 1 b) 1 0 ≡ b)
+two-stored [] a b h = absurd (omega arith)
+two-stored (x ∷ []) a b h = absurd (omega arith)
+two-stored (x ∷ y ∷ l) a b h = (refl, refl)
+
+module _ {step : Step} {two : List ℕ} where
+  pub tells-none : (r : ℕ) → length two < 2 → Tells step two two r
+  tells-none r h = record { count = λ g. absurd (omega arith); bytes = λ g. absurd (omega arith); number = λ g. absurd (omega arith) }
+
+  pub tells-done : {w : Written} → step ≡ Step.Done w → Tells step two (set (set two 0 (w .count)) 1 (w .used)) 0
+  tells-done {w} q =
+      rw q (record { count = λ h. two-stored two (w .count) (w .used) h .0; bytes = λ h. two-stored two (w .count) (w .used) h .1; number = λ h. refl })
+
+  pub tells-refused : {why : Refusal} {w : Written} {r : ℕ} → step ≡ Step.Refused why w → r ≡ number why
+      → Tells step two (set (set two 0 (w .count)) 1 (w .used)) r
+  tells-refused {why} {w} q e =
+      rw q (record { count = λ h. two-stored two (w .count) (w .used) h .0; bytes = λ h. two-stored two (w .count) (w .used) h .1; number = λ h. e })
+
+pub ruleset tells-laws = (needs, tells-none, tells-done, tells-refused)
+
 module _ {body table : List ℕ} {final : ℕ} {sheet : List ℕ} {flags max : ℕ} {s : codec.Settings} (b : SetBy flags max s) {depth : ShapeDepth} {entered : Bool} {e t e′ t′ : List ℕ} {step : Step}
-    {n m r : ℕ} (x : Told step n m r) where
+    {two two′ : List ℕ} {r : ℕ} (x : Tells step two two′ r) where
   told-call : {shape : Shape} → EnteredRead shape body table final sheet (settingsOf s) depth entered e t e′ t′ step
-      → EnteredCall shape body table final sheet (settingsBy flags max) depth entered e t e′ t′ n m r
-  told-call y = rw (← b .is, x .count, x .length, x .number) (record { call = λ g. y .read g .call })
+      → EnteredCall shape body table final sheet (settingsBy flags max) depth entered e t e′ t′ two two′ r
+  told-call y = rw (← b .is) (record { told = λ g. record { call = λ h. rw (x .count h, x .bytes h, x .number h) (y .read g .call) } })
 
   module _ (kind : ℕ) where
     pub told-list : kind ≡ 2 → EnteredRead Shape.List body table final sheet (settingsOf s) depth entered e t e′ t′ step
-        → EnteredCall (shapeOf kind) body table final sheet (settingsBy flags max) depth entered e t e′ t′ n m r
+        → EnteredCall (shapeOf kind) body table final sheet (settingsBy flags max) depth entered e t e′ t′ two two′ r
     told-list q y = rw (eq-eqb kind 2 q) (told-call y)
 
     pub told-strings : (kind ≡ 2 → ⊥) → EnteredRead Shape.StringList body table final sheet (settingsOf s) depth entered e t e′ t′ step
-        → EnteredCall (shapeOf kind) body table final sheet (settingsBy flags max) depth entered e t e′ t′ n m r
+        → EnteredCall (shapeOf kind) body table final sheet (settingsBy flags max) depth entered e t e′ t′ two two′ r
     told-strings q y = rw (ne-eqb kind 2 q) (told-call y)
 
 pub ruleset told-laws = (needs, told-list, told-strings)

@@ -1,9 +1,10 @@
 -- The promise of a reading by a sheet: number, count, every entry, every text byte, and all else of both buffers as it was, on every input.
-use Prim.Native.Nat.{ℕ, _/_, _%_}
+use Prim.Native.Nat.{ℕ, _/_, _%_, _≤_}
 use mathlib.Core.Path.{_≡_}
 use mathlib.Core.Bool.{Bool, not}
 use mathlib.Core.List.{List}
 use lib.Dec.{eqb}
+use lib.ListN.{length, getD}
 use Rattle.lists.specs.Tests.{pick}
 use Rattle.refusal.specs.Numbers.{number}
 use Rattle.sheet.specs.declared.ShapeDepth.{ShapeDepth}
@@ -70,17 +71,21 @@ shapeDepth d = record { 0 = d }
 pub record SetBy (flags max : ℕ) (s : codec.Settings) : Type 0 where
   pub is : settingsOf s ≡ settingsBy flags max
 
--- a step told in numbers
-pub record Told (step : Step) (n m r : ℕ) : Type 0 where
-  pub count : n ≡ writtenOf step .count
-  pub length : m ≡ writtenOf step .used
-  pub number : r ≡ numberOf step
+-- a step told in numbers, where two are lent for its count and its bytes
+pub record Tells (step : Step) (two two′ : List ℕ) (r : ℕ) : Type 0 where
+  pub count : 2 ≤ length two → getD two′ 0 0 ≡ writtenOf step .count
+  pub bytes : 2 ≤ length two → getD two′ 1 0 ≡ writtenOf step .used
+  pub number : 2 ≤ length two → r ≡ numberOf step
 
 -- a shape by its number: 1 structure, 2 list, 3 map, and any other a string list
 abbrev pub shapeOf : ℕ → Shape
 shapeOf kind = pick (eqb kind 2) Shape.List Shape.StringList
 
--- a call below the depth guard, which was entered or not
-pub record EnteredCall (shape : Shape) (body table : List ℕ) (final : ℕ) (sheet : List ℕ) (settings : Settings) (depth : ShapeDepth) (entered : Bool) (e t e′ t′ : List ℕ) (n m r : ℕ)
+-- a call whose count and bytes are told in two numbers that are lent for them
+pub record ToldCall (shape : Shape) (body table : List ℕ) (final : ℕ) (sheet : List ℕ) (settings : Settings) (depth : ShapeDepth) (e t e′ t′ two two′ : List ℕ) (r : ℕ) : Type 0 where
+  pub call : 2 ≤ length two → SheetCall shape body table final sheet settings depth e t e′ t′ (getD two′ 0 0) (getD two′ 1 0) r
+
+-- the same below the depth guard, which was entered or not
+pub record EnteredCall (shape : Shape) (body table : List ℕ) (final : ℕ) (sheet : List ℕ) (settings : Settings) (depth : ShapeDepth) (entered : Bool) (e t e′ t′ two two′ : List ℕ) (r : ℕ)
     : Type 0 where
-  pub call : entered ≡ not (tooDeep settings depth) → SheetCall shape body table final sheet settings depth e t e′ t′ n m r
+  pub told : entered ≡ not (tooDeep settings depth) → ToldCall shape body table final sheet settings depth e t e′ t′ two two′ r

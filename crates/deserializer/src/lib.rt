@@ -1,6 +1,6 @@
 // The port of src/codec/deserializer.rs: the readings by a sheet, from what is asked first to 9 at the end. What each answers is defined in `readings`.
 ghost use Rattle.codec.specs.Settings.{settingsOf};
-ghost use Rattle.deserializer.specs.Call.{EnteredRead, SetBy, Told, EnteredCall, SheetCall, settingsBy, shapeDepth, shapeOf};
+ghost use Rattle.deserializer.specs.Call.{EnteredRead, SetBy, Tells, EnteredCall, ToldCall, settingsBy, shapeDepth, shapeOf};
 use codec::guard::Guard;
 use codec::settings::Settings;
 use opening::Opening;
@@ -95,19 +95,22 @@ pub fn settings_by(flags: u32, max_depth: u32) -> Settings
     }
 }
 
-// The number of a step, and how many entries and text bytes are written.
-fn tell(step: Step, count: &mut usize, length: &mut usize) -> u32
-    ensures { λ r. ⌜ Told step (now (count .exit)) (now (length .exit)) r ⌝ }
+// The number of a step; how many entries and text bytes are written goes to two numbers that are lent for it.
+fn tell(step: Step, told: &mut [usize]) -> u32
+    ensures { λ r. ⌜ Tells step (now (told .entry)) (now (told .exit)) r ⌝ }
 {
+    if told.len() < 2 {
+        return 0;
+    }
     match step {
         Step::Done(w) => {
-            *count = w.count;
-            *length = w.used;
+            told[0] = w.count;
+            told[1] = w.used;
             0
         }
         Step::Refused(why, w) => {
-            *count = w.count;
-            *length = w.used;
+            told[0] = w.count;
+            told[1] = w.used;
             refusal::number_of(why)
         }
     }
@@ -126,20 +129,19 @@ fn read_entered(
     entered: bool,
     entries: &mut [u32],
     texts: &mut [u8],
-    count: &mut usize,
-    length: &mut usize,
+    told: &mut [usize],
 ) -> u32
     ensures { λ r. ⌜ EnteredCall (shapeOf kind) (now (body .entry)) (now (rows .entry)) end (now (sheet .entry)) (settingsBy flags «max_depth») (shapeDepth depth) entered
-        (now (entries .entry)) (now (texts .entry)) (now (entries .exit)) (now (texts .exit)) (now (count .exit)) (now (length .exit)) r ⌝ }
+        (now (entries .entry)) (now (texts .entry)) (now (entries .exit)) (now (texts .exit)) (now (told .entry)) (now (told .exit)) r ⌝ }
 {
     let settings = settings_by(flags, max_depth);
     let deep = ShapeDepth(depth);
     if kind == 2 {
         let step = read_list(body, rows, end, sheet, settings, deep, entered, entries, texts);
-        return tell(step, count, length);
+        return tell(step, told);
     }
     let step = read_string_list(body, rows, end, sheet, settings, deep, entered, entries, texts);
-    tell(step, count, length)
+    tell(step, told)
 }
 
 // A reading by its shape's number: it enters by the depth guard and leaves by it, whatever came of it.
@@ -154,18 +156,17 @@ pub fn read_sheet(
     depth: u32,
     entries: &mut [u32],
     texts: &mut [u8],
-    count: &mut usize,
-    length: &mut usize,
+    told: &mut [usize],
 ) -> u32
-    ensures { λ r. ⌜ SheetCall (shapeOf kind) (now (body .entry)) (now (rows .entry)) end (now (sheet .entry)) (settingsBy flags «max_depth») (shapeDepth depth)
-        (now (entries .entry)) (now (texts .entry)) (now (entries .exit)) (now (texts .exit)) (now (count .exit)) (now (length .exit)) r ⌝ }
+    ensures { λ r. ⌜ ToldCall (shapeOf kind) (now (body .entry)) (now (rows .entry)) end (now (sheet .entry)) (settingsBy flags «max_depth») (shapeDepth depth)
+        (now (entries .entry)) (now (texts .entry)) (now (entries .exit)) (now (texts .exit)) (now (told .entry)) (now (told .exit)) r ⌝ }
 {
     let mut guard = Guard {
         depth,
         max: max_depth,
     };
     let entered = codec::guard::enter_aggregate(&mut guard);
-    let number = read_entered(kind, body, rows, end, sheet, flags, max_depth, depth, entered, entries, texts, count, length);
+    let number = read_entered(kind, body, rows, end, sheet, flags, max_depth, depth, entered, entries, texts, told);
     if entered {
         codec::guard::leave_aggregate(&mut guard);
     }

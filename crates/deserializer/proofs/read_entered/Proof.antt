@@ -18,6 +18,9 @@ same-length c = search needs
 same-length-2 : tie.Need-same-length-2
 same-length-2 c = search needs
 
+same-length-3 : tie.Need-same-length-3
+same-length-3 c = search needs
+
 returns : tie.Need-returns
 returns c = search told-laws
 
@@ -27,11 +30,14 @@ read-string-list-requires c κs = search needs
 tell-requires-2 : tie.Need-tell-requires-2
 tell-requires-2 c κs = search needs
 
-same-length-3 : tie.Need-same-length-3
-same-length-3 c = search needs
-
 same-length-4 : tie.Need-same-length-4
 same-length-4 c = search needs
+
+same-length-5 : tie.Need-same-length-5
+same-length-5 c = search needs
+
+same-length-6 : tie.Need-same-length-6
+same-length-6 c = search needs
 
 returns-2 : tie.Need-returns-2
 returns-2 c = search told-laws
@@ -45,9 +51,11 @@ read-entered-spec =
     tell-requires
     same-length
     same-length-2
+    same-length-3
     returns
     read-string-list-requires
     tell-requires-2
-    same-length-3
     same-length-4
+    same-length-5
+    same-length-6
     returns-2)
