@@ -39,7 +39,9 @@ use Rattle.list.specs.StringList.{stringOf}
 use Rattle.list.specs.Call.{WholeIs, none-written}
 use Rattle.list.specs.StringCall.{StringsWholeIs}
 use Rattle.deserializer.specs.declared.Shape.{Shape}
-use Rattle.deserializer.specs.Call.{numberOf, EnteredRead, EnteredCall, SetBy, Tells, settingsBy, shapeOf}
+use Rattle.deserializer.specs.Call.{numberOf, EnteredRead, EnteredCall, SetBy, Tells, ToldCall, SheetCall, settingsBy, shapeOf}
+use Rattle.deserializer.specs.Demand.{Demanded}
+use Rattle.deserializer.proofs.Demand.{demanded}
 
 -- the guard was not entered exactly where the depth is too deep
 not-entered : {entered : Bool} (b : Bool) → entered ≡ not b → not entered ≡ b
@@ -71,8 +73,10 @@ module _ (body t : List ℕ) (final : ℕ) (sheet : List ℕ) {said : ListSheet}
   list-refused e tx {why} q =
       record {
         read = λ g. record {
-          call = record { is = call-early (listReading body t final sheet settings depth) {why = why}
-              (rw (asked-early a settings depth (too-deep g) i (λ o. p .there o .said) (p .broken) q)) refl };
+          call = record {
+            is = call-early (listReading body t final sheet settings depth) {why = why}
+                (rw (asked-early a settings depth (too-deep g) i (λ o. p .there o .said) (p .broken) q)) refl;
+          };
         };
       }
 
@@ -82,9 +86,11 @@ module _ (body t : List ℕ) (final : ℕ) (sheet : List ℕ) {said : ListSheet}
   list-found {v} {s} {c} tx q x =
       record {
         read = λ g. record {
-          call = record { is = told (listReading body t final sheet settings depth)
-              (collected (itemOf body (viewAt t v) (itemName settings (listSaid sheet))) (childrenOf (childAt body t (v .count) s c)) (v .«ill_formed»))
-              (rw (asked-found a settings depth (too-deep g) i (λ o. p .there o .said) q)) (x .enters .is tx) };
+          call = record {
+            is = told (listReading body t final sheet settings depth)
+                (collected (itemOf body (viewAt t v) (itemName settings (listSaid sheet))) (childrenOf (childAt body t (v .count) s c)) (v .«ill_formed»))
+                (rw (asked-found a settings depth (too-deep g) i (λ o. p .there o .said) q)) (x .enters .is tx);
+          };
         };
       }
 
@@ -94,8 +100,10 @@ module _ (body t : List ℕ) (final : ℕ) (sheet : List ℕ) {said : ListSheet}
   strings-refused e tx {why} q =
       record {
         read = λ g. record {
-          call = record { is = call-early (stringListReading body t final sheet settings depth) {why = why}
-              (rw (asked-early a settings depth (too-deep g) i (λ o. p .there o .said) (p .broken) q)) refl };
+          call = record {
+            is = call-early (stringListReading body t final sheet settings depth) {why = why}
+                (rw (asked-early a settings depth (too-deep g) i (λ o. p .there o .said) (p .broken) q)) refl;
+          };
         };
       }
 
@@ -106,9 +114,11 @@ module _ (body t : List ℕ) (final : ℕ) (sheet : List ℕ) {said : ListSheet}
   strings-found {v} {s} {c} q x =
       record {
         read = λ g. record {
-          call = record { is = told (stringListReading body t final sheet settings depth)
-              (collected (stringOf (viewAt t v) (itemName settings (listSaid sheet))) (childrenOf (childAt body t (v .count) s c)) (v .«ill_formed»))
-              (rw (asked-found a settings depth (too-deep g) i (λ o. p .there o .said) q)) (x .does) };
+          call = record {
+            is = told (stringListReading body t final sheet settings depth)
+                (collected (stringOf (viewAt t v) (itemName settings (listSaid sheet))) (childrenOf (childAt body t (v .count) s c)) (v .«ill_formed»))
+                (rw (asked-found a settings depth (too-deep g) i (λ o. p .there o .said) q)) (x .does);
+          };
         };
       }
 
@@ -153,3 +163,14 @@ module _ {body table : List ℕ} {final : ℕ} {sheet : List ℕ} {flags max : �
     told-strings q y = rw (ne-eqb kind 2 q) (told-call y)
 
 pub ruleset told-laws = (needs, told-list, told-strings)
+
+-- ---- two numbers of one's own are lent
+module _ {shape : Shape} {body table : List ℕ} {final : ℕ} {sheet : List ℕ} {settings : Settings} {depth : ShapeDepth} {e t e′ t′ two two′ : List ℕ} {r : ℕ}
+    (x : ToldCall shape body table final sheet settings depth e t e′ t′ two two′ r) (h : 2 ≤ length two) where
+  pub call-two : SheetCall shape body table final sheet settings depth e t e′ t′ (getD two′ 0 0) (getD two′ 1 0) r
+  call-two = x .call h
+
+  pub demand-two : Demanded shape body table final sheet settings depth e t e′ (getD two′ 0 0) r
+  demand-two = demanded call-two
+
+pub ruleset two-laws = (needs, call-two, demand-two)

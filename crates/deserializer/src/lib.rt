@@ -1,6 +1,7 @@
 // The port of src/codec/deserializer.rs: the readings by a sheet, from what is asked first to 9 at the end. What each answers is defined in `readings`.
 ghost use Rattle.codec.specs.Settings.{settingsOf};
-ghost use Rattle.deserializer.specs.Call.{EnteredRead, SetBy, Tells, EnteredCall, ToldCall, settingsBy, shapeDepth, shapeOf};
+ghost use Rattle.deserializer.specs.Call.{EnteredRead, SetBy, Tells, EnteredCall, ToldCall, SheetCall, settingsBy, shapeDepth, shapeOf};
+ghost use Rattle.deserializer.specs.Demand.{Demanded};
 use codec::guard::Guard;
 use codec::settings::Settings;
 use opening::Opening;
@@ -137,10 +138,30 @@ fn read_entered(
     let settings = settings_by(flags, max_depth);
     let deep = ShapeDepth(depth);
     if kind == 2 {
-        let step = read_list(body, rows, end, sheet, settings, deep, entered, entries, texts);
+        let step = read_list(
+            body,
+            rows,
+            end,
+            sheet,
+            settings,
+            deep,
+            entered,
+            entries,
+            texts,
+        );
         return tell(step, told);
     }
-    let step = read_string_list(body, rows, end, sheet, settings, deep, entered, entries, texts);
+    let step = read_string_list(
+        body,
+        rows,
+        end,
+        sheet,
+        settings,
+        deep,
+        entered,
+        entries,
+        texts,
+    );
     tell(step, told)
 }
 
@@ -166,9 +187,49 @@ pub fn read_sheet(
         max: max_depth,
     };
     let entered = codec::guard::enter_aggregate(&mut guard);
-    let number = read_entered(kind, body, rows, end, sheet, flags, max_depth, depth, entered, entries, texts, told);
+    let number = read_entered(
+        kind,
+        body,
+        rows,
+        end,
+        sheet,
+        flags,
+        max_depth,
+        depth,
+        entered,
+        entries,
+        texts,
+        told,
+    );
     if entered {
         codec::guard::leave_aggregate(&mut guard);
     }
+    number
+}
+
+// A reading by its shape's number, with how many entries and text bytes are written. A caller of this needs no proof by hand.
+pub fn read(
+    kind: u32,
+    body: &[u8],
+    rows: &[u32],
+    end: u32,
+    sheet: &[u8],
+    flags: u32,
+    max_depth: u32,
+    depth: u32,
+    entries: &mut [u32],
+    texts: &mut [u8],
+    count: &mut usize,
+    length: &mut usize,
+) -> u32
+    ensures { λ r. ⌜ SheetCall (shapeOf kind) (now (body .entry)) (now (rows .entry)) end (now (sheet .entry)) (settingsBy flags «max_depth») (shapeDepth depth)
+        (now (entries .entry)) (now (texts .entry)) (now (entries .exit)) (now (texts .exit)) (now (count .exit)) (now (length .exit)) r ⌝ }
+    ensures demand { λ r. ⌜ Demanded (shapeOf kind) (now (body .entry)) (now (rows .entry)) end (now (sheet .entry)) (settingsBy flags «max_depth») (shapeDepth depth)
+        (now (entries .entry)) (now (texts .entry)) (now (entries .exit)) (now (count .exit)) r ⌝ }
+{
+    let mut told = [0usize; 2];
+    let number = read_sheet(kind, body, rows, end, sheet, flags, max_depth, depth, entries, texts, &mut told);
+    *count = told[0];
+    *length = told[1];
     number
 }

@@ -15,6 +15,7 @@ use falzheod::falzheod_read_struct;
 
 // What stands in the buffers before a call.
 const MARK: u32 = 77;
+
 const BYTE: u8 = 0x7e;
 
 // What is asked of a reading by a sheet, beside the table and the sheet.
@@ -86,15 +87,63 @@ fn call(
     length: &mut usize,
 ) -> u32 {
     if operation == b's' {
-        return falzheod_read_struct(body, rows, a.end, sheet, a.flags, a.max_depth, a.depth, entries, texts, count, length);
+        return falzheod_read_struct(
+            body,
+            rows,
+            a.end,
+            sheet,
+            a.flags,
+            a.max_depth,
+            a.depth,
+            entries,
+            texts,
+            count,
+            length,
+        );
     }
     if operation == b'l' {
-        return falzheod_read_list(body, rows, a.end, sheet, a.flags, a.max_depth, a.depth, entries, texts, count, length);
+        return falzheod_read_list(
+            body,
+            rows,
+            a.end,
+            sheet,
+            a.flags,
+            a.max_depth,
+            a.depth,
+            entries,
+            texts,
+            count,
+            length,
+        );
     }
     if operation == b'm' {
-        return falzheod_read_map(body, rows, a.end, sheet, a.flags, a.max_depth, a.depth, entries, texts, count, length);
+        return falzheod_read_map(
+            body,
+            rows,
+            a.end,
+            sheet,
+            a.flags,
+            a.max_depth,
+            a.depth,
+            entries,
+            texts,
+            count,
+            length,
+        );
     }
-    falzheod_read_string_list(body, rows, a.end, sheet, a.flags, a.max_depth, a.depth, entries, texts, count, length)
+    falzheod_read_string_list(
+        body,
+        rows,
+        a.end,
+        sheet,
+        a.flags,
+        a.max_depth,
+        a.depth,
+        entries,
+        texts,
+        count,
+        length,
+    )
 }
 
 // Whether a reading answers this number, these entries and these texts, and writes nothing else.
@@ -112,7 +161,17 @@ fn reads_to(
     let mut texts = [BYTE; 512];
     let mut count: usize = 77;
     let mut length: usize = 77;
-    let answer = call(operation, body, rows, sheet, a, &mut entries, &mut texts, &mut count, &mut length);
+    let answer = call(
+        operation,
+        body,
+        rows,
+        sheet,
+        a,
+        &mut entries,
+        &mut texts,
+        &mut count,
+        &mut length,
+    );
     if answer != number {
         return false;
     }
@@ -131,12 +190,29 @@ fn refuses_with(body: &[u8], rows: &[u32], sheet: &[u8], a: Asked, number: u32) 
     let mut texts = [BYTE; 512];
     let mut count: usize = 77;
     let mut length: usize = 77;
-    let answer = call(b't', body, rows, sheet, a, &mut entries, &mut texts, &mut count, &mut length);
+    let answer = call(
+        b't',
+        body,
+        rows,
+        sheet,
+        a,
+        &mut entries,
+        &mut texts,
+        &mut count,
+        &mut length,
+    );
     answer == number && number != 0
 }
 
 // The answer: fields 9 and 10.
-fn replay_answer(operation: u8, line: &[u8], body: &[u8], rows: &[u32], sheet: &[u8], a: Asked) -> Outcome {
+fn replay_answer(
+    operation: u8,
+    line: &[u8],
+    body: &[u8],
+    rows: &[u32],
+    sheet: &[u8],
+    a: Asked,
+) -> Outcome {
     let number = number(line, 8);
     if field::is_past(line, 9) {
         return Outcome::Reading {
@@ -158,7 +234,16 @@ fn replay_answer(operation: u8, line: &[u8], body: &[u8], rows: &[u32], sheet: &
         return Outcome::Malformed;
     }
     Outcome::Reading {
-        agrees: reads_to(operation, body, rows, sheet, a, number, &numbers[0..n], &texts[0..m]),
+        agrees: reads_to(
+            operation,
+            body,
+            rows,
+            sheet,
+            a,
+            number,
+            &numbers[0..n],
+            &texts[0..m],
+        ),
     }
 }
 
@@ -184,7 +269,14 @@ fn replay_sheet(operation: u8, line: &[u8], body: &[u8], rows: &[u32]) -> Outcom
 // refusal.
 fn reads_boolean(line: &[u8], body: &[u8], rows: &[u32]) -> bool {
     let mut value = MARK;
-    let answer = falzheod_read_boolean(body, rows, number(line, 2), number(line, 4), number(line, 5), &mut value);
+    let answer = falzheod_read_boolean(
+        body,
+        rows,
+        number(line, 2),
+        number(line, 4),
+        number(line, 5),
+        &mut value,
+    );
     if answer != number(line, 6) {
         return false;
     }
@@ -205,7 +297,14 @@ fn recorded_integer(line: &[u8]) -> i64 {
 
 fn reads_integer(line: &[u8], body: &[u8], rows: &[u32]) -> bool {
     let mut value: i32 = 77;
-    let answer = falzheod_read_integer(body, rows, number(line, 2), number(line, 4), number(line, 5), &mut value);
+    let answer = falzheod_read_integer(
+        body,
+        rows,
+        number(line, 2),
+        number(line, 4),
+        number(line, 5),
+        &mut value,
+    );
     if answer != number(line, 6) {
         return false;
     }
@@ -248,7 +347,14 @@ fn finds(line: &[u8], body: &[u8], rows: &[u32]) -> bool {
     }
     let mut start: usize = 77;
     let mut length: usize = 77;
-    let answer = falzheod_find(body, rows, number(line, 2), &name[0..n], &mut start, &mut length);
+    let answer = falzheod_find(
+        body,
+        rows,
+        number(line, 2),
+        &name[0..n],
+        &mut start,
+        &mut length,
+    );
     if answer != number(line, 5) {
         return false;
     }
