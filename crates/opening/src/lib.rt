@@ -23,7 +23,7 @@ pub enum Opening {
 }
 
 // The root of a table that obeys the rules, or 4.
-fn root(strict: bool, body: &[u8], rows: &[u32], end: usize) -> Opening
+pub fn root(strict: bool, body: &[u8], rows: &[u32], end: usize) -> Opening
     requires { ⌜ TableRules (now body) (now rows) end ⌝ }
     ensures { λ r. ⌜ OpeningIs (now (body .entry)) (now (rows .entry)) (rooted (now (body .entry)) (view strict (now (body .entry)) (rowsOf (now (rows .entry))) end)) r ⌝ }
 {
