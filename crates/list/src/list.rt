@@ -10,14 +10,14 @@ ghost use Rattle.codec.specs.Settings.{settingsOf};
 ghost use Rattle.codec.specs.Collection.{listSaid, ListSaid};
 use codec::collection::ListSheet;
 use codec::settings::Settings;
-use output::Step;
-use output::Written;
 use decode::reader::Cursor;
 use decode::reader::Next;
 use decode::reader::Past;
+use decode::reader::ScopeRow;
 use decode::reader::StartRow;
 use decode::view::View;
-use decode::reader::ScopeRow;
+use output::Step;
+use output::Written;
 
 // Writes an element as a piece, if it is wanted.
 fn read_item(

@@ -12,14 +12,14 @@ ghost use Rattle.list.specs.StringCall.{StringsWholeIs};
 use codec::collection::ListSheet;
 use codec::settings::Settings;
 use decode::name::span;
-use output::Step;
-use output::Written;
 use decode::reader::Cursor;
 use decode::reader::Next;
+use decode::reader::ScopeRow;
 use decode::reader::StartRow;
 use decode::text::Text;
 use decode::view::View;
-use decode::reader::ScopeRow;
+use output::Step;
+use output::Written;
 
 // Writes what a first text came to.
 fn put_text(

@@ -24,6 +24,7 @@ use Rattle.decode.specs.declared.reader.StartRow.{StartRow}
 use Rattle.decode.specs.declared.reader.Next.{Next}
 use Rattle.decode.specs.declared.view.View.{View}
 use Rattle.decode.specs.Reader.{Outside, NextIs, childAt, DroppedIs}
+use Rattle.decode.specs.View.{Viewed}
 use Rattle.decode.proofs.Places.{start-scope}
 use Rattle.output.specs.declared.Written.{Written}
 use Rattle.output.specs.declared.Step.{Step}
@@ -44,7 +45,7 @@ use Rattle.opening.proofs.Level.{found-in, found-start, found-outside, 
 module _ (body t : List ℕ) (v : View) (nm : Option (List ℕ)) (f : Child → Room → Output → Reading) (g : Room → Output → Reading) (most : ℕ)
     (s : StartRow) (c : Cursor) {u : Bool} (e : u ≡ wanted nm (nameAt body t (s .row)))
     (same : (room : Room) (out : Output)
-        → f (childAt body t (v .count) s c) room out ≡ pick (isWanted nm (childAt body t (v .count) s c)) (g room out) (finished out)) where
+    → f (childAt body t (v .count) s c) room out ≡ pick (isWanted nm (childAt body t (v .count) s c)) (g room out) (finished out)) where
   passes : u ≡ false → (room : Room) (out : Output) → f (childAt body t (v .count) s c) room out ≡ finished out
   passes q room out = let z = same room out in rw (is-it body t (v .count) nm s c e, q) at z
 
@@ -66,6 +67,7 @@ module _ (body t : List ℕ) (v : View) (nm : Option (List ℕ)) (f : Child → 
 pub record ChildrenAt (body t : List ℕ) (v : View) (f : Child → Room → Output → Reading) (most : ℕ) (past : Child → Reader) (s : ScopeRow)
     (c₀ : Cursor) (en tx en′ tx′ : List ℕ) (w : Written) (c : Cursor) : Type 0 where
   pub short : Shortens past
+  pub viewed : Viewed body t v
   pub stands : Outside body t (v .count) (c .depth .0) (c .row)
   pub few : w .used ≤ c .row * most
   pub mid : Midway (eachOf f (children (levelAt past body t (v .count) s c₀))) (eachOf f (children (levelAt past body t (v .count) s c)))
@@ -73,10 +75,12 @@ pub record ChildrenAt (body t : List ℕ) (v : View) (f : Child → Room → Out
 
 module _ {past : Child → Reader} (short : Shortens past) {body t : List ℕ} {v : View} (f : Child → Room → Output → Reading) (most : ℕ)
     (s : ScopeRow) (c : Cursor) (en tx : List ℕ) where
-  pub children-start : Outside body t (v .count) (c .depth .0) (c .row) → ChildrenAt body t v f most past s c en tx en tx none-written c
-  children-start o =
+  pub children-start : Viewed body t v → Outside body t (v .count) (c .depth .0) (c .row)
+      → ChildrenAt body t v f most past s c en tx en tx none-written c
+  children-start q o =
       record {
         short = short;
+        viewed = q;
         stands = o;
         few = omega arith;
         mid = midway-start (eachOf f (children (levelAt past body t (v .count) s c))) en tx none-written;
@@ -119,6 +123,7 @@ module _ {body t : List ℕ} {v : View} {f : Child → Room → Output → Readi
           let next : c .row + 1 ≤ u .row = omega (arith, h .since, h .start .low, h .past, y .later) in
           record {
             short = at .short;
+            viewed = at .viewed;
             stands = y .stands;
             few = omega (arith, used-next (d .adds) sound (d .does) q, at .few, mul-le-mul-right most next);
             mid =
@@ -132,7 +137,8 @@ module _ {body t : List ℕ} {v : View} {f : Child → Room → Output → Readi
 
 -- ---- where each child is dropped
 module _ {body t : List ℕ} {v : View} (f : Child → Room → Output → Reading) (most : ℕ) (s : ScopeRow) (c : Cursor) (en tx : List ℕ) where
-  pub dropping-start : Outside body t (v .count) (c .depth .0) (c .row) → ChildrenAt body t v f most dropping s c en tx en tx none-written c
+  pub dropping-start : Viewed body t v → Outside body t (v .count) (c .depth .0) (c .row)
+      → ChildrenAt body t v f most dropping s c en tx en tx none-written c
   dropping-start = children-start dropping-shortens f most s c en tx
 
 pub dropping-on : {body t : List ℕ} {v : View} {f : Child → Room → Output → Reading} {most : ℕ} {s : ScopeRow} {c₀ : Cursor}
@@ -171,8 +177,8 @@ pub record EntersAt (body t : List ℕ) (v : View) (f : Child → Room → Outpu
   pub is : (tx : List ℕ) → ChildrenAt body t v f 0 dropping s c₀ en tx en′ tx w c
 
 pub enters-start : {body t : List ℕ} {v : View} (f : Child → Room → Output → Reading) (s : ScopeRow) (c : Cursor) (en : List ℕ)
-    → Outside body t (v .count) (c .depth .0) (c .row) → EntersAt body t v f s c en en none-written c
-enters-start f s c en o = record { stands = o; is = λ tx. dropping-start f 0 s c en tx o }
+    → Viewed body t v → Outside body t (v .count) (c .depth .0) (c .row) → EntersAt body t v f s c en en none-written c
+enters-start f s c en q o = record { stands = o; is = λ tx. dropping-start f 0 s c en tx q o }
 
 module _ {body t : List ℕ} {v : View} {f : Child → Room → Output → Reading} {s : ScopeRow} {c₀ : Cursor} {en en′ : List ℕ} {w : Written}
     {c : Cursor} (at : EntersAt body t v f s c₀ en en′ w c) where

@@ -51,14 +51,7 @@ pub fn open(strict: bool, body: &[u8], rows: &[u32], end: u32) -> Opening
 }
 
 // "1, 2, 3, 4": whether the sheet could be read and whether the depth is too deep were found out before.
-pub fn ask(
-    body: &[u8],
-    rows: &[u32],
-    end: u32,
-    said: bool,
-    deep: bool,
-    strict: bool,
-) -> Opening
+pub fn ask(body: &[u8], rows: &[u32], end: u32, said: bool, deep: bool, strict: bool) -> Opening
     ensures { λ r. ⌜ AskedIs (now (body .entry)) (now (rows .entry)) end said deep strict r ⌝ }
 {
     if !table::obeys(body, rows, end) {
