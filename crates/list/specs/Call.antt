@@ -29,8 +29,10 @@ use Rattle.output.specs.Steps.{eachOf, tested}
 use Rattle.output.specs.Call.{ReadingCall}
 use Rattle.output.proofs.Called.{call-early, call-done, call-refused}
 use Rattle.opening.specs.Wanted.{nameIf}
-use Rattle.opening.specs.Opening.{AskedIs, asked-ok, asked-root, asked-early, asked-found, root-viewed, root-start, root-stands}
-use Rattle.opening.specs.Level.{collected, lastOf, collected-does}
+use Rattle.opening.specs.Opening.{AskedIs}
+use Rattle.opening.proofs.Asked.{asked-ok, asked-root, asked-early, asked-found, root-viewed, root-start, root-stands}
+use Rattle.opening.specs.Level.{collected, lastOf}
+use Rattle.opening.proofs.Last.{collected-does}
 use Rattle.list.specs.List.{itemOf, ListIs}
 
 -- nothing is written yet

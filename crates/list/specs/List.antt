@@ -32,8 +32,10 @@ use Rattle.output.specs.declared.Step.{Step}
 use Rattle.output.specs.Steps.{piece, eachOf}
 use Rattle.output.specs.Held.{Enters}
 use Rattle.output.proofs.Then.{Midway, midway-start, each-goes, each-stops, each-ends, does-as}
-use Rattle.opening.specs.Wanted.{wanted, is-it}
-use Rattle.opening.specs.Level.{left, found-start, found-outside, none-left, one-left, less-left}
+use Rattle.opening.specs.Wanted.{wanted}
+use Rattle.opening.proofs.Wanted.{is-it}
+use Rattle.opening.specs.Level.{left}
+use Rattle.opening.proofs.Level.{found-start, found-outside, none-left, one-left, less-left}
 
 -- a child of the root, with the room last
 unfoldable pub itemOf : List ℕ → doc.View → Option (List ℕ) → Child → Room → Output → Reading

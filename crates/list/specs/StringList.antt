@@ -36,8 +36,10 @@ use Rattle.output.specs.Held.{Does, Ready, Sound, Adds}
 use Rattle.output.proofs.Room.{stays}
 use Rattle.output.proofs.Then.{Midway, midway-start, each-goes, each-stops, each-ends, does-as}
 use Rattle.output.proofs.Sound.{sound-nothing, sound-next, used-next, text-adds}
-use Rattle.opening.specs.Wanted.{wanted, is-it}
-use Rattle.opening.specs.Level.{left, found-in, found-start, found-outside, none-left, one-left, less-left}
+use Rattle.opening.specs.Wanted.{wanted}
+use Rattle.opening.proofs.Wanted.{is-it}
+use Rattle.opening.specs.Level.{left}
+use Rattle.opening.proofs.Level.{found-in, found-start, found-outside, none-left, one-left, less-left}
 
 -- what a text comes to, written; and a child of the root; with the room last
 unfoldable pub answered : Answer (List ℕ) → Room → Output → Reading

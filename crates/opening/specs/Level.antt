@@ -1,92 +1,77 @@
--- The children of an element one after another, as the walks over rows meet them; and "9 last".
-use Prim.Native.Nat.{ℕ, _-_, _<_}
-use mathlib.Core.Path.{_≡_, refl, sym, _∙_, ap}
+-- The children of an element one after another, as the walks over rows meet them; what a function that reads one of them, those of a scope
+-- or those of an element promises, by the definition's step for a child; and "9 last".
+use Prim.Native.Nat.{ℕ, _≤_}
+use mathlib.Core.Path.{_≡_}
 use mathlib.Core.Bool.{Bool, true, false}
-use mathlib.Core.List.{List, [], _∷_}
-use native.Mathlib.Omega.{arith}
-use borrow.Author.Needs.{needs}
+use mathlib.Core.List.{List}
 use Rattle.refusal.specs.declared.Refusal.{Refusal}
 use Rattle.document.specs.Reader.{Reader}
-use Rattle.document.specs.Scope.{Child, onNext, children, dropping}
-use Rattle.document.specs.Laws.Fuel.{levelFrom, level-step, dropping-shortens}
+use Rattle.document.specs.Scope.{Child, Level, children, levelIn, dropping}
+use Rattle.document.specs.Laws.Fuel.{levelFrom}
 use Rattle.readings.specs.Output.{Room, Output, Reading, andThen}
 use Rattle.decode.specs.declared.reader.ScopeRow.{ScopeRow}
 use Rattle.decode.specs.declared.reader.Cursor.{Cursor}
-use Rattle.decode.specs.declared.reader.Past.{Past}
 use Rattle.decode.specs.declared.reader.StartRow.{StartRow}
-use Rattle.decode.specs.declared.reader.Next.{Next}
-use Rattle.decode.specs.Reader.{scopeAt, readerAt, Outside, nextAt, StartIn, FoundIn, NextIs, childAt, DroppedIs}
+use Rattle.decode.specs.declared.view.View.{View}
+use Rattle.decode.specs.Reader.{scopeAt, readerAt, childAt, Outside}
 use Rattle.output.specs.declared.Written.{Written}
 use Rattle.output.specs.declared.Step.{Step}
-use Rattle.output.specs.Held.{Does}
-use Rattle.output.proofs.Then.{Midway, midway-start, midway-goes, midway-stops, midway-last, tested-well, tested-ill}
+use Rattle.output.specs.Held.{Does, Adds}
 use Rattle.output.specs.Steps.{eachOf, tested}
 
--- those that a reader has before it
+-- the level that a reader has before it, where `past` says where the reader stands after a child
+abbrev pub levelAt : (Child → Reader) → List ℕ → List ℕ → ℕ → ScopeRow → Cursor → Level
+levelAt past body t n s c = levelFrom past (scopeAt body t s) (readerAt body t n c)
+
+-- its children, where each is dropped
 abbrev pub left : List ℕ → List ℕ → ℕ → ScopeRow → Cursor → List Child
-left body t n s c = children (levelFrom dropping (scopeAt body t s) (readerAt body t n c))
+left body t n s c = children (levelAt dropping body t n s c)
 
--- ---- what the search finds
-module _ {body t : List ℕ} {n : ℕ} {s : ScopeRow} {d k : ℕ} {r : Next} (x : NextIs body t n s d k r) {st : StartRow} {i : Cursor} (e : r ≡ Next.Found st i) where
-  pub found-in : FoundIn body t n k st i
-  found-in = rw e at (x .met)
+-- the reader that is meant, at a place no earlier than another
+pub record AfterIs (body t : List ℕ) (n : ℕ) (c : Cursor) (is : Reader) (r : Cursor) : Type 0 where
+  pub same : readerAt body t n r ≡ is
+  pub stands : Outside body t n (r .depth .0) (r .row)
+  pub later : c .row ≤ r .row
 
-  pub found-start : StartIn body t n st
-  found-start = found-in .start
+-- nothing is written yet
+abbrev pub none-written : Written
+none-written = record { count = 0; used = 0 }
 
-  pub found-outside : Outside body t n (i .depth .0) (i .row)
-  found-outside = found-in .stands
+-- ---- `f` is the definition's step for a child, which adds at most `most` text bytes
+-- one child
+pub record ChildDoes (body t : List ℕ) (v : View) (f : Child → Room → Output → Reading) (most : ℕ) (s : StartRow) (c : Cursor)
+    (en tx : List ℕ) (w : Written) (en′ tx′ : List ℕ) (r : Step) : Type 0 where
+  pub does : Does (f (childAt body t (v .count) s c)) en tx w en′ tx′ r
+  pub adds : Adds (f (childAt body t (v .count) s c)) most
 
-module _ {body t : List ℕ} {n : ℕ} {s : ScopeRow} {c : Cursor} {r : Next} (x : NextIs body t n s (c .depth .0) (c .row) r) where
-  -- one turn of the definition
-  turn : levelFrom dropping (scopeAt body t s) (readerAt body t n c) ≡ onNext dropping (levelFrom dropping (scopeAt body t s)) (nextAt body t n r)
-  turn = level-step dropping dropping-shortens (scopeAt body t s) (readerAt body t n c) ∙ ap (onNext dropping (levelFrom dropping (scopeAt body t s))) (sym (x .is))
+-- those of a scope from a place on, with nothing written before
+pub record ChildrenDo (body t : List ℕ) (v : View) (f : Child → Room → Output → Reading) (past : Child → Reader) (s : ScopeRow) (c : Cursor)
+    (en tx en′ tx′ : List ℕ) (r : Step) : Type 0 where
+  pub does : Does (eachOf f (children (levelAt past body t (v .count) s c))) en tx none-written en′ tx′ r
 
-  pub none-left : {p : Past} → r ≡ Next.Gone p → left body t n s c ≡ []
-  unfolding children
-  none-left {p} e = ap children (rw e at turn)
+-- those of an element
+pub record ElementDoes (body t : List ℕ) (v : View) (f : Child → Room → Output → Reading) (past : Child → Reader) (s : StartRow) (c : Cursor)
+    (en tx en′ tx′ : List ℕ) (r : Step) : Type 0 where
+  pub does : Does (eachOf f (children (levelIn past (childAt body t (v .count) s c)))) en tx none-written en′ tx′ r
 
-  module _ {st : StartRow} {i : Cursor} (e : r ≡ Next.Found st i) {p : Past} (y : DroppedIs body t n st i p) where
-    pub one-left : left body t n s c ≡ childAt body t n st i ∷ left body t n s (p .at)
-    unfolding children
-    one-left =
-        ap children (rw e at turn)
-        ∙ ap (λ (q : Reader). childAt body t n st i ∷ children (levelFrom dropping (scopeAt body t s) q)) (sym (ap (λ q. q .reader) (y .is)))
+-- the same of a function that is not lent the texts, whatever they are
+pub record ChildEnters (body t : List ℕ) (v : View) (f : Child → Room → Output → Reading) (s : StartRow) (c : Cursor) (en : List ℕ)
+    (w : Written) (en′ : List ℕ) (r : Step) : Type 0 where
+  pub is : (tx : List ℕ) → ChildDoes body t v f 0 s c en tx w en′ tx r
 
-    pub less-left : n - p .at .row < n - c .row
-    less-left = let f = found-in x e in omega (arith, f .since, f .start .low, f .start .high, f .past, y .later)
+pub record ChildrenEnter (body t : List ℕ) (v : View) (f : Child → Room → Output → Reading) (past : Child → Reader) (s : ScopeRow) (c : Cursor)
+    (en en′ : List ℕ) (r : Step) : Type 0 where
+  pub is : (tx : List ℕ) → ChildrenDo body t v f past s c en tx en′ tx r
+
+pub record ElementEnters (body t : List ℕ) (v : View) (f : Child → Room → Output → Reading) (past : Child → Reader) (s : StartRow) (c : Cursor)
+    (en en′ : List ℕ) (r : Step) : Type 0 where
+  pub is : (tx : List ℕ) → ElementDoes body t v f past s c en tx en′ tx r
 
 -- ---- "9 last": the children one after another, then the test
 unfoldable pub collected : (Child → Room → Output → Reading) → List Child → Bool → Room → Output → Reading
 collected f l ill room out = andThen (eachOf f l room out) (tested ill room)
 
 abbrev pub lastOf : Bool → Step → Step
-lastOf faulty (Step.Refused why w) = Step.Refused why w
+lastOf ill (Step.Refused why w) = Step.Refused why w
 lastOf true (Step.Done w) = Step.Refused Refusal.IllFormed w
 lastOf false (Step.Done w) = Step.Done w
-
-pub last-refused : (faulty : Bool) (s : Step) {why : Refusal} {w : Written} → s ≡ Step.Refused why w → Step.Refused why w ≡ lastOf faulty s
-last-refused true s e = rw e
-last-refused false s e = rw e
-
-pub last-ill : (faulty : Bool) (s : Step) {w : Written} → s ≡ Step.Done w → faulty ≡ true → Step.Refused Refusal.IllFormed w ≡ lastOf faulty s
-last-ill faulty s e f = rw (e, f)
-
-pub last-well : (faulty : Bool) (s : Step) {w : Written} → s ≡ Step.Done w → faulty ≡ false → Step.Done w ≡ lastOf faulty s
-last-well faulty s e f = rw (e, f)
-
-pub ruleset last-laws = (needs, last-refused, last-ill, last-well)
-
-pub collected-does : (f : Child → Room → Output → Reading) (l : List Child) {e t : List ℕ} {w : Written} {e′ t′ : List ℕ} {s : Step} (ill : Bool) → Does (eachOf f l) e t w e′ t′ s
-    → Does (collected f l ill) e t w e′ t′ (lastOf ill s)
-unfolding collected
-collected-does f l {e} {t} {w} {e′} {t′} {s} ill d = go ill s d
-  where
-    start : (ill : Bool) → Midway (collected f l ill) (collected f l ill) e t w e t w
-    start ill = midway-start (collected f l ill) e t w
-
-    go : (ill : Bool) (s : Step) → Does (eachOf f l) e t w e′ t′ s → Does (collected f l ill) e t w e′ t′ (lastOf ill s)
-    go true (Step.Refused why w₁) d = midway-stops (start true) (tested true) (λ room out. refl) d refl
-    go false (Step.Refused why w₁) d = midway-stops (start false) (tested false) (λ room out. refl) d refl
-    go true (Step.Done w₁) d = midway-last (midway-goes (start true) (tested true) (λ room out. refl) d refl) (tested-ill e′ t′ w₁ refl)
-    go false (Step.Done w₁) d = midway-last (midway-goes (start false) (tested false) (λ room out. refl) d refl) (tested-well e′ t′ w₁ refl)

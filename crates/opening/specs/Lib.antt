@@ -1,3 +1,3 @@
+pub mod Level
 pub mod Opening
 pub mod Wanted
-pub mod Level

@@ -1,4 +1,4 @@
-use Rattle.opening.specs.Opening.{opening-laws}
+use Rattle.opening.proofs.Asked.{opening-laws}
 use borrow.Author.Needs.{needs}
 use Rattle.opening.proofs.ask.Statement.{statement}
 use Rattle.opening.proofs.ask.Tie as tie

@@ -1,4 +1,4 @@
-use Rattle.opening.specs.Wanted.{wanted-laws}
+use Rattle.opening.proofs.Wanted.{wanted-laws}
 use borrow.Author.Needs.{needs}
 use Rattle.opening.proofs.is_wanted.Statement.{statement}
 use Rattle.opening.proofs.is_wanted.Tie as tie

@@ -1,4 +1,4 @@
-use Rattle.opening.specs.Opening.{root-laws}
+use Rattle.opening.proofs.Asked.{root-laws}
 use Rattle.opening.proofs.root.Statement.{statement}
 use Rattle.opening.proofs.root.Tie as tie
 

@@ -1,4 +1,4 @@
-use Rattle.opening.specs.Level.{last-laws}
+use Rattle.opening.proofs.Last.{last-laws}
 use borrow.Author.Needs.{needs}
 use Rattle.opening.proofs.tested.Statement.{statement}
 use Rattle.opening.proofs.tested.Tie as tie
