@@ -13,13 +13,14 @@ use Rattle.refusal.specs.declared.Refusal.{Refusal}
 use Rattle.document.specs.Scope.{childrenOf}
 use Rattle.sheet.specs.declared.ShapeDepth.{ShapeDepth}
 use Rattle.sheet.specs.Settings.{Settings, isStrict, tooDeep}
-use Rattle.sheet.specs.Names.{itemName}
+use Rattle.sheet.specs.Names.{itemName, entryName}
 use Rattle.codec.specs.declared.settings.Settings as codec
 use Rattle.codec.specs.declared.collection.ListSheet.{ListSheet}
+use Rattle.codec.specs.declared.collection.MapSheet.{MapSheet}
 use Rattle.codec.specs.Settings.{settingsOf}
-use Rattle.codec.specs.Collection.{listSaid, ListSaid, ListRead}
+use Rattle.codec.specs.Collection.{listSaid, ListSaid, ListRead, mapSaid, MapSaid, MapRead}
 use Rattle.readings.specs.Output.{Room, Output, nothing, Reading, refused}
-use Rattle.readings.specs.Collection.{readItems, readStrings, listReading, stringListReading}
+use Rattle.readings.specs.Collection.{readItems, readStrings, entriesOf, listReading, mapReading, stringListReading}
 use Rattle.decode.specs.declared.reader.StartRow.{StartRow}
 use Rattle.decode.specs.declared.reader.Cursor.{Cursor}
 use Rattle.decode.specs.declared.view.View.{View}
@@ -32,12 +33,15 @@ use Rattle.output.specs.Steps.{eachOf, tested}
 use Rattle.output.specs.Call.{ReadingCall}
 use Rattle.output.proofs.Called.{call-early, call-done, call-refused}
 use Rattle.opening.specs.declared.Opening.{Opening}
-use Rattle.opening.specs.Opening.{AskedIs, RootAt, asked-ok, asked-root, asked-early, asked-found}
+use Rattle.opening.specs.Opening.{AskedIs, RootAt}
+use Rattle.opening.proofs.Asked.{asked-ok, asked-root, asked-early, asked-found}
 use Rattle.opening.specs.Level.{collected}
 use Rattle.list.specs.List.{itemOf}
 use Rattle.list.specs.StringList.{stringOf}
 use Rattle.list.specs.Call.{WholeIs, none-written}
 use Rattle.list.specs.StringCall.{StringsWholeIs}
+use Rattle.map.specs.Map.{MapIs, mapEntry}
+use Rattle.map.proofs.Entries.{map-found}
 use Rattle.deserializer.specs.declared.Shape.{Shape}
 use Rattle.deserializer.specs.Call.{numberOf, EnteredRead, EnteredCall, SetBy, Tells, ToldCall, SheetCall, settingsBy, shapeOf}
 use Rattle.deserializer.specs.Demand.{Demanded}
@@ -122,6 +126,46 @@ module _ (body t : List ℕ) (final : ℕ) (sheet : List ℕ) {said : ListSheet}
         };
       }
 
+-- ---- maps
+pub map-said : {body t : List ℕ} {final : ℕ} {sheet : List ℕ} {said : MapSheet} {deep strict : Bool} {r : Opening} {v : View} {s : StartRow} {c : Cursor} → MapRead sheet said
+    → AskedIs body t final (said .ok) deep strict r → r ≡ Opening.Found v s c → MapSaid sheet said
+map-said p a q = p .there (asked-ok a q)
+
+module _ (body t : List ℕ) (final : ℕ) (sheet : List ℕ) {said : MapSheet} (settings : codec.Settings) (depth : ShapeDepth) (entered : Bool) (p : MapRead sheet said) {strict : Bool} {r : Opening}
+    (a : AskedIs body t final (said .ok) (not entered) strict r) (i : strict ≡ isStrict (settingsOf settings) depth) where
+  deep-map : entered ≡ not (tooDeep (settingsOf settings) depth) → not entered ≡ tooDeep (settingsOf settings) depth
+  deep-map = not-entered (tooDeep (settingsOf settings) depth)
+
+  pub map-refused : (e tx : List ℕ) {why : Refusal} → r ≡ Opening.Refused why
+      → EnteredRead Shape.Map body t final sheet (settingsOf settings) depth entered e tx e tx (Step.Refused why none-written)
+  unfolding mapReading
+  map-refused e tx {why} q =
+      record {
+        read = λ g. record {
+          call = record {
+            is = call-early (mapReading body t final sheet (settingsOf settings) depth) {why = why}
+                (rw (asked-early a (settingsOf settings) depth (deep-map g) i (λ o. p .there o .said) (p .broken) q)) refl;
+          };
+        };
+      }
+
+  pub map-read : {v : View} {s : StartRow} {c : Cursor} {e tx e′ tx′ : List ℕ} {got : Step} → r ≡ Opening.Found v s c
+      → MapIs body t v (mapSaid sheet) (entryName (settingsOf settings) (mapSaid sheet)) s c e tx e′ tx′ got
+      → EnteredRead Shape.Map body t final sheet (settingsOf settings) depth entered e tx e′ tx′ got
+  map-read {v} {s} {c} {e} {tx} q x =
+      let nm = entryName (settingsOf settings) (mapSaid sheet) in
+      record {
+        read = λ g. record {
+          call = record {
+            is = told (mapReading body t final sheet (settingsOf settings) depth)
+                (collected (mapEntry body (viewAt t v) (mapSaid sheet) nm) (entriesOf nm (childAt body t (v .count) s c)) (v .«ill_formed»))
+                (map-found settings depth p a (deep-map g) i q (roomOf e tx)) (x .does);
+          };
+        };
+      }
+
+pub ruleset map-laws = (needs, asked-root, map-said, map-refused, map-read)
+
 pub ruleset list-laws = (needs, asked-root, list-said, list-refused, list-found)
 
 pub ruleset string-list-laws = (needs, asked-root, list-said, strings-refused, strings-found)
@@ -158,11 +202,15 @@ module _ {body table : List ℕ} {final : ℕ} {sheet : List ℕ} {flags max : �
         → EnteredCall (shapeOf kind) body table final sheet (settingsBy flags max) depth entered e t e′ t′ two two′ r
     told-list q y = rw (eq-eqb kind 2 q) (told-call y)
 
-    pub told-strings : (kind ≡ 2 → ⊥) → EnteredRead Shape.StringList body table final sheet (settingsOf s) depth entered e t e′ t′ step
+    pub told-map : (kind ≡ 2 → ⊥) → kind ≡ 3 → EnteredRead Shape.Map body table final sheet (settingsOf s) depth entered e t e′ t′ step
         → EnteredCall (shapeOf kind) body table final sheet (settingsBy flags max) depth entered e t e′ t′ two two′ r
-    told-strings q y = rw (ne-eqb kind 2 q) (told-call y)
+    told-map p q y = rw (ne-eqb kind 2 p, eq-eqb kind 3 q) (told-call y)
 
-pub ruleset told-laws = (needs, told-list, told-strings)
+    pub told-strings : (kind ≡ 2 → ⊥) → (kind ≡ 3 → ⊥) → EnteredRead Shape.StringList body table final sheet (settingsOf s) depth entered e t e′ t′ step
+        → EnteredCall (shapeOf kind) body table final sheet (settingsBy flags max) depth entered e t e′ t′ two two′ r
+    told-strings p q y = rw (ne-eqb kind 2 p, ne-eqb kind 3 q) (told-call y)
+
+pub ruleset told-laws = (needs, told-list, told-map, told-strings)
 
 -- ---- two numbers of one's own are lent
 module _ {shape : Shape} {body table : List ℕ} {final : ℕ} {sheet : List ℕ} {settings : Settings} {depth : ShapeDepth} {e t e′ t′ two two′ : List ℕ} {r : ℕ}

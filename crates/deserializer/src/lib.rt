@@ -84,6 +84,40 @@ fn read_string_list(
     }
 }
 
+// The map reading, where the depth guard was entered or not.
+fn read_map(
+    body: &[u8],
+    rows: &[u32],
+    end: u32,
+    sheet: &[u8],
+    settings: Settings,
+    depth: ShapeDepth,
+    entered: bool,
+    entries: &mut [u32],
+    texts: &mut [u8],
+) -> Step
+    ensures { λ r. ⌜ EnteredRead Shape.Map (now (body .entry)) (now (rows .entry)) end (now (sheet .entry)) (settingsOf settings) depth entered
+        (now (entries .entry)) (now (texts .entry)) (now (entries .exit)) (now (texts .exit)) r ⌝ }
+{
+    let said = codec::collection::parse_map(sheet);
+    let strict = codec::settings::is_strict(settings, depth);
+    match opening::ask(body, rows, end, said.ok, !entered, strict) {
+        Opening::Refused(why) => Step::Refused(why, Written { count: 0, used: 0 }),
+        Opening::Found(view, root, at) => map::map_at(
+            body,
+            rows,
+            view,
+            root,
+            at,
+            sheet,
+            said,
+            settings,
+            entries,
+            texts,
+        ),
+    }
+}
+
 // The settings that flags say: 1 validate_document, 2 validate_root_name, 4 strict_collection_element_names; other bits are passed over.
 pub fn settings_by(flags: u32, max_depth: u32) -> Settings
     ensures { λ r. ⌜ SetBy flags «max_depth» r ⌝ }
@@ -139,6 +173,20 @@ fn read_entered(
     let deep = ShapeDepth(depth);
     if kind == 2 {
         let step = read_list(
+            body,
+            rows,
+            end,
+            sheet,
+            settings,
+            deep,
+            entered,
+            entries,
+            texts,
+        );
+        return tell(step, told);
+    }
+    if kind == 3 {
+        let step = read_map(
             body,
             rows,
             end,

@@ -14,7 +14,8 @@ use Rattle.decode.specs.Reader.{Sees, childAt}
 use Rattle.decode.specs.View.{viewAt, Viewed}
 use Rattle.decode.proofs.Places.{start-scope}
 use Rattle.opening.specs.declared.Opening.{Opening}
-use Rattle.opening.specs.Opening.{RootAt, OpeningIs, root-viewed, root-start, root-stands}
+use Rattle.opening.specs.Opening.{RootAt, OpeningIs}
+use Rattle.opening.proofs.Asked.{root-viewed, root-start, root-stands}
 
 module _ {body t : List ℕ} {a : Answer Opened} {r : Opening} (x : OpeningIs body t a r) where
   pub opened-why : {why : Refusal} → r ≡ Opening.Refused why → a ≡ refuses why

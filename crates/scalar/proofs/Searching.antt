@@ -40,7 +40,8 @@ use Rattle.decode.proofs.Names.{local-span}
 use Rattle.decode.proofs.Places.{start-scope}
 use Rattle.opening.specs.declared.Opening.{Opening}
 use Rattle.opening.specs.Opening.{OpeningIs}
-use Rattle.opening.specs.Level.{left, found-start, found-outside, none-left, one-left, less-left}
+use Rattle.opening.specs.Level.{left}
+use Rattle.opening.proofs.Level.{found-start, found-outside, none-left, one-left, less-left}
 use Rattle.scalar.specs.declared.Finding.{Finding}
 use Rattle.scalar.specs.Answers.{FindingIs}
 use Rattle.scalar.specs.Find.{firstPiece, absentAs, PartIs}

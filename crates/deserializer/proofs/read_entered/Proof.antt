@@ -24,8 +24,8 @@ same-length-3 c = search needs
 returns : tie.Need-returns
 returns c = search told-laws
 
-read-string-list-requires : tie.Need-read-string-list-requires
-read-string-list-requires c κs = search needs
+read-map-requires : tie.Need-read-map-requires
+read-map-requires c κs = search needs
 
 tell-requires-2 : tie.Need-tell-requires-2
 tell-requires-2 c κs = search needs
@@ -42,6 +42,24 @@ same-length-6 c = search needs
 returns-2 : tie.Need-returns-2
 returns-2 c = search told-laws
 
+read-string-list-requires : tie.Need-read-string-list-requires
+read-string-list-requires c κs = search needs
+
+tell-requires-3 : tie.Need-tell-requires-3
+tell-requires-3 c κs = search needs
+
+same-length-7 : tie.Need-same-length-7
+same-length-7 c = search needs
+
+same-length-8 : tie.Need-same-length-8
+same-length-8 c = search needs
+
+same-length-9 : tie.Need-same-length-9
+same-length-9 c = search needs
+
+returns-3 : tie.Need-returns-3
+returns-3 c = search told-laws
+
 pub read-entered-spec : {M : Type 1} → statement M
 read-entered-spec =
     tie.close
@@ -53,9 +71,15 @@ read-entered-spec =
     same-length-2
     same-length-3
     returns
-    read-string-list-requires
+    read-map-requires
     tell-requires-2
     same-length-4
     same-length-5
     same-length-6
-    returns-2)
+    returns-2
+    read-string-list-requires
+    tell-requires-3
+    same-length-7
+    same-length-8
+    same-length-9
+    returns-3)
