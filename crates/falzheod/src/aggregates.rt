@@ -41,6 +41,42 @@ pub extern "C" fn falzheod_read_list(
     )
 }
 
+// The map reading: 0, 1, 2, 3, 4, 6, 7, 8, 9 or 10.
+#[no_mangle]
+pub extern "C" fn falzheod_read_map(
+    body: &[u8],
+    rows: &[u32],
+    end: u32,
+    sheet: &[u8],
+    flags: u32,
+    max_depth: u32,
+    depth: u32,
+    entries: &mut [u32],
+    texts: &mut [u8],
+    count: &mut usize,
+    length: &mut usize,
+) -> u32
+    ensures { λ r. ⌜ SheetCall Shape.Map (now (body .entry)) (now (rows .entry)) end (now (sheet .entry)) (settingsBy flags «max_depth») (shapeDepth depth)
+        (now (entries .entry)) (now (texts .entry)) (now (entries .exit)) (now (texts .exit)) (now (count .exit)) (now (length .exit)) r ⌝ }
+    ensures demand { λ r. ⌜ Demanded Shape.Map (now (body .entry)) (now (rows .entry)) end (now (sheet .entry)) (settingsBy flags «max_depth») (shapeDepth depth)
+        (now (entries .entry)) (now (texts .entry)) (now (entries .exit)) (now (count .exit)) r ⌝ }
+{
+    deserializer::read(
+        3,
+        body,
+        rows,
+        end,
+        sheet,
+        flags,
+        max_depth,
+        depth,
+        entries,
+        texts,
+        count,
+        length,
+    )
+}
+
 // The string list reading: 0, 1, 2, 3, 4, 6, 7, 8, 9 or 10.
 #[no_mangle]
 pub extern "C" fn falzheod_read_string_list(
