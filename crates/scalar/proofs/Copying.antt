@@ -1,6 +1,6 @@
 -- Laws of the whole text of a body: a text put at a place where it fits, and all of them measured, then written.
-use Prim.Native.Nat.{ℕ, _+_, _-_, _^_, _≤_, _<_}
-use mathlib.Core.Path.{_≡_, refl, sym, _∙_, ap}
+use Prim.Native.Nat.{ℕ, _+_, _^_, _≤_, _<_}
+use mathlib.Core.Path.{_≡_, refl, sym, _∙_}
 use mathlib.Core.Bool.{true, false}
 use mathlib.Core.List.{List}
 use mathlib.Core.Option.{Option, none, some}
@@ -47,7 +47,8 @@ use Rattle.scalar.proofs.Opened.{opened-laws, opened-why, opened-is}
 pub put-low : {old : List ℕ} {size : ℕ} {o : Out} → PutRoom old size o → size ≤ length old
 put-low w = omega (arith, w .fits)
 
-module _ {text old ys : List ℕ} {size : ℕ} {r : Unescaped} (w : PutRoom old size (unescaped text)) (x : Unescape text (rest old size) ys r) where
+module _ {text old ys : List ℕ} {size : ℕ} {r : Unescaped} (w : PutRoom old size (unescaped text))
+    (x : Unescape text (rest old size) ys r) where
   fit : leb (length (bytesOf (unescaped text))) (length (rest old size)) ≡ true
   fit = le-leb (length (bytesOf (unescaped text))) (length (rest old size)) (omega (arith, w .fits, rest-length old size))
 

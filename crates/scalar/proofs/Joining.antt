@@ -1,5 +1,5 @@
 -- Laws of the loops over the rows of an element: what a row does to its whole text, the length of the text, and its bytes.
-use Prim.Native.Nat.{ℕ, zero, suc, _+_, _-_, _*_, _^_, _≤_, _<_}
+use Prim.Native.Nat.{ℕ, zero, suc, _+_, _*_, _≤_, _<_}
 use mathlib.Core.Path.{_≡_, refl, sym, _∙_, ap}
 use mathlib.Core.Bool.{Bool, true, false}
 use mathlib.Core.List.{List, [], _++_, append-assoc, append-nil}
@@ -24,7 +24,7 @@ use Rattle.document.specs.Text.{joinTurn, joined}
 use Rattle.document.specs.Laws.Short.{cut-short}
 use Rattle.decode.specs.declared.reader.ScopeRow.{ScopeRow}
 use Rattle.decode.specs.declared.view.View.{View}
-use Rattle.decode.specs.Rows.{InTable, Readable, nameAt, valueAt, tokAt}
+use Rattle.decode.specs.Rows.{InTable, nameAt, valueAt, tokAt}
 use Rattle.decode.specs.Reader.{toksFrom, scopeAt, HasRow, ScopeIn, DepthIs, bytesOf}
 use Rattle.decode.specs.View.{Viewed}
 use Rattle.decode.proofs.Names.{value-span}
@@ -33,7 +33,6 @@ use Rattle.scalar.specs.declared.Copied.{Copied}
 use Rattle.scalar.specs.declared.whole.Turn.{Turn}
 use Rattle.scalar.specs.Answers.{bufferAfter}
 use Rattle.scalar.specs.Whole.{prepend, turnAs, joinAt, TurnIs, joinedFrom, LengthIs, JoinRoom, PutRoom}
-use Rattle.scalar.proofs.Opened.{view-readable}
 use Rattle.scalar.proofs.Unescaping.{size-length, size-bad, size-never}
 
 -- ---- what a row does
@@ -50,9 +49,6 @@ other-join (suc (suc (suc (suc (suc zero))))) m v a b s d more = refl
 other-join (suc (suc (suc (suc (suc (suc zero)))))) m v a b s d more = absurd (a refl)
 other-join (suc (suc (suc (suc (suc (suc (suc zero))))))) m v a b s d more = refl
 other-join (suc (suc (suc (suc (suc (suc (suc (suc k)))))))) m v a b s d more = refl
-
-pub scope-in : {body t : List ℕ} {s : ScopeRow} {k : ℕ} → ScopeIn body t s k → InTable t k
-scope-in w = w .row
 
 module _ (body t : List ℕ) (s : ScopeRow) (d k : ℕ) {kind : ℕ} (g : kind ≡ getD t (k * 8 + 0) 0) where
   pub turn-text : kind ≡ 6 → TurnIs body t s d k Turn.Text
@@ -77,7 +73,7 @@ module _ (body t : List ℕ) (s : ScopeRow) (d k : ℕ) {kind : ℕ} (g : kind �
     pub turn-ended : r ≡ true → TurnIs body t s d k Turn.Ended
     turn-ended q = record { is = λ more. rw q at (passed more) }
 
-pub ruleset turn-laws = (needs, scope-in, turn-text, turn-element, turn-on, turn-ended)
+pub ruleset turn-laws = (needs, turn-text, turn-element, turn-on, turn-ended)
 
 -- a value by its row
 pub row-length : (body t : List ℕ) (k : ℕ) {v : List ℕ} {y : Unescaped} → v ≡ valueAt body t k → y ≡ sizeOf (unescaped v)
@@ -112,6 +108,12 @@ module _ {body t : List ℕ} {v : View} {s : ScopeRow} {d₀ k₀ : ℕ} {acc : 
   join-done h = sym (w .rest) ∙ rw (toks-none body t (v .count) k h) (ap gives (append-nil acc))
 
   module _ (h : k < v .count) where
+    pub join-scope : ScopeIn body t s k
+    join-scope = scope-seen (w .viewed .sees) (w .scope) h
+
+    pub join-row : InTable t k
+    join-row = row-seen (w .viewed .sees) h
+
     abbrev after : Depth → Answer (List ℕ)
     after e = joined (scopeAt body t s) e (toksFrom body t (v .count) (k + 1))
 
@@ -141,7 +143,8 @@ module _ {body t : List ℕ} {v : View} {s : ScopeRow} {d₀ k₀ : ℕ} {acc : 
             rest = sym (prepend-more acc l (after (depth d))) ∙ rw q at (turned Turn.Text e);
           }
 
-      join-bad : {at : ℕ} → r ≡ Turn.Text → unescaped (valueAt body t k) ≡ bad at → joinedFrom body t v s d₀ k₀ ≡ refuses Refusal.BadReference
+      join-bad : {at : ℕ} → r ≡ Turn.Text → unescaped (valueAt body t k) ≡ bad at
+          → joinedFrom body t v s d₀ k₀ ≡ refuses Refusal.BadReference
       join-bad e q = sym (rw q at (turned Turn.Text e))
 
 -- ---- the length
@@ -160,15 +163,6 @@ module _ {body t : List ℕ} {v : View} {s : ScopeRow} {d₀ k₀ d k size : ℕ
   length-done h = record { same = rw (join-done (w .at) h) (ap gives (w .counted)) }
 
   module _ (h : k < v .count) where
-    pub length-scope : ScopeIn body t s k
-    length-scope = scope-seen (w .at .viewed .sees) (w .at .scope) h
-
-    pub length-row : InTable t k
-    length-row = row-seen (w .at .viewed .sees) h
-
-    pub length-readable : Readable body t
-    length-readable = w .at .viewed .sees .readable
-
     module _ {r : Turn} (x : TurnIs body t s d k r) where
       pub length-element : r ≡ Turn.Element → LengthIs (Copied.Refused Refusal.ElementInText) (joinedFrom body t v s d₀ k₀)
       length-element e = record { same = rw (join-element (w .at) h x e) }
@@ -209,9 +203,8 @@ module _ {body t : List ℕ} {v : View} {s : ScopeRow} {d₀ k₀ d k size : ℕ
 pub ruleset length-laws = (
   needs,
   length-start,
-  length-scope,
-  length-row,
-  length-readable,
+  join-scope,
+  join-row,
   length-done,
   length-element,
   length-ended,
@@ -243,9 +236,6 @@ never e = let z : _≡_ {A = ℕ} 0 1 = cc in absurd (omega arith)
 
 module _ {body t : List ℕ} {v : View} {s : ScopeRow} {d₀ k₀ : ℕ} {old out : List ℕ} {d k size : ℕ}
     (w : FillAt body t v s d₀ k₀ old out d k size) where
-  pub fill-same : length out ≡ length old
-  fill-same = w .same
-
   pub fill-done : v .count ≤ k → out ≡ bufferAfter (joinedFrom body t v s d₀ k₀) old
   fill-done h = rw (join-done (w .at) h) (w .is)
 
@@ -259,15 +249,6 @@ module _ {body t : List ℕ} {v : View} {s : ScopeRow} {d₀ k₀ : ℕ} {old ou
       go (refuses r) q = never (sym q)
 
   module _ (h : k < v .count) where
-    pub fill-scope : ScopeIn body t s k
-    fill-scope = scope-seen (w .at .viewed .sees) (w .at .scope) h
-
-    pub fill-row : InTable t k
-    fill-row = row-seen (w .at .viewed .sees) h
-
-    pub fill-readable : Readable body t
-    fill-readable = w .at .viewed .sees .readable
-
     module _ {r : Turn} (x : TurnIs body t s d k r) where
       pub fill-element : r ≡ Turn.Element → out ≡ bufferAfter (joinedFrom body t v s d₀ k₀) old
       fill-element e = never (sym (w .room .is) ∙ join-element (w .at) h x e)
@@ -309,4 +290,4 @@ module _ {body t : List ℕ} {v : View} {s : ScopeRow} {d₀ k₀ : ℕ} {old ou
             }
 
 pub ruleset fill-laws =
-    (needs, fill-start, fill-same, fill-scope, fill-row, fill-readable, fill-done, fill-element, fill-ended, fill-on, fill-room, fill-text)
+    (needs, join-scope, join-row, fill-start, fill-done, fill-element, fill-ended, fill-on, fill-room, fill-text)

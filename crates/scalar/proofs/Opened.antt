@@ -9,13 +9,12 @@ use Rattle.readings.specs.Opening.{Opened}
 use Rattle.decode.specs.declared.reader.Cursor.{Cursor}
 use Rattle.decode.specs.declared.reader.StartRow.{StartRow}
 use Rattle.decode.specs.declared.view.View.{View}
-use Rattle.decode.specs.Rows.{Readable, InTable}
-use Rattle.decode.specs.Reader.{Sees, childAt}
-use Rattle.decode.specs.View.{viewAt, Viewed}
+use Rattle.decode.specs.Rows.{InTable}
+use Rattle.decode.specs.Reader.{childAt}
+use Rattle.decode.specs.View.{viewAt}
 use Rattle.decode.proofs.Places.{start-scope}
 use Rattle.opening.specs.declared.Opening.{Opening}
 use Rattle.opening.specs.Opening.{RootAt, OpeningIs}
-use Rattle.opening.proofs.Asked.{root-viewed, root-start, root-stands}
 
 module _ {body t : List ℕ} {a : Answer Opened} {r : Opening} (x : OpeningIs body t a r) where
   pub opened-why : {why : Refusal} → r ≡ Opening.Refused why → a ≡ refuses why
@@ -28,13 +27,7 @@ module _ {body t : List ℕ} {a : Answer Opened} {r : Opening} (x : OpeningIs bo
     pub opened-is : a ≡ gives (record { seen = viewAt t v; root = childAt body t (v .count) s c })
     opened-is = sym (rw e at (x .is))
 
-pub view-sees : {body t : List ℕ} {v : View} → Viewed body t v → Sees body t (v .count)
-view-sees x = x .sees
-
-pub view-readable : {body t : List ℕ} {v : View} → Viewed body t v → Readable body t
-view-readable x = x .sees .readable
-
 pub root-row : {body t : List ℕ} {v : View} {s : StartRow} {c : Cursor} → RootAt body t v s c → InTable t (s .row)
 root-row x = start-scope (x .viewed .sees) (x .start)
 
-pub ruleset opened-laws = (needs, opened-root, root-viewed, root-start, root-stands, root-row, view-sees, view-readable)
+pub ruleset opened-laws = (needs, opened-root, root-row)

@@ -1,6 +1,6 @@
 -- Laws of booleans, integers and strings from a body.
 use Prim.Native.Nat.{ℕ, _+_, _-_, _*_, _≤_, _<_}
-use mathlib.Core.Path.{_≡_, refl, sym, _∙_, ap}
+use mathlib.Core.Path.{_≡_, refl, sym, ap}
 use mathlib.Core.Bool.{Bool, true, false}
 use mathlib.Core.List.{List, []}
 use native.Mathlib.Omega.{arith}
@@ -24,8 +24,9 @@ use Rattle.document.specs.Laws.Short.{cut-short}
 use Rattle.sheet.specs.declared.ShapeDepth.{ShapeDepth}
 use Rattle.sheet.specs.Settings.{isStrict}
 use Rattle.sheet.specs.Settings as sheet
-use Rattle.readings.specs.Opening.{Opened, opened}
-use Rattle.readings.specs.Scalar.{booleanOf, integerOf, stringIn, unlessIllFormed, scalarText, booleanReading, integerReading, stringReading}
+use Rattle.readings.specs.Opening.{opened}
+use Rattle.readings.specs.Scalar.{booleanOf, integerOf, stringIn, unlessIllFormed, scalarText}
+use Rattle.readings.specs.Scalar.{booleanReading, integerReading, stringReading}
 use Rattle.decode.specs.declared.reader.Cursor.{Cursor}
 use Rattle.decode.specs.declared.reader.StartRow.{StartRow}
 use Rattle.decode.specs.declared.view.View.{View}
@@ -51,9 +52,6 @@ rows-in {body} {t} {r = r} w x = record { are = go r (x .row) }
     go (Text.Row k) i = record { readable = w .sees .readable; row = i; small = w .small }
     go Text.Empty i = tt
     go (Text.Refused r) i = tt
-
-pub rows-of : {body t : List ℕ} {r : Text} {a : Answer (List ℕ)} → TextRead body t r a → RowsIn body t r
-rows-of x = x .rows
 
 module _ {body t : List ℕ} {r : Text} (w : RowsIn body t r) {k : ℕ} (e : r ≡ Text.Row k) where
   here : RowIn body t k
@@ -108,10 +106,11 @@ pub ruleset rest-laws = (needs, rest-ill, rest-well)
 -- ---- the text of the root
 pub text-is : (body t : List ℕ) (v : View) (s : StartRow) (c : Cursor) {a b : Text}
     → TextIs body t a (textOf (failureAt (v .failure)) (childAt body t (v .count) s c))
-    → TextRead body t b (onward (textAt body t a) (unlessIllFormed (v .«ill_formed»))) → TextRead body t b (rootsText (openedAt body t v s c))
+    → TextRead body t b (onward (textAt body t a) (unlessIllFormed (v .«ill_formed»)))
+    → TextRead body t b (rootsText (openedAt body t v s c))
 text-is body t v s c i z = record { same = rw (i .same) at (z .same); rows = z .rows }
 
-pub ruleset text-at-laws = (opened-laws, rows-in, text-is)
+pub ruleset text-at-laws = (needs, rows-in, text-is)
 
 module _ (strict : Bool) (body t : List ℕ) (final : ℕ) {r : Opening} (x : OpeningIs body t (opened strict body t final) r) where
   pub text-refused : {why : Refusal} → r ≡ Opening.Refused why → TextRead body t (Text.Refused why) (readText strict body t final)
@@ -214,7 +213,7 @@ module _ {text old new : List ℕ} {r : Unescaped} (u : Unescape text old new r)
           fit true = record { number = refl; buffer = refl }
           fit false = record { number = refl; buffer = refl }
 
-  pub string-as : (x : Unescaped) → r ≡ x → CopyIs (onward (unescapedText (unescaped text)) (stringIn (length old))) old new (copiedOf x)
+  string-as : (x : Unescaped) → r ≡ x → CopyIs (onward (unescapedText (unescaped text)) (stringIn (length old))) old new (copiedOf x)
   string-as x e = rw e at copied
 
   pub string-length : {n : ℕ} → r ≡ Unescaped.Length n
@@ -269,4 +268,4 @@ module _ (body t : List ℕ) (final : ℕ) (s : sheet.Settings) (d : ShapeDepth)
   unfolding stringReading
   string-read y = rw taken at y
 
-pub ruleset read-laws = (needs, rows-of, boolean-read, integer-read, string-read)
+pub ruleset read-laws = (needs, boolean-read, integer-read, string-read)

@@ -2,7 +2,7 @@
 use Prim.Native.Nat.{ℕ, _+_, _-_, _^_, _≤_, _<_}
 use mathlib.Core.Path.{_≡_, refl, sym, _∙_, ap}
 use mathlib.Core.Bool.{Bool, true, false}
-use mathlib.Core.List.{List, _∷_}
+use mathlib.Core.List.{List}
 use mathlib.Core.Option.{Option, none, some}
 use native.Mathlib.Omega.{arith}
 use borrow.Author.Needs.{needs}
@@ -19,7 +19,6 @@ use Rattle.table.specs.Row.{cut, rowsOf, toksOf}
 use Rattle.table.specs.Rules.{TableRules}
 use Rattle.table.specs.Test.{decTable}
 use Rattle.document.specs.View.{view}
-use Rattle.document.specs.View as doc
 use Rattle.document.specs.Scope.{Child, children, childrenOf, pieceOf, rootOf}
 use Rattle.document.specs.Scope as scope
 use Rattle.readings.specs.Opening.{Opened, withTable, present, opened}
@@ -32,9 +31,9 @@ use Rattle.decode.specs.declared.reader.StartRow.{StartRow}
 use Rattle.decode.specs.declared.reader.Next.{Next}
 use Rattle.decode.specs.declared.view.View.{View}
 use Rattle.decode.specs.declared.piece.Piece.{Piece}
-use Rattle.decode.specs.Rows.{nameAt}
+use Rattle.decode.specs.Rows.{Readable, nameAt}
 use Rattle.decode.specs.Reader.{Outside, NextIs, childAt, DroppedIs}
-use Rattle.decode.specs.View.{viewAt}
+use Rattle.decode.specs.View.{viewAt, Viewed}
 use Rattle.decode.specs.Piece.{PieceIs, pieceAt}
 use Rattle.decode.proofs.Names.{local-span}
 use Rattle.decode.proofs.Places.{start-scope}
@@ -45,7 +44,7 @@ use Rattle.opening.proofs.Level.{found-start, found-outside, none-left, one-lef
 use Rattle.scalar.specs.declared.Finding.{Finding}
 use Rattle.scalar.specs.Answers.{FindingIs}
 use Rattle.scalar.specs.Find.{firstPiece, absentAs, PartIs}
-use Rattle.scalar.proofs.Opened.{opened-laws, opened-why, opened-is, view-sees, view-readable}
+use Rattle.scalar.proofs.Opened.{opened-laws, opened-why, opened-is}
 
 -- ---- whether a row has a local name
 pub local-is : (body t : List ℕ) (k : ℕ) (name : List ℕ) {x : List ℕ} {r : Bool} → x ≡ nameAt body t k .local → r ≡ sameb x name
@@ -54,10 +53,14 @@ local-is body t k name e h = rw (← e) h
 
 pub ruleset local-laws = (needs, local-span, local-is)
 
+pub view-readable : {body t : List ℕ} {v : View} → Viewed body t v → Readable body t
+view-readable x = x .sees .readable
+
 -- ---- the loop: the elements from place c on have the same first piece as those from c₀ on
 pub record FindAt (body t : List ℕ) (v : View) (name : List ℕ) (s : ScopeRow) (c₀ c : Cursor) : Type 0 where
   pub stands : Outside body t (v .count) (c .depth .0) (c .row)
-  pub rest : firstPiece body (viewAt t v) name (left body t (v .count) s c) ≡ firstPiece body (viewAt t v) name (left body t (v .count) s c₀)
+  pub rest : firstPiece body (viewAt t v) name (left body t (v .count) s c)
+      ≡ firstPiece body (viewAt t v) name (left body t (v .count) s c₀)
 
 pub find-start : {body t : List ℕ} {v : View} (name : List ℕ) (s : ScopeRow) (c : Cursor)
     → Outside body t (v .count) (c .depth .0) (c .row)
@@ -89,7 +92,7 @@ module _ {body t : List ℕ} {v : View} {name : List ℕ} {s : ScopeRow} {c₀ c
     find-on h = record { stands = y .stands; rest = rw h at turned }
 
 pub ruleset find-laws =
-    (needs, view-sees, view-readable, start-scope, find-start, found-start, found-outside, find-gone, find-here, find-on, less-left)
+    (needs, view-readable, start-scope, find-start, found-start, found-outside, find-gone, find-here, find-on, less-left)
 
 -- ---- of an element
 module _ (body t : List ℕ) (v : View) (name : List ℕ) (s : StartRow) (c : Cursor) where
