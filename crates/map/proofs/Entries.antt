@@ -33,16 +33,15 @@ use Rattle.output.specs.declared.Written.{Written}
 use Rattle.output.specs.declared.Step.{Step}
 use Rattle.output.specs.Held.{Does, Ready}
 use Rattle.output.specs.Steps.{eachOf, tested}
-use Rattle.output.proofs.Called.{holds-nothing}
 use Rattle.output.proofs.Room.{stays}
 use Rattle.output.proofs.Then.{does-as}
 use Rattle.opening.specs.declared.Opening.{Opening}
 use Rattle.opening.specs.Opening.{AskedIs}
 use Rattle.opening.specs.Level.{AfterIs, none-written, ChildDoes, ChildrenDo, ElementDoes, collected, lastOf}
 use Rattle.opening.proofs.Asked.{asked-found, root-viewed, root-start, root-stands}
-use Rattle.opening.proofs.Level.{found-start, found-outside, after-less}
-use Rattle.opening.proofs.Children.{ChildrenAt, children-start, children-entries, children-texts, children-gone, children-on, children-stop}
-use Rattle.opening.proofs.Children.{element-closed, element-inside, element-tested}
+use Rattle.opening.proofs.Level.{after-less}
+use Rattle.opening.proofs.Children.{ChildrenAt, children-start, next-entries, next-texts, children-on, children-stop, children-laws}
+use Rattle.opening.proofs.Children.{element-tested}
 use Rattle.map.specs.declared.field.Fields.{Fields}
 use Rattle.map.specs.declared.entry.Entry.{Entry}
 use Rattle.map.specs.Field.{FieldsIn}
@@ -112,32 +111,17 @@ module _ {body t : List ℕ} {v : View} {m : MapSheet} {named : Bool} {s : Scope
       entries-full g = children-stop a x e (entry-does z q d) g
 
 -- the buffers are as long as they were
-module _ {body t en′ tx′ en₂ tx₂ : List ℕ} {g : Fields} {w : Written} {step : Step} (d : FieldsWrite body g en′ tx′ w en₂ tx₂ step) {v : View}
-    {f : Child → Room → Output → Reading} {most : ℕ} {past : Child → Reader} {s : ScopeRow} {c₀ : Cursor} {en tx : List ℕ} {c : Cursor}
+module _ {body en′ tx′ en₂ tx₂ : List ℕ} {g : Fields} {w : Written} {step : Step} (d : FieldsWrite body g en′ tx′ w en₂ tx₂ step) {t : List ℕ}
+    {v : View} {f : Child → Room → Output → Reading} {most : ℕ} {past : Child → Reader} {s : ScopeRow} {c₀ : Cursor} {en tx : List ℕ} {c : Cursor}
     (a : ChildrenAt body t v f most past s c₀ en tx en′ tx′ w c) where
-  pub still-entries : length en₂ ≡ length en
-  still-entries = d .does .is (a .mid .is (holds-nothing en tx) .holds) .holds .sameEntries
+  pub fields-entries : length en₂ ≡ length en
+  fields-entries = next-entries a (d .does)
 
-  pub still-texts : length tx₂ ≡ length tx
-  still-texts = d .does .is (a .mid .is (holds-nothing en tx) .holds) .holds .sameTexts
+  pub fields-texts : length tx₂ ≡ length tx
+  fields-texts = next-texts a (d .does)
 
-pub ruleset entries-laws = (
-  needs,
-  entries-start,
-  entries-ready,
-  children-entries,
-  children-texts,
-  still-entries,
-  still-texts,
-  found-start,
-  found-outside,
-  children-gone,
-  entry-kept,
-  entries-refused,
-  entries-less,
-  entries-on,
-  entries-full,
-)
+pub ruleset entries-laws =
+    (children-laws, entries-start, entries-ready, fields-entries, fields-texts, entry-kept, entries-refused, entries-less, entries-on, entries-full)
 
 -- ---- of a root, "9 last"
 pub map-tested : {sheet : List ℕ} {said : codec.MapSheet} {settings : Settings} {named : Bool} {body t : List ℕ} {v : View} {s : StartRow} {c : Cursor}

@@ -97,6 +97,14 @@ module _ {body t : List ℕ} {v : View} {f : Child → Room → Output → Readi
   pub children-texts : length tx′ ≡ length tx
   children-texts = holds .sameTexts
 
+  -- and after whatever is written next
+  module _ {g : Room → Output → Reading} {en₂ tx₂ : List ℕ} {step : Step} (d : Does g en′ tx′ w en₂ tx₂ step) where
+    pub next-entries : length en₂ ≡ length en
+    next-entries = d .is holds .holds .sameEntries
+
+    pub next-texts : length tx₂ ≡ length tx
+    next-texts = d .is holds .holds .sameTexts
+
   sound : Sound en′ tx′ w
   sound =
       let i = holds-within holds in
@@ -135,6 +143,15 @@ module _ {body t : List ℕ} {v : View} {f : Child → Room → Output → Readi
       unfolding children
       children-stop q = record { does = each-stops f child _ (rw (level-met past (at .short) x e) at (at .mid)) (d .does) q }
 
+module _ {body t : List ℕ} {v : View} {f : Child → Room → Output → Reading} {most : ℕ} {st : StartRow} {i : Cursor} {en′ tx′ : List ℕ} {w : Written}
+    {en₂ tx₂ : List ℕ} {step : Step} (d : ChildDoes body t v f most st i en′ tx′ w en₂ tx₂ step) {past : Child → Reader} {s : ScopeRow} {c₀ : Cursor}
+    {en tx : List ℕ} {c : Cursor} (at : ChildrenAt body t v f most past s c₀ en tx en′ tx′ w c) where
+  pub child-entries : length en₂ ≡ length en
+  child-entries = next-entries at (d .does)
+
+  pub child-texts : length tx₂ ≡ length tx
+  child-texts = next-texts at (d .does)
+
 -- ---- where each child is dropped
 module _ {body t : List ℕ} {v : View} (f : Child → Room → Output → Reading) (most : ℕ) (s : ScopeRow) (c : Cursor) (en tx : List ℕ) where
   pub dropping-start : Viewed body t v → Outside body t (v .count) (c .depth .0) (c .row)
@@ -149,8 +166,10 @@ pub dropping-on : {body t : List ℕ} {v : View} {f : Child → Room → Output 
     → ChildrenAt body t v f most dropping s c₀ en tx en₂ tx₂ w₂ (p .at)
 dropping-on at x e y d q = children-on at x e d (dropped-after y) q
 
-pub ruleset dropping-laws =
-    (needs, dropping-start, children-entries, children-texts, found-start, found-outside, children-gone, dropping-on, children-stop, less-left)
+-- what a loop needs wherever the reader stands after a child, and where each is dropped
+pub ruleset children-laws = (needs, children-entries, children-texts, found-start, found-outside, children-gone)
+
+pub ruleset dropping-laws = (children-laws, dropping-start, child-entries, child-texts, dropping-on, children-stop, less-left)
 
 -- ---- of an element
 module _ {body t : List ℕ} {v : View} (f : Child → Room → Output → Reading) (past : Child → Reader) (s : StartRow) (c : Cursor) (en tx : List ℕ) where
@@ -180,6 +199,11 @@ pub enters-start : {body t : List ℕ} {v : View} (f : Child → Room → Output
     → Viewed body t v → Outside body t (v .count) (c .depth .0) (c .row) → EntersAt body t v f s c en en none-written c
 enters-start f s c en q o = record { stands = o; is = λ tx. dropping-start f 0 s c en tx q o }
 
+pub enters-next : {body t : List ℕ} {v : View} {f : Child → Room → Output → Reading} {st : StartRow} {i : Cursor} {en′ : List ℕ} {w : Written}
+    {en₂ : List ℕ} {step : Step} → ChildEnters body t v f st i en′ w en₂ step → {s : ScopeRow} {c₀ : Cursor} {en : List ℕ} {c : Cursor}
+    → EntersAt body t v f s c₀ en en′ w c → length en₂ ≡ length en
+enters-next d at = child-entries (d .is []) (at .is [])
+
 module _ {body t : List ℕ} {v : View} {f : Child → Room → Output → Reading} {s : ScopeRow} {c₀ : Cursor} {en en′ : List ℕ} {w : Written}
     {c : Cursor} (at : EntersAt body t v f s c₀ en en′ w c) where
   pub enters-entries : length en′ ≡ length en
@@ -199,7 +223,7 @@ module _ {body t : List ℕ} {v : View} {f : Child → Room → Output → Readi
           → ChildrenEnter body t v f dropping s c₀ en en₂ (Step.Refused why w₂)
       enters-stop q = record { is = λ tx. children-stop (at .is tx) x e (d .is tx) q }
 
-pub ruleset enters-laws = (needs, enters-start, enters-entries, found-start, found-outside, enters-gone, enters-on, enters-stop, less-left)
+pub ruleset enters-laws = (needs, enters-start, enters-entries, enters-next, found-start, found-outside, enters-gone, enters-on, enters-stop, less-left)
 
 module _ {body t : List ℕ} {v : View} (f : Child → Room → Output → Reading) (s : StartRow) (c : Cursor) (en : List ℕ) where
   pub enters-closed : s .closed ≡ true → ElementEnters body t v f dropping s c en en (Step.Done none-written)
