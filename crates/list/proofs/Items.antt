@@ -43,13 +43,15 @@ use Rattle.opening.proofs.Children.{child-not, child-is, element-tested}
 use Rattle.list.specs.List.{itemOf, WholeIs}
 
 -- ---- an item
-module _ (body t : List ℕ) (v : View) (nm : Option (List ℕ)) (s : StartRow) (c : Cursor) {u : Bool} (e : u ≡ wanted nm (nameAt body t (s .row))) where
+module _ (body t : List ℕ) (v : View) (nm : Option (List ℕ)) (s : StartRow) (c : Cursor) {u : Bool}
+    (e : u ≡ wanted nm (nameAt body t (s .row))) where
   pub item-not : (en : List ℕ) (w : Written) → u ≡ false → ChildEnters body t v (itemOf body (viewAt t v) nm) s c en w en (Step.Done w)
   unfolding itemOf readItem
   item-not en w q =
       record {
         is = λ tx.
-            child-not body t v nm (itemOf body (viewAt t v) nm) (λ room. writePiece room 0 (pieceOf body (viewAt t v) (childAt body t (v .count) s c)))
+            child-not body t v nm (itemOf body (viewAt t v) nm)
+            (λ room. writePiece room 0 (pieceOf body (viewAt t v) (childAt body t (v .count) s c)))
             0 s c e (λ room out. refl) en tx w q;
       }
 
@@ -61,7 +63,8 @@ module _ (body t : List ℕ) (v : View) (nm : Option (List ℕ)) (s : StartRow) 
         is = λ tx.
             child-is body t v nm (itemOf body (viewAt t v) nm) (piece 0 (p .start) (p .len)) 0 s c e
             (λ room out.
-            ap (λ (z : doc.Piece). pick (isWanted nm (childAt body t (v .count) s c)) (writePiece room 0 z out) (finished out)) (sym (x .is)))
+            ap (λ (z : doc.Piece). pick (isWanted nm (childAt body t (v .count) s c)) (writePiece room 0 z out) (finished out))
+            (sym (x .is)))
             q (piece-adds 0 (p .start) (p .len)) (d .is tx);
       }
 
@@ -79,17 +82,20 @@ pub named-is : {sheet : List ℕ} {said : ListSheet} {settings : Settings} {name
     → ItemsNamed settings said named → ItemNamed sheet said name → itemName (settingsOf settings) (listSaid sheet) ≡ nameIf named name
 named-is {sheet} {name = name} s a b = a .is (listSaid sheet) name (s .stands .flattened) (b .is)
 
-pub list-tested : {sheet : List ℕ} {said : ListSheet} {settings : Settings} {named : Bool} {name body t : List ℕ} {v : View} {s : StartRow} {c : Cursor}
+pub list-tested : {sheet : List ℕ} {said : ListSheet} {settings : Settings} {named : Bool} {name body t : List ℕ} {v : View}
+    {s : StartRow} {c : Cursor}
     {en en′ : List ℕ} {got r : Step} → ListSaid sheet said → ItemsNamed settings said named → ItemNamed sheet said name
     → ElementEnters body t v (itemOf body (viewAt t v) (nameIf named name)) dropping s c en en′ got → r ≡ lastOf (v .«ill_formed») got
     → WholeIs body t v (itemName (settingsOf settings) (listSaid sheet)) s c en en′ r
 unfolding childrenOf
-list-tested {v = v} d a b l q = rw (named-is d a b) (record { enters = record { is = λ tx. element-tested (v .«ill_formed») (l .is tx) q } })
+list-tested {v = v} d a b l q =
+    rw (named-is d a b) (record { enters = record { is = λ tx. element-tested (v .«ill_formed») (l .is tx) q } })
 
 pub ruleset whole-laws = (needs, root-viewed, root-start, root-stands, list-tested)
 
 -- ---- the list reading, where a root was found
-pub list-found : {body t : List ℕ} {final : ℕ} {deep strict : Bool} {r : Opening} (settings : Settings) (depth : ShapeDepth) {sheet : List ℕ}
+pub list-found : {body t : List ℕ} {final : ℕ} {deep strict : Bool} {r : Opening} (settings : Settings) (depth : ShapeDepth)
+    {sheet : List ℕ}
     {said : ListSheet} → ListRead sheet said → AskedIs body t final (said .ok) deep strict r → deep ≡ tooDeep (settingsOf settings) depth
     → strict ≡ isStrict (settingsOf settings) depth → {v : View} {s : StartRow} {c : Cursor} → r ≡ Opening.Found v s c → (room : Room)
     → listReading body t final sheet (settingsOf settings) depth room

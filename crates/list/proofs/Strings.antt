@@ -29,12 +29,13 @@ use Rattle.decode.specs.declared.reader.Cursor.{Cursor}
 use Rattle.decode.specs.declared.reader.StartRow.{StartRow}
 use Rattle.decode.specs.declared.view.View.{View}
 use Rattle.decode.specs.declared.text.Text.{Text}
-use Rattle.decode.specs.Rows.{InTable, nameAt, valueAt}
+use Rattle.decode.specs.Rows.{nameAt, valueAt}
 use Rattle.decode.specs.Reader.{childAt}
 use Rattle.decode.specs.View.{failureAt, viewAt}
-use Rattle.decode.specs.Text.{textAt, TextIn, TextIs}
+use Rattle.decode.specs.Text.{textAt, TextIs}
 use Rattle.decode.proofs.Names.{value-span}
 use Rattle.decode.proofs.Places.{start-scope}
+use Rattle.decode.proofs.Texts.{row-in}
 use Rattle.output.specs.declared.Written.{Written}
 use Rattle.output.specs.declared.Step.{Step}
 use Rattle.output.specs.Steps.{writeOr, text, eachOf, tested}
@@ -61,9 +62,6 @@ module _ {body t : List ℕ} {w : Written} (q : TextPlace body t w) where
 
   pub empty-ready : Ready w (length {A = ℕ} [])
   empty-ready = record { small = omega (arith, q .small) }
-
-pub text-row : {t : List ℕ} {text : Text} {k : ℕ} → TextIn t text → text ≡ Text.Row k → InTable t k
-text-row w e = rw e at w
 
 as-text : (a : Answer (List ℕ)) (room : Room) (out : Output) → writeAnswer room a out ≡ writeOr room 0 a out
 as-text (gives l) room out = refl
@@ -93,14 +91,17 @@ pub put-refused : (body t : List ℕ) (txt : Text) (en tx : List ℕ) (w : Writt
 unfolding answered
 put-refused body t txt en tx w e = rw e (record { does = record { is = λ h. stays h }; adds = record { most = λ room out. omega arith } })
 
-pub ruleset put-laws = (needs, value-span, row-ready, empty-ready, text-row, put-row, put-empty, put-refused)
+pub ruleset put-laws = (needs, value-span, row-ready, empty-ready, row-in, put-row, put-empty, put-refused)
 
 -- ---- an item
-module _ (body t : List ℕ) (v : View) (nm : Option (List ℕ)) (s : StartRow) (c : Cursor) {u : Bool} (e : u ≡ wanted nm (nameAt body t (s .row))) where
-  pub string-not : (en tx : List ℕ) (w : Written) → u ≡ false → ChildDoes body t v (stringOf (viewAt t v) nm) 65536 s c en tx w en tx (Step.Done w)
+module _ (body t : List ℕ) (v : View) (nm : Option (List ℕ)) (s : StartRow) (c : Cursor) {u : Bool}
+    (e : u ≡ wanted nm (nameAt body t (s .row))) where
+  pub string-not : (en tx : List ℕ) (w : Written) → u ≡ false
+      → ChildDoes body t v (stringOf (viewAt t v) nm) 65536 s c en tx w en tx (Step.Done w)
   unfolding stringOf readString answered
   string-not en tx w q =
-      child-not body t v nm (stringOf (viewAt t v) nm) (answered (textOf (failureAt (v .failure)) (childAt body t (v .count) s c))) 65536 s c e
+      child-not body t v nm (stringOf (viewAt t v) nm)
+      (answered (textOf (failureAt (v .failure)) (childAt body t (v .count) s c))) 65536 s c e
       (λ room out. refl) en tx w q
 
   pub string-text : {txt : Text} {en tx en′ tx′ : List ℕ} {w : Written} {r : Step} → u ≡ true
@@ -110,13 +111,11 @@ module _ (body t : List ℕ) (v : View) (nm : Option (List ℕ)) (s : StartRow) 
   string-text {txt} q x d =
       child-is body t v nm (stringOf (viewAt t v) nm) (answered (textAt body t txt)) 65536 s c e
       (λ room out.
-      ap (λ (a : Answer (List ℕ)). pick (isWanted nm (childAt body t (v .count) s c)) (writeAnswer room a out) (finished out)) (sym (x .same)))
+      ap (λ (a : Answer (List ℕ)). pick (isWanted nm (childAt body t (v .count) s c)) (writeAnswer room a out) (finished out))
+      (sym (x .same)))
       q (d .adds) (d .does)
 
-pub text-in : {body t : List ℕ} {txt : Text} {a : Answer (List ℕ)} → TextIs body t txt a → TextIn t txt
-text-in x = x .row
-
-pub ruleset string-laws = (needs, start-scope, text-in, string-not, string-text)
+pub ruleset string-laws = (needs, start-scope, string-not, string-text)
 
 -- ---- the loop
 pub strings-place : {body t : List ℕ} {v : View} {f : Child → Room → Output → Reading} {past : Child → Reader} {s : ScopeRow} {c₀ : Cursor}
@@ -128,7 +127,8 @@ strings-place a =
 pub ruleset strings-laws = (dropping-laws, strings-place)
 
 -- ---- of a root, "9 last"
-pub strings-tested : {sheet : List ℕ} {said : ListSheet} {settings : Settings} {named : Bool} {name body t : List ℕ} {v : View} {s : StartRow}
+pub strings-tested : {sheet : List ℕ} {said : ListSheet} {settings : Settings} {named : Bool} {name body t : List ℕ} {v : View}
+    {s : StartRow}
     {c : Cursor} {en tx en′ tx′ : List ℕ} {got r : Step} → ListSaid sheet said → ItemsNamed settings said named → ItemNamed sheet said name
     → ElementDoes body t v (stringOf (viewAt t v) (nameIf named name)) dropping s c en tx en′ tx′ got → r ≡ lastOf (v .«ill_formed») got
     → StringsWholeIs body t v (itemName (settingsOf settings) (listSaid sheet)) s c en tx en′ tx′ r
@@ -138,7 +138,8 @@ strings-tested {v = v} d a b l q = rw (named-is d a b) (record { does = element-
 pub ruleset strings-whole-laws = (needs, root-viewed, root-start, root-stands, strings-tested)
 
 -- ---- the string list reading, where a root was found
-pub strings-found : {body t : List ℕ} {final : ℕ} {deep strict : Bool} {r : Opening} (settings : Settings) (depth : ShapeDepth) {sheet : List ℕ}
+pub strings-found : {body t : List ℕ} {final : ℕ} {deep strict : Bool} {r : Opening} (settings : Settings) (depth : ShapeDepth)
+    {sheet : List ℕ}
     {said : ListSheet} → ListRead sheet said → AskedIs body t final (said .ok) deep strict r → deep ≡ tooDeep (settingsOf settings) depth
     → strict ≡ isStrict (settingsOf settings) depth → {v : View} {s : StartRow} {c : Cursor} → r ≡ Opening.Found v s c → (room : Room)
     → stringListReading body t final sheet (settingsOf settings) depth room

@@ -20,6 +20,7 @@ unfoldable pub itemOf : List ℕ → doc.View → Option (List ℕ) → Child �
 itemOf body v nm c room = readItem body v nm room c
 
 -- the items of the root one after another, and "9 last"
-pub record WholeIs (body t : List ℕ) (v : View) (nm : Option (List ℕ)) (s : StartRow) (c : Cursor) (en en′ : List ℕ) (r : Step) : Type 0 where
+pub record WholeIs (body t : List ℕ) (v : View) (nm : Option (List ℕ)) (s : StartRow) (c : Cursor) (en en′ : List ℕ)
+    (r : Step) : Type 0 where
   pub enters : Enters (collected (itemOf body (viewAt t v) nm) (childrenOf (childAt body t (v .count) s c)) (v .«ill_formed»))
       en none-written en′ r

@@ -36,7 +36,9 @@ fn read_item(
     requires { ⌜ Viewed (now body) (now rows) view ⌝ }
     requires { ⌜ StartIn (now body) (now rows) (view .count) start ⌝ }
     requires { ⌜ DroppedIs (now body) (now rows) (view .count) start at past ⌝ }
-    ensures { λ r. ⌜ ChildEnters (now (body .entry)) (now (rows .entry)) view (itemOf (now (body .entry)) (viewAt (now (rows .entry)) view) (nameIf named (now (name .entry)))) start at (now (entries .entry)) w (now (entries .exit)) r ⌝ }
+    ensures { λ r. ⌜ ChildEnters (now (body .entry)) (now (rows .entry)) view
+        (itemOf (now (body .entry)) (viewAt (now (rows .entry)) view) (nameIf named (now (name .entry)))) start at
+        (now (entries .entry)) w (now (entries .exit)) r ⌝ }
 {
     let row = start.row;
     if opening::is_wanted(body, rows, named, name, row) {
@@ -60,7 +62,9 @@ fn items_from(
     requires { ⌜ Viewed (now body) (now rows) view ⌝ }
     requires { ⌜ HasRow (now rows) scope ⌝ }
     requires { ⌜ Outside (now body) (now rows) (view .count) (at .depth .0) (at .row) ⌝ }
-    ensures { λ r. ⌜ ChildrenEnter (now (body .entry)) (now (rows .entry)) view (itemOf (now (body .entry)) (viewAt (now (rows .entry)) view) (nameIf named (now (name .entry)))) dropping scope at (now (entries .entry)) (now (entries .exit)) r ⌝ }
+    ensures { λ r. ⌜ ChildrenEnter (now (body .entry)) (now (rows .entry)) view
+        (itemOf (now (body .entry)) (viewAt (now (rows .entry)) view) (nameIf named (now (name .entry)))) dropping scope at
+        (now (entries .entry)) (now (entries .exit)) r ⌝ }
 {
     let mut c = at;
     let mut held = Written { count: 0, used: 0 };
@@ -110,7 +114,9 @@ fn read_items(
     requires { ⌜ Viewed (now body) (now rows) view ⌝ }
     requires { ⌜ StartIn (now body) (now rows) (view .count) root ⌝ }
     requires { ⌜ Outside (now body) (now rows) (view .count) (at .depth .0) (at .row) ⌝ }
-    ensures { λ r. ⌜ ElementEnters (now (body .entry)) (now (rows .entry)) view (itemOf (now (body .entry)) (viewAt (now (rows .entry)) view) (nameIf named (now (name .entry)))) dropping root at (now (entries .entry)) (now (entries .exit)) r ⌝ }
+    ensures { λ r. ⌜ ElementEnters (now (body .entry)) (now (rows .entry)) view
+        (itemOf (now (body .entry)) (viewAt (now (rows .entry)) view) (nameIf named (now (name .entry)))) dropping root at
+        (now (entries .entry)) (now (entries .exit)) r ⌝ }
 {
     if root.closed {
         return Step::Done(Written { count: 0, used: 0 });
@@ -134,7 +140,8 @@ pub fn list_at(
 ) -> Step
     requires { ⌜ RootAt (now body) (now rows) view root at ⌝ }
     requires { ⌜ ListSaid (now sheet) said ⌝ }
-    ensures { λ r. ⌜ WholeIs (now (body .entry)) (now (rows .entry)) view (itemName (settingsOf settings) (listSaid (now (sheet .entry)))) root at (now (entries .entry)) (now (entries .exit)) r ⌝ }
+    ensures { λ r. ⌜ WholeIs (now (body .entry)) (now (rows .entry)) view
+        (itemName (settingsOf settings) (listSaid (now (sheet .entry)))) root at (now (entries .entry)) (now (entries .exit)) r ⌝ }
 {
     let named = codec::collection::names_items(settings, said);
     let name = codec::collection::item_name(sheet, said, b"member");

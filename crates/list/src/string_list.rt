@@ -33,7 +33,8 @@ fn put_text(
 ) -> Step
     requires { ⌜ TextPlace (now body) (now rows) w ⌝ }
     requires { ⌜ TextIn (now rows) txt ⌝ }
-    ensures { λ r. ⌜ PutIs (now (body .entry)) (now (rows .entry)) txt (now (entries .entry)) (now (texts .entry)) w (now (entries .exit)) (now (texts .exit)) r ⌝ }
+    ensures { λ r. ⌜ PutIs (now (body .entry)) (now (rows .entry)) txt (now (entries .entry)) (now (texts .entry)) w (now (entries .exit))
+        (now (texts .exit)) r ⌝ }
 {
     match txt {
         Text::Row(k) => output::write_text(span(body, rows, k, 5), 0, entries, texts, w),
@@ -58,7 +59,9 @@ fn read_string(
     requires { ⌜ Viewed (now body) (now rows) view ⌝ }
     requires { ⌜ StartIn (now body) (now rows) (view .count) start ⌝ }
     requires { ⌜ TextPlace (now body) (now rows) w ⌝ }
-    ensures { λ r. ⌜ ChildDoes (now (body .entry)) (now (rows .entry)) view (stringOf (viewAt (now (rows .entry)) view) (nameIf named (now (name .entry)))) 65536 start at (now (entries .entry)) (now (texts .entry)) w (now (entries .exit)) (now (texts .exit)) r ⌝ }
+    ensures { λ r. ⌜ ChildDoes (now (body .entry)) (now (rows .entry)) view
+        (stringOf (viewAt (now (rows .entry)) view) (nameIf named (now (name .entry)))) 65536 start at (now (entries .entry))
+        (now (texts .entry)) w (now (entries .exit)) (now (texts .exit)) r ⌝ }
 {
     let row = start.row;
     if opening::is_wanted(body, rows, named, name, row) {
@@ -84,7 +87,9 @@ fn strings_from(
     requires { ⌜ Viewed (now body) (now rows) view ⌝ }
     requires { ⌜ HasRow (now rows) scope ⌝ }
     requires { ⌜ Outside (now body) (now rows) (view .count) (at .depth .0) (at .row) ⌝ }
-    ensures { λ r. ⌜ ChildrenDo (now (body .entry)) (now (rows .entry)) view (stringOf (viewAt (now (rows .entry)) view) (nameIf named (now (name .entry)))) dropping scope at (now (entries .entry)) (now (texts .entry)) (now (entries .exit)) (now (texts .exit)) r ⌝ }
+    ensures { λ r. ⌜ ChildrenDo (now (body .entry)) (now (rows .entry)) view
+        (stringOf (viewAt (now (rows .entry)) view) (nameIf named (now (name .entry)))) dropping scope at (now (entries .entry))
+        (now (texts .entry)) (now (entries .exit)) (now (texts .exit)) r ⌝ }
 {
     let mut c = at;
     let mut held = Written { count: 0, used: 0 };
@@ -135,7 +140,9 @@ fn read_strings(
     requires { ⌜ Viewed (now body) (now rows) view ⌝ }
     requires { ⌜ StartIn (now body) (now rows) (view .count) root ⌝ }
     requires { ⌜ Outside (now body) (now rows) (view .count) (at .depth .0) (at .row) ⌝ }
-    ensures { λ r. ⌜ ElementDoes (now (body .entry)) (now (rows .entry)) view (stringOf (viewAt (now (rows .entry)) view) (nameIf named (now (name .entry)))) dropping root at (now (entries .entry)) (now (texts .entry)) (now (entries .exit)) (now (texts .exit)) r ⌝ }
+    ensures { λ r. ⌜ ElementDoes (now (body .entry)) (now (rows .entry)) view
+        (stringOf (viewAt (now (rows .entry)) view) (nameIf named (now (name .entry)))) dropping root at (now (entries .entry))
+        (now (texts .entry)) (now (entries .exit)) (now (texts .exit)) r ⌝ }
 {
     if root.closed {
         return Step::Done(Written { count: 0, used: 0 });
@@ -160,7 +167,9 @@ pub fn string_list_at(
 ) -> Step
     requires { ⌜ RootAt (now body) (now rows) view root at ⌝ }
     requires { ⌜ ListSaid (now sheet) said ⌝ }
-    ensures { λ r. ⌜ StringsWholeIs (now (body .entry)) (now (rows .entry)) view (itemName (settingsOf settings) (listSaid (now (sheet .entry)))) root at (now (entries .entry)) (now (texts .entry)) (now (entries .exit)) (now (texts .exit)) r ⌝ }
+    ensures { λ r. ⌜ StringsWholeIs (now (body .entry)) (now (rows .entry)) view
+        (itemName (settingsOf settings) (listSaid (now (sheet .entry)))) root at (now (entries .entry)) (now (texts .entry))
+        (now (entries .exit)) (now (texts .exit)) r ⌝ }
 {
     let named = codec::collection::names_items(settings, said);
     let name = codec::collection::item_name(sheet, said, b"member");
