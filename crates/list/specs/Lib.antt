@@ -1,4 +1,2 @@
 pub mod List
 pub mod StringList
-pub mod Call
-pub mod StringCall

@@ -1,13 +1,14 @@
 // The list reading: each item a piece.
-ghost use Rattle.decode.specs.Reader.{HasRow, Outside, StartIn, DroppedIs};
-ghost use Rattle.decode.specs.View.{Viewed};
-ghost use Rattle.opening.specs.Wanted.{nameIf};
-ghost use Rattle.list.specs.List.{ItemIs, ItemsIs, ListIs};
-ghost use Rattle.opening.specs.Opening.{RootAt};
-ghost use Rattle.list.specs.Call.{WholeIs};
+ghost use Rattle.document.specs.Scope.{dropping};
 ghost use Rattle.sheet.specs.Names.{itemName};
 ghost use Rattle.codec.specs.Settings.{settingsOf};
 ghost use Rattle.codec.specs.Collection.{listSaid, ListSaid};
+ghost use Rattle.decode.specs.Reader.{HasRow, Outside, StartIn, DroppedIs};
+ghost use Rattle.decode.specs.View.{viewAt, Viewed};
+ghost use Rattle.opening.specs.Wanted.{nameIf};
+ghost use Rattle.opening.specs.Opening.{RootAt};
+ghost use Rattle.opening.specs.Level.{ChildEnters, ChildrenEnter, ElementEnters};
+ghost use Rattle.list.specs.List.{itemOf, WholeIs};
 use codec::collection::ListSheet;
 use codec::settings::Settings;
 use decode::reader::Cursor;
@@ -35,7 +36,9 @@ fn read_item(
     requires { ⌜ Viewed (now body) (now rows) view ⌝ }
     requires { ⌜ StartIn (now body) (now rows) (view .count) start ⌝ }
     requires { ⌜ DroppedIs (now body) (now rows) (view .count) start at past ⌝ }
-    ensures { λ r. ⌜ ItemIs (now (body .entry)) (now (rows .entry)) view (nameIf named (now (name .entry))) start at (now (entries .entry)) w (now (entries .exit)) r ⌝ }
+    ensures { λ r. ⌜ ChildEnters (now (body .entry)) (now (rows .entry)) view
+        (itemOf (now (body .entry)) (viewAt (now (rows .entry)) view) (nameIf named (now (name .entry)))) start at
+        (now (entries .entry)) w (now (entries .exit)) r ⌝ }
 {
     let row = start.row;
     if opening::is_wanted(body, rows, named, name, row) {
@@ -55,15 +58,16 @@ fn items_from(
     scope: ScopeRow,
     at: Cursor,
     entries: &mut [u32],
-    w: Written,
 ) -> Step
     requires { ⌜ Viewed (now body) (now rows) view ⌝ }
     requires { ⌜ HasRow (now rows) scope ⌝ }
     requires { ⌜ Outside (now body) (now rows) (view .count) (at .depth .0) (at .row) ⌝ }
-    ensures { λ r. ⌜ ItemsIs (now (body .entry)) (now (rows .entry)) view (nameIf named (now (name .entry))) scope at (now (entries .entry)) w (now (entries .exit)) r ⌝ }
+    ensures { λ r. ⌜ ChildrenEnter (now (body .entry)) (now (rows .entry)) view
+        (itemOf (now (body .entry)) (viewAt (now (rows .entry)) view) (nameIf named (now (name .entry)))) dropping scope at
+        (now (entries .entry)) (now (entries .exit)) r ⌝ }
 {
     let mut c = at;
-    let mut held = w;
+    let mut held = Written { count: 0, used: 0 };
     loop {
         match decode::reader::next_start_element(body, rows, view.count, scope, c) {
             Next::Gone(_) => {
@@ -96,7 +100,7 @@ fn items_from(
     }
 }
 
-// Writes the items of an element: its children that are wanted, in order.
+// Writes the items of an element: one that ended in `/>` has none.
 fn read_items(
     body: &[u8],
     rows: &[u32],
@@ -106,19 +110,20 @@ fn read_items(
     root: StartRow,
     at: Cursor,
     entries: &mut [u32],
-    w: Written,
 ) -> Step
     requires { ⌜ Viewed (now body) (now rows) view ⌝ }
     requires { ⌜ StartIn (now body) (now rows) (view .count) root ⌝ }
     requires { ⌜ Outside (now body) (now rows) (view .count) (at .depth .0) (at .row) ⌝ }
-    ensures { λ r. ⌜ ListIs (now (body .entry)) (now (rows .entry)) view (nameIf named (now (name .entry))) root at (now (entries .entry)) w (now (entries .exit)) r ⌝ }
+    ensures { λ r. ⌜ ElementEnters (now (body .entry)) (now (rows .entry)) view
+        (itemOf (now (body .entry)) (viewAt (now (rows .entry)) view) (nameIf named (now (name .entry)))) dropping root at
+        (now (entries .entry)) (now (entries .exit)) r ⌝ }
 {
     if root.closed {
-        return Step::Done(w);
+        return Step::Done(Written { count: 0, used: 0 });
     }
     let own = root.depth;
     let scope = ScopeRow::Element(own, root.row);
-    items_from(body, rows, view, named, name, scope, at, entries, w)
+    items_from(body, rows, view, named, name, scope, at, entries)
 }
 
 // The list of a root that was found, by its sheet: "10 as met; 9 last".
@@ -135,11 +140,11 @@ pub fn list_at(
 ) -> Step
     requires { ⌜ RootAt (now body) (now rows) view root at ⌝ }
     requires { ⌜ ListSaid (now sheet) said ⌝ }
-    ensures { λ r. ⌜ WholeIs (now (body .entry)) (now (rows .entry)) view (itemName (settingsOf settings) (listSaid (now (sheet .entry)))) root at (now (entries .entry)) (now (entries .exit)) r ⌝ }
+    ensures { λ r. ⌜ WholeIs (now (body .entry)) (now (rows .entry)) view
+        (itemName (settingsOf settings) (listSaid (now (sheet .entry)))) root at (now (entries .entry)) (now (entries .exit)) r ⌝ }
 {
     let named = codec::collection::names_items(settings, said);
     let name = codec::collection::item_name(sheet, said, b"member");
-    let none = Written { count: 0, used: 0 };
-    let got = read_items(body, rows, view, named, name, root, at, entries, none);
+    let got = read_items(body, rows, view, named, name, root, at, entries);
     opening::tested(view.ill_formed, got)
 }

@@ -1,14 +1,15 @@
 // The string list reading: each item a text.
-ghost use Rattle.decode.specs.Reader.{HasRow, Outside, StartIn};
-ghost use Rattle.decode.specs.View.{Viewed};
-ghost use Rattle.decode.specs.Text.{TextIn};
+ghost use Rattle.document.specs.Scope.{dropping};
 ghost use Rattle.sheet.specs.Names.{itemName};
 ghost use Rattle.codec.specs.Settings.{settingsOf};
 ghost use Rattle.codec.specs.Collection.{listSaid, ListSaid};
+ghost use Rattle.decode.specs.Reader.{HasRow, Outside, StartIn};
+ghost use Rattle.decode.specs.View.{viewAt, Viewed};
+ghost use Rattle.decode.specs.Text.{TextIn};
 ghost use Rattle.opening.specs.Wanted.{nameIf};
 ghost use Rattle.opening.specs.Opening.{RootAt};
-ghost use Rattle.list.specs.StringList.{TextPlace, PutIs, StringIs, StringsIs, RootStringsIs};
-ghost use Rattle.list.specs.StringCall.{StringsWholeIs};
+ghost use Rattle.opening.specs.Level.{ChildDoes, ChildrenDo, ElementDoes};
+ghost use Rattle.list.specs.StringList.{TextPlace, PutIs, stringOf, StringsWholeIs};
 use codec::collection::ListSheet;
 use codec::settings::Settings;
 use decode::name::span;
@@ -30,9 +31,10 @@ fn put_text(
     texts: &mut [u8],
     w: Written,
 ) -> Step
-    requires { ⌜ TextPlace (now body) (now rows) (now texts) w ⌝ }
+    requires { ⌜ TextPlace (now body) (now rows) w ⌝ }
     requires { ⌜ TextIn (now rows) txt ⌝ }
-    ensures { λ r. ⌜ PutIs (now (body .entry)) (now (rows .entry)) txt (now (entries .entry)) (now (texts .entry)) w (now (entries .exit)) (now (texts .exit)) r ⌝ }
+    ensures { λ r. ⌜ PutIs (now (body .entry)) (now (rows .entry)) txt (now (entries .entry)) (now (texts .entry)) w (now (entries .exit))
+        (now (texts .exit)) r ⌝ }
 {
     match txt {
         Text::Row(k) => output::write_text(span(body, rows, k, 5), 0, entries, texts, w),
@@ -56,8 +58,10 @@ fn read_string(
 ) -> Step
     requires { ⌜ Viewed (now body) (now rows) view ⌝ }
     requires { ⌜ StartIn (now body) (now rows) (view .count) start ⌝ }
-    requires { ⌜ TextPlace (now body) (now rows) (now texts) w ⌝ }
-    ensures { λ r. ⌜ StringIs (now (body .entry)) (now (rows .entry)) view (nameIf named (now (name .entry))) start at (now (entries .entry)) (now (texts .entry)) w (now (entries .exit)) (now (texts .exit)) r ⌝ }
+    requires { ⌜ TextPlace (now body) (now rows) w ⌝ }
+    ensures { λ r. ⌜ ChildDoes (now (body .entry)) (now (rows .entry)) view
+        (stringOf (viewAt (now (rows .entry)) view) (nameIf named (now (name .entry)))) 65536 start at (now (entries .entry))
+        (now (texts .entry)) w (now (entries .exit)) (now (texts .exit)) r ⌝ }
 {
     let row = start.row;
     if opening::is_wanted(body, rows, named, name, row) {
@@ -83,7 +87,9 @@ fn strings_from(
     requires { ⌜ Viewed (now body) (now rows) view ⌝ }
     requires { ⌜ HasRow (now rows) scope ⌝ }
     requires { ⌜ Outside (now body) (now rows) (view .count) (at .depth .0) (at .row) ⌝ }
-    ensures { λ r. ⌜ StringsIs (now (body .entry)) (now (rows .entry)) view (nameIf named (now (name .entry))) scope at (now (entries .entry)) (now (texts .entry)) (now (entries .exit)) (now (texts .exit)) r ⌝ }
+    ensures { λ r. ⌜ ChildrenDo (now (body .entry)) (now (rows .entry)) view
+        (stringOf (viewAt (now (rows .entry)) view) (nameIf named (now (name .entry)))) dropping scope at (now (entries .entry))
+        (now (texts .entry)) (now (entries .exit)) (now (texts .exit)) r ⌝ }
 {
     let mut c = at;
     let mut held = Written { count: 0, used: 0 };
@@ -119,7 +125,7 @@ fn strings_from(
     }
 }
 
-// Writes the strings of an element: the first texts of its children that are wanted, in order.
+// Writes the strings of an element: one that ended in `/>` has none.
 fn read_strings(
     body: &[u8],
     rows: &[u32],
@@ -134,7 +140,9 @@ fn read_strings(
     requires { ⌜ Viewed (now body) (now rows) view ⌝ }
     requires { ⌜ StartIn (now body) (now rows) (view .count) root ⌝ }
     requires { ⌜ Outside (now body) (now rows) (view .count) (at .depth .0) (at .row) ⌝ }
-    ensures { λ r. ⌜ RootStringsIs (now (body .entry)) (now (rows .entry)) view (nameIf named (now (name .entry))) root at (now (entries .entry)) (now (texts .entry)) (now (entries .exit)) (now (texts .exit)) r ⌝ }
+    ensures { λ r. ⌜ ElementDoes (now (body .entry)) (now (rows .entry)) view
+        (stringOf (viewAt (now (rows .entry)) view) (nameIf named (now (name .entry)))) dropping root at (now (entries .entry))
+        (now (texts .entry)) (now (entries .exit)) (now (texts .exit)) r ⌝ }
 {
     if root.closed {
         return Step::Done(Written { count: 0, used: 0 });
@@ -144,7 +152,7 @@ fn read_strings(
     strings_from(body, rows, view, named, name, scope, at, entries, texts)
 }
 
-// The string list of a root that was found, by its sheet.
+// The string list of a root that was found, by its sheet: "As list, with 6 to 9 as met."
 pub fn string_list_at(
     body: &[u8],
     rows: &[u32],
@@ -159,7 +167,9 @@ pub fn string_list_at(
 ) -> Step
     requires { ⌜ RootAt (now body) (now rows) view root at ⌝ }
     requires { ⌜ ListSaid (now sheet) said ⌝ }
-    ensures { λ r. ⌜ StringsWholeIs (now (body .entry)) (now (rows .entry)) view (itemName (settingsOf settings) (listSaid (now (sheet .entry)))) root at (now (entries .entry)) (now (texts .entry)) (now (entries .exit)) (now (texts .exit)) r ⌝ }
+    ensures { λ r. ⌜ StringsWholeIs (now (body .entry)) (now (rows .entry)) view
+        (itemName (settingsOf settings) (listSaid (now (sheet .entry)))) root at (now (entries .entry)) (now (texts .entry))
+        (now (entries .exit)) (now (texts .exit)) r ⌝ }
 {
     let named = codec::collection::names_items(settings, said);
     let name = codec::collection::item_name(sheet, said, b"member");

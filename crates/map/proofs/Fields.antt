@@ -1,8 +1,8 @@
 -- Laws of a child of a map entry: its first text, measured, what it is, and what it makes of the fields.
-use Prim.Native.Nat.{ℕ, _+_, _*_, _≤_}
+use Prim.Native.Nat.{ℕ, _+_, _*_}
 use mathlib.Core.Path.{_≡_, refl, sym, _∙_, ap}
 use mathlib.Core.Bool.{Bool, true, false}
-use mathlib.Core.List.{List, []}
+use mathlib.Core.List.{List}
 use mathlib.Core.Option.{some}
 use native.Mathlib.Omega.{arith}
 use borrow.Author.Needs.{needs}
@@ -30,8 +30,9 @@ use Rattle.decode.specs.declared.piece.Piece.{Piece}
 use Rattle.decode.specs.Rows.{InTable, Readable, nameAt, valueAt}
 use Rattle.decode.specs.Reader.{childAt}
 use Rattle.decode.specs.View.{failureAt, viewAt}
-use Rattle.decode.specs.Piece.{pieceAt, PieceIs}
-use Rattle.decode.specs.Text.{textAt, TextIn, TextIs}
+use Rattle.decode.specs.Piece.{PieceIs}
+use Rattle.decode.specs.Text.{textAt, TextIs}
+use Rattle.decode.proofs.Texts.{row-in}
 use Rattle.decode.proofs.Names.{local-span, value-span}
 use Rattle.decode.proofs.Places.{start-scope}
 use Rattle.output.specs.Steps.{plainOf}
@@ -43,7 +44,7 @@ use Rattle.map.specs.declared.field.Value.{Value}
 use Rattle.map.specs.declared.field.Fields.{Fields}
 use Rattle.map.specs.declared.field.Field.{Field}
 use Rattle.map.specs.declared.field.Role.{Role}
-use Rattle.map.specs.Field.{plainAt, PlainIn, MeasuredIs, keyAt, fieldsAt, FieldsIn, FieldIs, withKey, withValue, roleOf, RoleIs}
+use Rattle.map.specs.Field.{PlainIn, MeasuredIs, keyAt, fieldsAt, FieldsIn, withKey, withValue, roleOf, RoleIs}
 use Rattle.map.specs.Field.{KeyRead, ValueRead, FieldRead}
 
 -- ---- a first text
@@ -81,11 +82,9 @@ module _ {body t : List ℕ} (b : Readable body t) {k : ℕ} (i : InTable t k) {
 
 pub ruleset row-laws = (needs, value-span, row-length, row-bad, row-never)
 
-pub text-row : {t : List ℕ} {text : Text} {k : ℕ} → TextIn t text → text ≡ Text.Row k → InTable t k
-text-row w e = rw e at w
-
 module _ (body t : List ℕ) (text : Text) where
-  pub measured-row : {k : ℕ} {r : FirstText} → text ≡ Text.Row k → MeasuredIs body (textIn body t k) r → MeasuredIs body (textAt body t text) r
+  pub measured-row : {k : ℕ} {r : FirstText} → text ≡ Text.Row k → MeasuredIs body (textIn body t k) r
+      → MeasuredIs body (textAt body t text) r
   measured-row e x = rw e x
 
   pub measured-empty : text ≡ Text.Empty → MeasuredIs body (textAt body t text) (FirstText.Read (record { start = 0; len = 0; size = 0 }))
@@ -95,16 +94,13 @@ module _ (body t : List ℕ) (text : Text) where
   pub measured-refused : {why : Refusal} → text ≡ Text.Refused why → MeasuredIs body (textAt body t text) (FirstText.Refused why)
   measured-refused e = rw e (record { same = refl; known = tt })
 
-pub ruleset measured-laws = (needs, text-row, measured-row, measured-empty, measured-refused)
+pub ruleset measured-laws = (needs, row-in, measured-row, measured-empty, measured-refused)
 
 module _ {body t : List ℕ} {text : Text} {a : Answer (List ℕ)} (x : TextIs body t text a) where
-  pub text-in : TextIn t text
-  text-in = x .row
-
   pub text-measured : {r : FirstText} → MeasuredIs body (textAt body t text) r → MeasuredIs body a r
   text-measured y = record { same = y .same ∙ x .same; known = y .known }
 
-pub ruleset text-laws = (needs, text-in, text-measured)
+pub ruleset text-laws = (needs, text-measured)
 
 -- ---- what a child is
 module _ (m : MapSheet) {local x : List ℕ} (p : x ≡ local) {a : Bool} (e : a ≡ sameb x (keyName m)) where
@@ -141,7 +137,10 @@ module _ {body t : List ℕ} {v : View} {f : Fields} (w : FieldsIn body f) {s : 
     module _ {aggregate : Bool} (e : aggregate ≡ false) where
       pub value-refused : {why : Refusal} → m ≡ FirstText.Refused why → ValueRead body t v aggregate f s c (Field.Refused why)
       value-refused q =
-          record { is = record { same = rw e (ap (λ (a : Answer (List ℕ)). withValue (fieldsAt body f) (asValue a)) (rw q at (x .same))); known = tt } }
+          record {
+            is = record
+                { same = rw e (ap (λ (a : Answer (List ℕ)). withValue (fieldsAt body f) (asValue a)) (rw q at (x .same))); known = tt };
+          }
 
       pub value-text : {l : Measured} → m ≡ FirstText.Read l
           → ValueRead body t v aggregate f s c (Field.Read (record { key = f .key; value = Value.Text l }))
@@ -179,7 +178,8 @@ by-role true b k v o = refl
 by-role false true k v o = refl
 by-role false false k v o = refl
 
-module _ {body sheet : List ℕ} (t : List ℕ) (v : View) {map : codec.MapSheet} (g : MapSaid sheet map) {f : Fields} (w : FieldsIn body f) (s : StartRow)
+module _ {body sheet : List ℕ} (t : List ℕ) (v : View) {map : codec.MapSheet} (g : MapSaid sheet map) {f : Fields} (w : FieldsIn body f)
+    (s : StartRow)
     (c : Cursor) {role : Role} (x : RoleIs (mapSaid sheet) (nameAt body t (s .row) .local) role) where
   as-role : (u : Role) → role ≡ u → byRole u
       (withKey (fieldsAt body f) (textHere body t v s c))
@@ -198,7 +198,8 @@ module _ {body sheet : List ℕ} (t : List ℕ) (v : View) {map : codec.MapSheet
   pub field-key : {r : Field} → role ≡ Role.Key → KeyRead body t v f s c r → FieldRead body t v (mapSaid sheet) f s c r
   field-key e y = record { is = record { same = y .is .same ∙ as-role Role.Key e; known = y .is .known } }
 
-  pub field-value : {r : Field} → role ≡ Role.Value → ValueRead body t v (map .aggregate) f s c r → FieldRead body t v (mapSaid sheet) f s c r
+  pub field-value : {r : Field} → role ≡ Role.Value → ValueRead body t v (map .aggregate) f s c r
+      → FieldRead body t v (mapSaid sheet) f s c r
   field-value e y =
       let z = rw (← g .stands .aggregate) at (y .is) in
       record { is = record { same = z .same ∙ as-role Role.Value e; known = z .known } }

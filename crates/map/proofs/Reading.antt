@@ -1,5 +1,5 @@
 -- Laws of reading an entry of a map: the loop over its children, the place after it, and a child that is no entry.
-use Prim.Native.Nat.{ℕ, _-_, _≤_, _<_}
+use Prim.Native.Nat.{ℕ, _≤_}
 use mathlib.Core.Path.{_≡_, refl, sym, _∙_, ap}
 use mathlib.Core.Bool.{Bool, true, false}
 use mathlib.Core.List.{List}
@@ -8,7 +8,7 @@ use borrow.Author.Needs.{needs}
 use lib.ListN.{length}
 use Rattle.refusal.specs.declared.Refusal.{Refusal}
 use Rattle.refusal.specs.Answer.{Answer, onward}
-use Rattle.document.specs.Scope.{Level, done, children, childrenOf, dropping, endOf, leave, levelIn, afterChildren}
+use Rattle.document.specs.Scope.{Level, done, children, childrenOf, dropping, endOf, leave, afterChildren}
 use Rattle.document.specs.Laws.Fuel.{dropping-shortens}
 use Rattle.sheet.specs.Sheet.{MapSheet}
 use Rattle.readings.specs.Collection.{noFields, readFields, readEntry, writeEntry, afterEntry}
@@ -91,7 +91,8 @@ module _ {body t : List ℕ} {v : View} {m : MapSheet} {s : ScopeRow} {c₀ c : 
       met : inside body t v s c ≡ Level.meets (childAt body t (v .count) st i) (inside body t v s (p .at))
       met = level-found dropping dropping-shortens x e (dropped-after y)
 
-      turned : onward (fieldAt body got) (fieldsIn body t v m (inside body t v s (p .at))) ≡ fieldsIn body t v m (inside body t v s c₀) noFields
+      turned : onward (fieldAt body got) (fieldsIn body t v m (inside body t v s (p .at)))
+          ≡ fieldsIn body t v m (inside body t v s c₀) noFields
       unfolding children readFields
       turned =
           ap (λ (a : Answer read.Fields). onward a (fieldsIn body t v m (inside body t v s (p .at)))) (z .is .same)
@@ -128,7 +129,8 @@ module _ {body t : List ℕ} {v : View} {m : MapSheet} (s : StartRow) (c : Curso
         };
       }
 
-  pub entry-inside : {r : Entry} → s .closed ≡ false → FieldsFrom body t v m s (ScopeRow.Element (s .depth) (s .row)) c r → EntryRead body t v m s c r
+  pub entry-inside : {r : Entry} → s .closed ≡ false → FieldsFrom body t v m s (ScopeRow.Element (s .depth) (s .row)) c r
+      → EntryRead body t v m s c r
   entry-inside e x = record { is = rw e (rw e at (x .is)) }
 
 pub ruleset entry-laws = (needs, start-scope, entry-closed, entry-inside)

@@ -43,7 +43,8 @@ pub ruleset raw-laws = (needs, raw-end, raw-fits, raw-is)
 pub value-comes : {key : List ℕ} {n : ℕ} → KeyComes key n → Comes key n
 value-comes c = c .comes
 
-pub value-no : (body key : List ℕ) (v : Value) {en tx : List ℕ} {w : Written} → v ≡ Value.Nothing → ValueWrites body key v en tx w en tx (Step.Done w)
+pub value-no : (body key : List ℕ) (v : Value) {en tx : List ℕ} {w : Written} → v ≡ Value.Nothing
+    → ValueWrites body key v en tx w en tx (Step.Done w)
 unfolding fieldsStep
 value-no body key v e =
     rw e (record { does = record { is = λ h. record { is = refl; holds = h } }; adds = record { most = λ room out. omega arith } })
@@ -95,7 +96,8 @@ pub ruleset value-laws =
     (needs, value-comes, value-no, value-plain, value-size, value-ready, value-text, start-fits, len-fits, piece-ready, value-piece)
 
 -- ---- by the key
-pub key-no : (body : List ℕ) (f : Fields) {en tx : List ℕ} {w : Written} → f .key ≡ Key.Nothing → FieldsWrite body f en tx w en tx (Step.Done w)
+pub key-no : (body : List ℕ) (f : Fields) {en tx : List ℕ} {w : Written} → f .key ≡ Key.Nothing
+    → FieldsWrite body f en tx w en tx (Step.Done w)
 unfolding fieldsStep
 key-no body f e =
     record { does = rw e (record { is = λ h. record { is = refl; holds = h } }); adds = rw e (record { most = λ room out. omega arith }) }

@@ -4,7 +4,7 @@ ghost use Rattle.table.specs.Row.{cut};
 ghost use Rattle.codec.specs.Collection.{mapSaid, MapSaid};
 ghost use Rattle.decode.specs.Reader.{HasRow, Outside, StartIn};
 ghost use Rattle.decode.specs.View.{Viewed};
-ghost use Rattle.output.specs.Held.{Comes, Ready};
+ghost use Rattle.output.specs.Held.{Ready};
 ghost use Rattle.map.specs.Field.{PlainIn, ValueIn, FieldsIn};
 ghost use Rattle.map.specs.Entry.{FieldsFrom, EntryRead, EntryIs, KeyComes, ValueWrites, FieldsWrite};
 use crate::field::Field;
@@ -164,7 +164,8 @@ fn write_value(
     requires { ⌜ KeyComes (now key) n ⌝ }
     requires { ⌜ ValueIn (now body) value ⌝ }
     requires { ⌜ Ready w 131072 ⌝ }
-    ensures { λ r. ⌜ ValueWrites (now (body .entry)) (now (key .entry)) value (now (entries .entry)) (now (texts .entry)) w (now (entries .exit)) (now (texts .exit)) r ⌝ }
+    ensures { λ r. ⌜ ValueWrites (now (body .entry)) (now (key .entry)) value (now (entries .entry)) (now (texts .entry)) w
+        (now (entries .exit)) (now (texts .exit)) r ⌝ }
 {
     match value {
         Value::Nothing => Step::Done(w),
@@ -195,7 +196,8 @@ pub fn write_fields(
 ) -> Step
     requires { ⌜ FieldsIn (now body) f ⌝ }
     requires { ⌜ Ready w 131072 ⌝ }
-    ensures { λ r. ⌜ FieldsWrite (now (body .entry)) f (now (entries .entry)) (now (texts .entry)) w (now (entries .exit)) (now (texts .exit)) r ⌝ }
+    ensures { λ r. ⌜ FieldsWrite (now (body .entry)) f (now (entries .entry)) (now (texts .entry)) w (now (entries .exit))
+        (now (texts .exit)) r ⌝ }
 {
     let key = f.key;
     let value = f.value;

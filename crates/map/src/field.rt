@@ -1,6 +1,5 @@
-// The fields of a map entry: what a child of the entry makes of them. A text is measured as it is met, so that what is refused in it is refused
-// before room is tested, and unescaped only when the entry is written.
-ghost use mathlib.Core.Path.{_≡_};
+// The fields of a map entry: what a child of the entry makes of them. A text is measured as it is met, so that what is refused in it is
+// refused before room is tested, and unescaped only when the entry is written.
 ghost use Rattle.document.specs.Text.{textOf, unescapedText};
 ghost use Rattle.reference.specs.Text.{unescaped};
 ghost use Rattle.codec.specs.Collection.{mapSaid, MapSaid};
@@ -104,7 +103,8 @@ fn measure_text(body: &[u8], rows: &[u32], text: Text) -> FirstText
 fn text_of(body: &[u8], rows: &[u32], view: View, start: StartRow, at: Cursor) -> FirstText
     requires { ⌜ Viewed (now body) (now rows) view ⌝ }
     requires { ⌜ StartIn (now body) (now rows) (view .count) start ⌝ }
-    ensures { λ r. ⌜ MeasuredIs (now (body .entry)) (textOf (failureAt (view .failure)) (childAt (now (body .entry)) (now (rows .entry)) (view .count) start at)) r ⌝ }
+    ensures { λ r. ⌜ MeasuredIs (now (body .entry))
+        (textOf (failureAt (view .failure)) (childAt (now (body .entry)) (now (rows .entry)) (view .count) start at)) r ⌝ }
 {
     let failure = view.failure;
     let text = decode::text::try_data(body, rows, view.count, failure, start, at);

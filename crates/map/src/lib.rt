@@ -1,6 +1,6 @@
-// The map of a root: its entries one after another, each written once its fields are read; "9 last". What is answered is defined in `readings`
-// (Collection.antt); the crate rests on `opening` for the children that are wanted, on `decode` for the rows, on `codec` for the sheet and on
-// `output` for what is written.
+// The map of a root: its entries one after another, each written once its fields are read; "9 last". What is answered is defined in
+// `readings` (Collection.antt); the crate rests on `opening` for the children that are wanted, on `decode` for the rows, on `codec` for the
+// sheet and on `output` for what is written.
 ghost use Rattle.sheet.specs.Names.{entryName};
 ghost use Rattle.codec.specs.Settings.{settingsOf};
 ghost use Rattle.codec.specs.Collection.{mapSaid, MapSaid};
@@ -42,7 +42,10 @@ fn entries_from(
     requires { ⌜ MapSaid (now sheet) map ⌝ }
     requires { ⌜ HasRow (now rows) scope ⌝ }
     requires { ⌜ Outside (now body) (now rows) (view .count) (at .depth .0) (at .row) ⌝ }
-    ensures { λ r. ⌜ ChildrenDo (now (body .entry)) (now (rows .entry)) view (mapEntry (now (body .entry)) (viewAt (now (rows .entry)) view) (mapSaid (now (sheet .entry))) (entryNamed named)) (afterEntry (entryNamed named)) scope at (now (entries .entry)) (now (texts .entry)) (now (entries .exit)) (now (texts .exit)) r ⌝ }
+    ensures { λ r. ⌜ ChildrenDo (now (body .entry)) (now (rows .entry)) view
+        (mapEntry (now (body .entry)) (viewAt (now (rows .entry)) view) (mapSaid (now (sheet .entry))) (entryNamed named))
+        (afterEntry (entryNamed named)) scope at (now (entries .entry)) (now (texts .entry)) (now (entries .exit))
+        (now (texts .exit)) r ⌝ }
 {
     let mut c = at;
     let mut w = Written { count: 0, used: 0 };
@@ -90,7 +93,10 @@ fn read_entries(
     requires { ⌜ MapSaid (now sheet) map ⌝ }
     requires { ⌜ StartIn (now body) (now rows) (view .count) root ⌝ }
     requires { ⌜ Outside (now body) (now rows) (view .count) (at .depth .0) (at .row) ⌝ }
-    ensures { λ r. ⌜ ElementDoes (now (body .entry)) (now (rows .entry)) view (mapEntry (now (body .entry)) (viewAt (now (rows .entry)) view) (mapSaid (now (sheet .entry))) (entryNamed named)) (afterEntry (entryNamed named)) root at (now (entries .entry)) (now (texts .entry)) (now (entries .exit)) (now (texts .exit)) r ⌝ }
+    ensures { λ r. ⌜ ElementDoes (now (body .entry)) (now (rows .entry)) view
+        (mapEntry (now (body .entry)) (viewAt (now (rows .entry)) view) (mapSaid (now (sheet .entry))) (entryNamed named))
+        (afterEntry (entryNamed named)) root at (now (entries .entry)) (now (texts .entry)) (now (entries .exit))
+        (now (texts .exit)) r ⌝ }
 {
     if root.closed {
         return Step::Done(Written { count: 0, used: 0 });
@@ -111,7 +117,7 @@ fn read_entries(
     )
 }
 
-// The map of a root that was found, by its sheet.
+// The map of a root that was found, by its sheet: "The same, with 6, 7, 8, 9 as met in a key or value".
 pub fn map_at(
     body: &[u8],
     rows: &[u32],
@@ -126,7 +132,9 @@ pub fn map_at(
 ) -> Step
     requires { ⌜ RootAt (now body) (now rows) view root at ⌝ }
     requires { ⌜ MapSaid (now sheet) said ⌝ }
-    ensures { λ r. ⌜ MapIs (now (body .entry)) (now (rows .entry)) view (mapSaid (now (sheet .entry))) (entryName (settingsOf settings) (mapSaid (now (sheet .entry)))) root at (now (entries .entry)) (now (texts .entry)) (now (entries .exit)) (now (texts .exit)) r ⌝ }
+    ensures { λ r. ⌜ MapIs (now (body .entry)) (now (rows .entry)) view (mapSaid (now (sheet .entry)))
+        (entryName (settingsOf settings) (mapSaid (now (sheet .entry)))) root at (now (entries .entry)) (now (texts .entry))
+        (now (entries .exit)) (now (texts .exit)) r ⌝ }
 {
     let named = codec::collection::names_entries(settings, said);
     let got = read_entries(

@@ -38,34 +38,44 @@ abbrev sheetless : (A : Type 0) → Answer A
 sheetless A = refuses Refusal.Sheet
 
 module _ {S : Type 0} (body table : List ℕ) (final : ℕ) (settings : Settings) (depth : ShapeDepth) where
-  pub asked-none : {why : Refusal} {sheet : Option S} → sheet ≡ none → openingOf body table final false (tooDeep settings depth) (isStrict settings depth) ≡ refuses why → asked body table final sheet settings depth ≡ refuses why
+  pub asked-none : {why : Refusal} {sheet : Option S} → sheet ≡ none
+      → openingOf body table final false (tooDeep settings depth) (isStrict settings depth) ≡ refuses why
+      → asked body table final sheet settings depth ≡ refuses why
   unfolding asked openingOf
   asked-none {why} e q = rw e (go (decTable body table final) q)
     where
-      go : (d : Dec (TableRules body table final)) → withTable d (sheetless Opened) ≡ refuses why → withTable d (sheetless (Asked S)) ≡ refuses why
+      go : (d : Dec (TableRules body table final)) → withTable d (sheetless Opened) ≡ refuses why → withTable d (sheetless (Asked S))
+          ≡ refuses why
       go (yes a) q = let z : Refusal.Sheet ≡ why = cc in rw z
       go (no a) q = let z : Refusal.Table ≡ why = cc in rw z
 
-  asked-some : (s : S) → asked body table final (some s) settings depth ≡ onward (openingOf body table final true (tooDeep settings depth) (isStrict settings depth)) (withIt s)
+  asked-some : (s : S) → asked body table final (some s) settings depth
+      ≡ onward (openingOf body table final true (tooDeep settings depth) (isStrict settings depth)) (withIt s)
   unfolding asked openingOf
-  asked-some s = go (decTable body table final) (tooDeep settings depth) (rooted body (view (isStrict settings depth) body (rowsOf table) final))
+  asked-some s = go (decTable body table final) (tooDeep settings depth)
+      (rooted body (view (isStrict settings depth) body (rowsOf table) final))
     where
-      go : (d : Dec (TableRules body table final)) (b : Bool) (a : Answer Opened) → withTable d (withDepth b (onward a (withIt s))) ≡ onward (withTable d (withDepth b a)) (withIt s)
+      go : (d : Dec (TableRules body table final)) (b : Bool) (a : Answer Opened) → withTable d (withDepth b (onward a (withIt s)))
+          ≡ onward (withTable d (withDepth b a)) (withIt s)
       go (yes x) true a = refl
       go (yes x) false a = refl
       go (no x) b a = refl
 
   module _ {s : S} {sheet : Option S} (e : sheet ≡ some s) where
-    pub asked-refused : {why : Refusal} → openingOf body table final true (tooDeep settings depth) (isStrict settings depth) ≡ refuses why → asked body table final sheet settings depth ≡ refuses why
+    pub asked-refused : {why : Refusal} → openingOf body table final true (tooDeep settings depth) (isStrict settings depth) ≡ refuses why
+        → asked body table final sheet settings depth ≡ refuses why
     asked-refused q = rw e (rw q at (asked-some s))
 
-    pub asked-gives : {o : Opened} → openingOf body table final true (tooDeep settings depth) (isStrict settings depth) ≡ gives o → asked body table final sheet settings depth ≡ gives (record { sheet = s; opened = o })
+    pub asked-gives : {o : Opened} → openingOf body table final true (tooDeep settings depth) (isStrict settings depth) ≡ gives o
+        → asked body table final sheet settings depth ≡ gives (record { sheet = s; opened = o })
     asked-gives q = rw e (rw q at (asked-some s))
 
 -- where no sheet was read nothing is given
-pub opening-sheet : (body table : List ℕ) (final : ℕ) (ok deep strict : Bool) (o : Opened) → openingOf body table final ok deep strict ≡ gives o → ok ≡ true
+pub opening-sheet : (body table : List ℕ) (final : ℕ) (ok deep strict : Bool) (o : Opened) → openingOf body table final ok deep strict
+    ≡ gives o → ok ≡ true
 unfolding openingOf
-opening-sheet body table final ok deep strict o q = go ok (decTable body table final) (withDepth deep (rooted body (view strict body (rowsOf table) final))) q
+opening-sheet body table final ok deep strict o q = go ok (decTable body table final)
+    (withDepth deep (rooted body (view strict body (rowsOf table) final))) q
   where
     go : (ok : Bool) (d : Dec (TableRules body table final)) (a : Answer Opened) → withTable d (withSheet ok a) ≡ gives o → ok ≡ true
     go true d a q = refl
@@ -91,7 +101,8 @@ module _ {body t : List ℕ} {v : View} {w : doc.View} (x : ViewIs body t v w) {
 pub ruleset root-laws = (needs, viewed-of, root-none, root-found)
 
 -- ---- 1, 2, 3, in this order
-pub rules-of : (body t : List ℕ) (final : ℕ) {last : ℕ} {u : Bool} → u ≡ isYes (decTable body t final) → u ≡ true → last ≡ final → TableRules body t last
+pub rules-of : (body t : List ℕ) (final : ℕ) {last : ℕ} {u : Bool} → u ≡ isYes (decTable body t final) → u ≡ true → last ≡ final
+    → TableRules body t last
 rules-of body t final e h q = rw q (obeyed body t final e h)
 
 module _ (body t : List ℕ) (final : ℕ) {u : Bool} (e : u ≡ isYes (decTable body t final)) where
@@ -119,7 +130,8 @@ module _ (body t : List ℕ) (final : ℕ) {u : Bool} (e : u ≡ isYes (decTable
         go (yes x) p = refl
         go (no x) p = false-true p
 
-    pub opened-root : (strict : Bool) {last : ℕ} {r : Opening} → last ≡ final → OpeningIs body t (rooted body (view strict body (rowsOf t) last)) r → OpeningIs body t (opened strict body t final) r
+    pub opened-root : (strict : Bool) {last : ℕ} {r : Opening} → last ≡ final
+        → OpeningIs body t (rooted body (view strict body (rowsOf t) last)) r → OpeningIs body t (opened strict body t final) r
     unfolding opened
     opened-root strict q x = rw (a-table, ← q) x
 
@@ -156,9 +168,11 @@ module _ {body t : List ℕ} {final : ℕ} {ok deep strict : Bool} {r : Opening}
     asked-ok = opening-sheet body t final ok deep strict _ asked-opened
 
   -- the definition's answer, for a sheet that says s where it could be read, at these settings and this depth
-  module _ (settings : Settings) (depth : ShapeDepth) (d : deep ≡ tooDeep settings depth) (i : strict ≡ isStrict settings depth) {S : Type 0} {sheet : Option S} {said : S}
+  module _ (settings : Settings) (depth : ShapeDepth) (d : deep ≡ tooDeep settings depth) (i : strict ≡ isStrict settings depth)
+      {S : Type 0} {sheet : Option S} {said : S}
       (there : ok ≡ true → sheet ≡ some said) where
-    pub asked-early : (ok ≡ false → sheet ≡ none) → {why : Refusal} → r ≡ Opening.Refused why → asked body t final sheet settings depth ≡ refuses why
+    pub asked-early : (ok ≡ false → sheet ≡ none) → {why : Refusal} → r ≡ Opening.Refused why → asked body t final sheet settings depth
+        ≡ refuses why
     asked-early broken {why} q = go ok refl
       where
         go : (b : Bool) → ok ≡ b → asked body t final sheet settings depth ≡ refuses why
@@ -166,7 +180,8 @@ module _ {body t : List ℕ} {final : ℕ} {ok deep strict : Bool} {r : Opening}
         go false o = asked-none body t final settings depth (broken o) (rw (o, d, i) at (asked-why q))
 
     pub asked-found : {v : View} {s : StartRow} {c : Cursor} → r ≡ Opening.Found v s c
-        → asked body t final sheet settings depth ≡ gives (record { sheet = said; opened = record { seen = viewAt t v; root = childAt body t (v .count) s c } })
+        → asked body t final sheet settings depth
+        ≡ gives (record { sheet = said; opened = record { seen = viewAt t v; root = childAt body t (v .count) s c } })
     asked-found q = asked-gives body t final settings depth (there (asked-ok q)) (rw (asked-ok q, d, i) at (asked-opened q))
 
 module _ {body t : List ℕ} {v : View} {s : StartRow} {c : Cursor} (x : RootAt body t v s c) where

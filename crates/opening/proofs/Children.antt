@@ -3,7 +3,7 @@
 use Prim.Native.Nat.{ℕ, _+_, _*_, _≤_}
 use mathlib.Core.Path.{_≡_, refl}
 use mathlib.Core.Bool.{Bool, true, false}
-use mathlib.Core.List.{List, [], _∷_}
+use mathlib.Core.List.{List, []}
 use mathlib.Core.Option.{Option}
 use native.Mathlib.Nat.{mul-le-mul-right}
 use native.Mathlib.Omega.{arith}
@@ -35,8 +35,8 @@ use Rattle.output.proofs.Called.{holds-nothing}
 use Rattle.output.proofs.Sound.{used-next}
 use Rattle.output.proofs.Then.{Midway, midway-start, each-goes, each-stops, each-ends, does-as}
 use Rattle.opening.specs.Wanted.{wanted}
-use Rattle.opening.specs.Level.{levelAt, AfterIs, none-written, ChildDoes, ChildrenDo, ElementDoes, ChildEnters, ChildrenEnter, ElementEnters}
-use Rattle.opening.specs.Level.{collected, lastOf}
+use Rattle.opening.specs.Level.{levelAt, AfterIs, none-written, ChildDoes, ChildrenDo, ElementDoes}
+use Rattle.opening.specs.Level.{ChildEnters, ChildrenEnter, ElementEnters, collected, lastOf}
 use Rattle.opening.proofs.Wanted.{is-it}
 use Rattle.opening.proofs.Last.{collected-does}
 use Rattle.opening.proofs.Level.{found-in, found-start, found-outside, dropped-after, level-gone, level-met, level-found, less-left}
@@ -97,6 +97,14 @@ module _ {body t : List ℕ} {v : View} {f : Child → Room → Output → Readi
   pub children-texts : length tx′ ≡ length tx
   children-texts = holds .sameTexts
 
+  -- and after whatever is written next
+  module _ {g : Room → Output → Reading} {en₂ tx₂ : List ℕ} {step : Step} (d : Does g en′ tx′ w en₂ tx₂ step) where
+    pub next-entries : length en₂ ≡ length en
+    next-entries = d .is holds .holds .sameEntries
+
+    pub next-texts : length tx₂ ≡ length tx
+    next-texts = d .is holds .holds .sameTexts
+
   sound : Sound en′ tx′ w
   sound =
       let i = holds-within holds in
@@ -127,13 +135,25 @@ module _ {body t : List ℕ} {v : View} {f : Child → Room → Output → Readi
             stands = y .stands;
             few = omega (arith, used-next (d .adds) sound (d .does) q, at .few, mul-le-mul-right most next);
             mid =
-                each-goes f child (children (levelAt past body t (v .count) s u)) (rw (level-found past (at .short) x e y) at (at .mid)) (d .does) q;
+                each-goes f child (children (levelAt past body t (v .count) s u)) (rw (level-found past (at .short) x e y) at (at .mid))
+                (d .does) q;
           }
 
       pub children-stop : {why : Refusal} {w₂ : Written} → step ≡ Step.Refused why w₂
           → ChildrenDo body t v f past s c₀ en tx en₂ tx₂ (Step.Refused why w₂)
       unfolding children
       children-stop q = record { does = each-stops f child _ (rw (level-met past (at .short) x e) at (at .mid)) (d .does) q }
+
+module _ {body t : List ℕ} {v : View} {f : Child → Room → Output → Reading} {most : ℕ} {st : StartRow} {i : Cursor} {en′ tx′ : List ℕ}
+    {w : Written}
+    {en₂ tx₂ : List ℕ} {step : Step} (d : ChildDoes body t v f most st i en′ tx′ w en₂ tx₂ step) {past : Child → Reader} {s : ScopeRow}
+    {c₀ : Cursor}
+    {en tx : List ℕ} {c : Cursor} (at : ChildrenAt body t v f most past s c₀ en tx en′ tx′ w c) where
+  pub child-entries : length en₂ ≡ length en
+  child-entries = next-entries at (d .does)
+
+  pub child-texts : length tx₂ ≡ length tx
+  child-texts = next-texts at (d .does)
 
 -- ---- where each child is dropped
 module _ {body t : List ℕ} {v : View} (f : Child → Room → Output → Reading) (most : ℕ) (s : ScopeRow) (c : Cursor) (en tx : List ℕ) where
@@ -149,17 +169,21 @@ pub dropping-on : {body t : List ℕ} {v : View} {f : Child → Room → Output 
     → ChildrenAt body t v f most dropping s c₀ en tx en₂ tx₂ w₂ (p .at)
 dropping-on at x e y d q = children-on at x e d (dropped-after y) q
 
-pub ruleset dropping-laws =
-    (needs, dropping-start, children-entries, children-texts, found-start, found-outside, children-gone, dropping-on, children-stop, less-left)
+-- what a loop needs wherever the reader stands after a child, and where each is dropped
+pub ruleset children-laws = (needs, children-entries, children-texts, found-start, found-outside, children-gone)
+
+pub ruleset dropping-laws = (children-laws, dropping-start, child-entries, child-texts, dropping-on, children-stop, less-left)
 
 -- ---- of an element
-module _ {body t : List ℕ} {v : View} (f : Child → Room → Output → Reading) (past : Child → Reader) (s : StartRow) (c : Cursor) (en tx : List ℕ) where
+module _ {body t : List ℕ} {v : View} (f : Child → Room → Output → Reading) (past : Child → Reader) (s : StartRow) (c : Cursor)
+    (en tx : List ℕ) where
   pub element-closed : s .closed ≡ true → ElementDoes body t v f past s c en tx en tx (Step.Done none-written)
   unfolding children
   element-closed e = record { does = rw e (each-ends f (midway-start (eachOf f []) en tx none-written)) }
 
   pub element-inside : {en′ tx′ : List ℕ} {r : Step} → s .closed ≡ false
-      → ChildrenDo body t v f past (ScopeRow.Element (s .depth) (s .row)) c en tx en′ tx′ r → ElementDoes body t v f past s c en tx en′ tx′ r
+      → ChildrenDo body t v f past (ScopeRow.Element (s .depth) (s .row)) c en tx en′ tx′ r
+      → ElementDoes body t v f past s c en tx en′ tx′ r
   element-inside e x = record { does = rw e (x .does) }
 
 pub ruleset element-laws = (needs, start-scope, element-closed, element-inside)
@@ -168,7 +192,8 @@ pub ruleset element-laws = (needs, start-scope, element-closed, element-inside)
 pub element-tested : {body t : List ℕ} {v : View} {f : Child → Room → Output → Reading} {past : Child → Reader} {s : StartRow} {c : Cursor}
     {en tx en′ tx′ : List ℕ} {got r : Step} (ill : Bool) → ElementDoes body t v f past s c en tx en′ tx′ got → r ≡ lastOf ill got
     → Does (collected f (children (levelIn past (childAt body t (v .count) s c))) ill) en tx none-written en′ tx′ r
-element-tested {body} {t} {v} {f} {past} {s} {c} ill d q = rw q (collected-does f (children (levelIn past (childAt body t (v .count) s c))) ill (d .does))
+element-tested {body} {t} {v} {f} {past} {s} {c} ill d q = rw q
+    (collected-does f (children (levelIn past (childAt body t (v .count) s c))) ill (d .does))
 
 -- ---- the same of functions that are not lent the texts
 pub record EntersAt (body t : List ℕ) (v : View) (f : Child → Room → Output → Reading) (s : ScopeRow) (c₀ : Cursor) (en en′ : List ℕ)
@@ -179,6 +204,12 @@ pub record EntersAt (body t : List ℕ) (v : View) (f : Child → Room → Outpu
 pub enters-start : {body t : List ℕ} {v : View} (f : Child → Room → Output → Reading) (s : ScopeRow) (c : Cursor) (en : List ℕ)
     → Viewed body t v → Outside body t (v .count) (c .depth .0) (c .row) → EntersAt body t v f s c en en none-written c
 enters-start f s c en q o = record { stands = o; is = λ tx. dropping-start f 0 s c en tx q o }
+
+pub enters-next : {body t : List ℕ} {v : View} {f : Child → Room → Output → Reading} {st : StartRow} {i : Cursor} {en′ : List ℕ}
+    {w : Written}
+    {en₂ : List ℕ} {step : Step} → ChildEnters body t v f st i en′ w en₂ step → {s : ScopeRow} {c₀ : Cursor} {en : List ℕ} {c : Cursor}
+    → EntersAt body t v f s c₀ en en′ w c → length en₂ ≡ length en
+enters-next d at = child-entries (d .is []) (at .is [])
 
 module _ {body t : List ℕ} {v : View} {f : Child → Room → Output → Reading} {s : ScopeRow} {c₀ : Cursor} {en en′ : List ℕ} {w : Written}
     {c : Cursor} (at : EntersAt body t v f s c₀ en en′ w c) where
@@ -199,7 +230,8 @@ module _ {body t : List ℕ} {v : View} {f : Child → Room → Output → Readi
           → ChildrenEnter body t v f dropping s c₀ en en₂ (Step.Refused why w₂)
       enters-stop q = record { is = λ tx. children-stop (at .is tx) x e (d .is tx) q }
 
-pub ruleset enters-laws = (needs, enters-start, enters-entries, found-start, found-outside, enters-gone, enters-on, enters-stop, less-left)
+pub ruleset enters-laws =
+    (needs, enters-start, enters-entries, enters-next, found-start, found-outside, enters-gone, enters-on, enters-stop, less-left)
 
 module _ {body t : List ℕ} {v : View} (f : Child → Room → Output → Reading) (s : StartRow) (c : Cursor) (en : List ℕ) where
   pub enters-closed : s .closed ≡ true → ElementEnters body t v f dropping s c en en (Step.Done none-written)

@@ -26,7 +26,8 @@ last-well ill s e f = rw (e, f)
 
 pub ruleset last-laws = (needs, last-refused, last-ill, last-well)
 
-pub collected-does : (f : Child → Room → Output → Reading) (l : List Child) {e t : List ℕ} {w : Written} {e′ t′ : List ℕ} {s : Step} (ill : Bool)
+pub collected-does : (f : Child → Room → Output → Reading) (l : List Child) {e t : List ℕ} {w : Written} {e′ t′ : List ℕ} {s : Step}
+    (ill : Bool)
     → Does (eachOf f l) e t w e′ t′ s → Does (collected f l ill) e t w e′ t′ (lastOf ill s)
 unfolding collected
 collected-does f l {e} {t} {w} {e′} {t′} {s} ill d = go ill s d

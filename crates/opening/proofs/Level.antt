@@ -4,7 +4,7 @@ use mathlib.Core.Path.{_≡_, sym, _∙_, ap}
 use mathlib.Core.List.{List, [], _∷_}
 use native.Mathlib.Omega.{arith}
 use Rattle.document.specs.Reader.{Reader}
-use Rattle.document.specs.Scope.{Child, Level, meets, done, onNext, children, dropping}
+use Rattle.document.specs.Scope.{Child, meets, done, onNext, children, dropping}
 use Rattle.document.specs.Laws.Fuel.{Shortens, levelFrom, level-step, dropping-shortens}
 use Rattle.decode.specs.declared.reader.ScopeRow.{ScopeRow}
 use Rattle.decode.specs.declared.reader.Cursor.{Cursor}

@@ -20,7 +20,8 @@ unfolding isWanted
 wanted-is none c = refl
 wanted-is (some name) c = refl
 
-pub is-it : (body t : List ℕ) (n : ℕ) (nm : Option (List ℕ)) (s : StartRow) (c : Cursor) {u : Bool} → u ≡ wanted nm (nameAt body t (s .row)) → isWanted nm (childAt body t n s c) ≡ u
+pub is-it : (body t : List ℕ) (n : ℕ) (nm : Option (List ℕ)) (s : StartRow) (c : Cursor) {u : Bool} → u
+    ≡ wanted nm (nameAt body t (s .row)) → isWanted nm (childAt body t n s c) ≡ u
 is-it body t n nm s c e = wanted-is nm (childAt body t n s c) ∙ sym e
 
 module _ (name : List ℕ) (m : Name) {named : Bool} where

@@ -50,7 +50,8 @@ pub record ChildrenDo (body t : List ℕ) (v : View) (f : Child → Room → Out
   pub does : Does (eachOf f (children (levelAt past body t (v .count) s c))) en tx none-written en′ tx′ r
 
 -- those of an element
-pub record ElementDoes (body t : List ℕ) (v : View) (f : Child → Room → Output → Reading) (past : Child → Reader) (s : StartRow) (c : Cursor)
+pub record ElementDoes (body t : List ℕ) (v : View) (f : Child → Room → Output → Reading) (past : Child → Reader) (s : StartRow)
+    (c : Cursor)
     (en tx en′ tx′ : List ℕ) (r : Step) : Type 0 where
   pub does : Does (eachOf f (children (levelIn past (childAt body t (v .count) s c)))) en tx none-written en′ tx′ r
 
@@ -59,11 +60,13 @@ pub record ChildEnters (body t : List ℕ) (v : View) (f : Child → Room → Ou
     (w : Written) (en′ : List ℕ) (r : Step) : Type 0 where
   pub is : (tx : List ℕ) → ChildDoes body t v f 0 s c en tx w en′ tx r
 
-pub record ChildrenEnter (body t : List ℕ) (v : View) (f : Child → Room → Output → Reading) (past : Child → Reader) (s : ScopeRow) (c : Cursor)
+pub record ChildrenEnter (body t : List ℕ) (v : View) (f : Child → Room → Output → Reading) (past : Child → Reader) (s : ScopeRow)
+    (c : Cursor)
     (en en′ : List ℕ) (r : Step) : Type 0 where
   pub is : (tx : List ℕ) → ChildrenDo body t v f past s c en tx en′ tx r
 
-pub record ElementEnters (body t : List ℕ) (v : View) (f : Child → Room → Output → Reading) (past : Child → Reader) (s : StartRow) (c : Cursor)
+pub record ElementEnters (body t : List ℕ) (v : View) (f : Child → Room → Output → Reading) (past : Child → Reader) (s : StartRow)
+    (c : Cursor)
     (en en′ : List ℕ) (r : Step) : Type 0 where
   pub is : (tx : List ℕ) → ElementDoes body t v f past s c en tx en′ tx r
 

@@ -1,5 +1,6 @@
-// What every reading asks first, in 01's order: 1 the table, 2 the sheet, 3 the depth, 4 the root; which children of a collection are wanted; and "9 last".
-// What is answered is defined in `readings` (Opening.antt, Collection.antt); the crate rests on `table` for the rules and on `decode` for the view and the root.
+// What readings have in common: what each asks first, in 01's order, 1 the table, 2 the sheet, 3 the depth, 4 the root; which children of
+// a collection are wanted; and "9 last". What is answered is defined in `readings` (Opening.antt, Collection.antt); the crate rests on
+// `table` for the rules and on `decode` for the view and the root. Its proofs have the loop over the children of an element, for any step.
 ghost use mathlib.Core.Path.{_≡_};
 ghost use Rattle.table.specs.Row.{rowsOf};
 ghost use Rattle.table.specs.Rules.{TableRules};
@@ -25,7 +26,8 @@ pub enum Opening {
 // The root of a table that obeys the rules, or 4.
 pub fn root(strict: bool, body: &[u8], rows: &[u32], end: usize) -> Opening
     requires { ⌜ TableRules (now body) (now rows) end ⌝ }
-    ensures { λ r. ⌜ OpeningIs (now (body .entry)) (now (rows .entry)) (rooted (now (body .entry)) (view strict (now (body .entry)) (rowsOf (now (rows .entry))) end)) r ⌝ }
+    ensures { λ r. ⌜ OpeningIs (now (body .entry)) (now (rows .entry))
+        (rooted (now (body .entry)) (view strict (now (body .entry)) (rowsOf (now (rows .entry))) end)) r ⌝ }
 {
     let seen = decode::view::view_of(strict, body, rows, end);
     match decode::reader::root_element(body, rows, seen.count) {

@@ -1,4 +1,4 @@
-use Rattle.list.specs.Call.{whole-laws}
+use Rattle.list.proofs.Items.{whole-laws}
 use borrow.Author.Needs.{needs}
 use Rattle.list.proofs.list.list_at.Statement.{statement}
 use Rattle.list.proofs.list.list_at.Tie as tie

@@ -1,4 +1,4 @@
-use Rattle.list.specs.List.{item-laws}
+use Rattle.list.proofs.Items.{item-laws}
 use borrow.Author.Needs.{needs}
 use Rattle.list.proofs.list.read_item.Statement.{statement}
 use Rattle.list.proofs.list.read_item.Tie as tie

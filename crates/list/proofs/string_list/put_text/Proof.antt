@@ -1,4 +1,4 @@
-use Rattle.list.specs.StringList.{put-laws}
+use Rattle.list.proofs.Strings.{put-laws}
 use borrow.Author.Needs.{needs}
 use Rattle.list.proofs.string_list.put_text.Statement.{statement}
 use Rattle.list.proofs.string_list.put_text.Tie as tie

@@ -1,4 +1,4 @@
-use Rattle.list.specs.StringList.{string-laws}
+use Rattle.list.proofs.Strings.{string-laws}
 use borrow.Author.Needs.{needs}
 use Rattle.list.proofs.string_list.read_string.Statement.{statement}
 use Rattle.list.proofs.string_list.read_string.Tie as tie

@@ -1,4 +1,4 @@
-use Rattle.list.specs.StringCall.{strings-whole-laws}
+use Rattle.list.proofs.Strings.{strings-whole-laws}
 use borrow.Author.Needs.{needs}
 use Rattle.list.proofs.string_list.string_list_at.Statement.{statement}
 use Rattle.list.proofs.string_list.string_list_at.Tie as tie
