@@ -36,10 +36,9 @@ use Rattle.opening.specs.declared.Opening.{Opening}
 use Rattle.opening.specs.Opening.{AskedIs, RootAt}
 use Rattle.opening.proofs.Asked.{asked-ok, asked-root, asked-early, asked-found}
 use Rattle.opening.specs.Level.{collected}
-use Rattle.list.specs.List.{itemOf}
-use Rattle.list.specs.StringList.{stringOf}
-use Rattle.list.specs.Call.{WholeIs, none-written}
-use Rattle.list.specs.StringCall.{StringsWholeIs}
+use Rattle.list.specs.List.{itemOf, WholeIs}
+use Rattle.list.specs.StringList.{stringOf, StringsWholeIs}
+use Rattle.list.specs.Call.{none-written}
 use Rattle.map.specs.Map.{MapIs, mapEntry}
 use Rattle.map.proofs.Entries.{map-found}
 use Rattle.deserializer.specs.declared.Shape.{Shape}
