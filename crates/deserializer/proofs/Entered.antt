@@ -12,9 +12,11 @@ use borrow.Author.Tests.{eq-eqb, ne-eqb}
 use Rattle.refusal.specs.declared.Refusal.{Refusal}
 use Rattle.document.specs.Scope.{childrenOf}
 use Rattle.sheet.specs.declared.ShapeDepth.{ShapeDepth}
-use Rattle.sheet.specs.Settings.{Settings, isStrict, tooDeep}
+use Rattle.sheet.specs.Settings.{Settings, isStrict, tooDeep, testsRootName}
+use Rattle.sheet.specs.Sheet.{structureOf}
 use Rattle.sheet.specs.Names.{itemName, entryName}
 use Rattle.codec.specs.declared.settings.Settings as codec
+use Rattle.codec.specs.declared.structure.StructureSheet.{StructureSheet}
 use Rattle.codec.specs.declared.collection.ListSheet.{ListSheet}
 use Rattle.codec.specs.declared.collection.MapSheet.{MapSheet}
 use Rattle.codec.specs.Settings.{settingsOf}
@@ -35,10 +37,16 @@ use Rattle.output.proofs.Called.{call-early, call-done, call-refused}
 use Rattle.opening.specs.declared.Opening.{Opening}
 use Rattle.opening.specs.Opening.{AskedIs, RootAt}
 use Rattle.opening.proofs.Asked.{asked-ok, asked-root, asked-early, asked-found}
-use Rattle.opening.specs.Level.{collected}
+use Rattle.opening.specs.Level.{none-written, collected}
 use Rattle.list.specs.List.{itemOf, WholeIs}
 use Rattle.list.specs.StringList.{stringOf, StringsWholeIs}
-use Rattle.list.specs.Call.{none-written}
+use Rattle.codec.specs.Structure.{saidBy, StructureSaid, StructureRead}
+use Rattle.readings.specs.Opening.{asked}
+use Rattle.readings.specs.Structure.{structureReading}
+use Rattle.readings.specs.Laws.Order.{orderIn, an-order}
+use Rattle.structure.specs.Steps.{openedAt}
+use Rattle.structure.specs.Structure.{structureStep, StructureIs}
+use Rattle.structure.proofs.Called.{structure-early, structure-is}
 use Rattle.map.specs.Map.{MapIs, mapEntry}
 use Rattle.map.proofs.Entries.{map-found}
 use Rattle.deserializer.specs.declared.Shape.{Shape}
@@ -125,6 +133,56 @@ module _ (body t : List ℕ) (final : ℕ) (sheet : List ℕ) {said : ListSheet}
         };
       }
 
+-- ---- structures
+pub struct-said : {body t : List ℕ} {final : ℕ} {sheet : List ℕ} {parsed : StructureSheet} {deep strict : Bool} {r : Opening} {v : View} {s : StartRow} {c : Cursor}
+    → StructureRead sheet parsed → AskedIs body t final (parsed .ok) deep strict r → r ≡ Opening.Found v s c → StructureSaid sheet parsed
+struct-said p a q = p .there (asked-ok a q)
+
+module _ (body t : List ℕ) (final : ℕ) (sheet : List ℕ) {parsed : StructureSheet} (settings : Settings) (depth : ShapeDepth) (entered : Bool) (p : StructureRead sheet parsed) {strict : Bool}
+    {r : Opening} (a : AskedIs body t final (parsed .ok) (not entered) strict r) (i : strict ≡ isStrict settings depth) where
+  -- groups come by rising member index
+  abbrev rising : List ℕ
+  rising = orderIn (asked body t final (structureOf sheet) settings depth)
+
+  deep-struct : entered ≡ not (tooDeep settings depth) → not entered ≡ tooDeep settings depth
+  deep-struct = not-entered (tooDeep settings depth)
+
+  pub struct-refused : (e tx : List ℕ) {why : Refusal} → r ≡ Opening.Refused why
+      → EnteredRead Shape.Struct body t final sheet settings depth entered e tx e tx (Step.Refused why none-written)
+  struct-refused e tx {why} q =
+      record {
+        read = λ g. record {
+          call = record {
+            is = record {
+              order = rising;
+              ordered = an-order body t final sheet settings depth;
+              call = call-early (λ (room : Room). structureReading body t final sheet settings depth room rising) {why = why}
+                  (structure-early body t final sheet settings depth rising (asked-early a settings depth (deep-struct g) i (λ o. p .there o .said) (p .broken) q) (roomOf e tx)) refl;
+            };
+          };
+        };
+      }
+
+  pub struct-read : {v : View} {s : StartRow} {c : Cursor} {e tx e′ tx′ : List ℕ} {tests : Bool} {got : Step} → r ≡ Opening.Found v s c
+      → StructureIs body t v (saidBy sheet) tests s c e tx e′ tx′ got → tests ≡ testsRootName settings depth
+      → EnteredRead Shape.Struct body t final sheet settings depth entered e tx e′ tx′ got
+  struct-read {v} {s} {c} {e} {tx} {tests = tests} q x k =
+      record {
+        read = λ g. record {
+          call = record {
+            is = record {
+              order = rising;
+              ordered = an-order body t final sheet settings depth;
+              call = told (λ (room : Room). structureReading body t final sheet settings depth room rising) (structureStep body (saidBy sheet) tests (openedAt body t v s c))
+                  (rw k (structure-is body t final sheet settings depth (saidBy sheet) (openedAt body t v s c) (asked-found a settings depth (deep-struct g) i (λ o. p .there o .said) q) (roomOf e tx)))
+                  (x .does);
+            };
+          };
+        };
+      }
+
+pub ruleset struct-laws = (needs, asked-root, struct-said, struct-refused, struct-read)
+
 -- ---- maps
 pub map-said : {body t : List ℕ} {final : ℕ} {sheet : List ℕ} {said : MapSheet} {deep strict : Bool} {r : Opening} {v : View} {s : StartRow} {c : Cursor} → MapRead sheet said
     → AskedIs body t final (said .ok) deep strict r → r ≡ Opening.Found v s c → MapSaid sheet said
@@ -197,19 +255,23 @@ module _ {body table : List ℕ} {final : ℕ} {sheet : List ℕ} {flags max : �
   told-call y = rw (← b .is) (record { told = λ g. record { call = λ h. rw (x .count h, x .bytes h, x .number h) (y .read g .call) } })
 
   module _ (kind : ℕ) where
-    pub told-list : kind ≡ 2 → EnteredRead Shape.List body table final sheet (settingsOf s) depth entered e t e′ t′ step
+    pub told-struct : kind ≡ 1 → EnteredRead Shape.Struct body table final sheet (settingsOf s) depth entered e t e′ t′ step
         → EnteredCall (shapeOf kind) body table final sheet (settingsBy flags max) depth entered e t e′ t′ two two′ r
-    told-list q y = rw (eq-eqb kind 2 q) (told-call y)
+    told-struct q y = rw (eq-eqb kind 1 q) (told-call y)
 
-    pub told-map : (kind ≡ 2 → ⊥) → kind ≡ 3 → EnteredRead Shape.Map body table final sheet (settingsOf s) depth entered e t e′ t′ step
+    pub told-list : (kind ≡ 1 → ⊥) → kind ≡ 2 → EnteredRead Shape.List body table final sheet (settingsOf s) depth entered e t e′ t′ step
         → EnteredCall (shapeOf kind) body table final sheet (settingsBy flags max) depth entered e t e′ t′ two two′ r
-    told-map p q y = rw (ne-eqb kind 2 p, eq-eqb kind 3 q) (told-call y)
+    told-list o q y = rw (ne-eqb kind 1 o, eq-eqb kind 2 q) (told-call y)
 
-    pub told-strings : (kind ≡ 2 → ⊥) → (kind ≡ 3 → ⊥) → EnteredRead Shape.StringList body table final sheet (settingsOf s) depth entered e t e′ t′ step
+    pub told-map : (kind ≡ 1 → ⊥) → (kind ≡ 2 → ⊥) → kind ≡ 3 → EnteredRead Shape.Map body table final sheet (settingsOf s) depth entered e t e′ t′ step
         → EnteredCall (shapeOf kind) body table final sheet (settingsBy flags max) depth entered e t e′ t′ two two′ r
-    told-strings p q y = rw (ne-eqb kind 2 p, ne-eqb kind 3 q) (told-call y)
+    told-map o p q y = rw (ne-eqb kind 1 o, ne-eqb kind 2 p, eq-eqb kind 3 q) (told-call y)
 
-pub ruleset told-laws = (needs, told-list, told-map, told-strings)
+    pub told-strings : (kind ≡ 1 → ⊥) → (kind ≡ 2 → ⊥) → (kind ≡ 3 → ⊥) → EnteredRead Shape.StringList body table final sheet (settingsOf s) depth entered e t e′ t′ step
+        → EnteredCall (shapeOf kind) body table final sheet (settingsBy flags max) depth entered e t e′ t′ two two′ r
+    told-strings o p q y = rw (ne-eqb kind 1 o, ne-eqb kind 2 p, ne-eqb kind 3 q) (told-call y)
+
+pub ruleset told-laws = (needs, told-struct, told-list, told-map, told-strings)
 
 -- ---- two numbers of one's own are lent
 module _ {shape : Shape} {body table : List ℕ} {final : ℕ} {sheet : List ℕ} {settings : Settings} {depth : ShapeDepth} {e t e′ t′ two two′ : List ℕ} {r : ℕ}

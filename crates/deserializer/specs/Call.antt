@@ -79,7 +79,7 @@ pub record Tells (step : Step) (two two′ : List ℕ) (r : ℕ) : Type 0 where
 
 -- a shape by its number: 1 structure, 2 list, 3 map, and any other a string list
 abbrev pub shapeOf : ℕ → Shape
-shapeOf kind = pick (eqb kind 2) Shape.List (pick (eqb kind 3) Shape.Map Shape.StringList)
+shapeOf kind = pick (eqb kind 1) Shape.Struct (pick (eqb kind 2) Shape.List (pick (eqb kind 3) Shape.Map Shape.StringList))
 
 -- a call whose count and bytes are told in two numbers that are lent for them
 pub record ToldCall (shape : Shape) (body table : List ℕ) (final : ℕ) (sheet : List ℕ) (settings : Settings) (depth : ShapeDepth) (e t e′ t′ two two′ : List ℕ) (r : ℕ) : Type 0 where

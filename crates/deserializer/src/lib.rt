@@ -17,6 +17,43 @@ pub enum Shape {
     StringList,
 }
 
+// The structure reading, where the depth guard was entered or not.
+fn read_struct(
+    body: &[u8],
+    rows: &[u32],
+    end: u32,
+    sheet: &[u8],
+    settings: Settings,
+    depth: ShapeDepth,
+    entered: bool,
+    entries: &mut [u32],
+    texts: &mut [u8],
+) -> Step
+    ensures { λ r. ⌜ EnteredRead Shape.Struct (now (body .entry)) (now (rows .entry)) end (now (sheet .entry)) (settingsOf settings) depth entered
+        (now (entries .entry)) (now (texts .entry)) (now (entries .exit)) (now (texts .exit)) r ⌝ }
+{
+    let parsed = codec::structure::parse_structure(sheet);
+    let strict = codec::settings::is_strict(settings, depth);
+    match opening::ask(body, rows, end, parsed.ok, !entered, strict) {
+        Opening::Refused(why) => Step::Refused(why, Written { count: 0, used: 0 }),
+        Opening::Found(view, root, at) => {
+            let tests = codec::settings::tests_root_name(settings, depth);
+            structure::structure::structure_at(
+                body,
+                rows,
+                view,
+                root,
+                at,
+                sheet,
+                parsed,
+                tests,
+                entries,
+                texts,
+            )
+        }
+    }
+}
+
 // The list reading, where the depth guard was entered or not. It writes no text.
 fn read_list(
     body: &[u8],
@@ -171,6 +208,20 @@ fn read_entered(
 {
     let settings = settings_by(flags, max_depth);
     let deep = ShapeDepth(depth);
+    if kind == 1 {
+        let step = read_struct(
+            body,
+            rows,
+            end,
+            sheet,
+            settings,
+            deep,
+            entered,
+            entries,
+            texts,
+        );
+        return tell(step, told);
+    }
     if kind == 2 {
         let step = read_list(
             body,
