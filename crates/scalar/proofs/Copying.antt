@@ -11,7 +11,7 @@ use mir.Val.{Fits}
 use mir.Syntax.{w64}
 use lib.Dec.{leb}
 use lib.ListN.{length}
-use Rattle.lists.specs.Overwrite.{overwritten, overwrite-none, Stored, rest, back, rest-length, back-stored}
+use Rattle.lists.specs.Overwrite.{overwritten, Stored, rest, back, rest-length, back-stored}
 use Rattle.refusal.specs.declared.Refusal.{Refusal}
 use Rattle.refusal.specs.Answer.{Answer, gives, refuses, onward}
 use Rattle.reference.specs.Text.{Out, answer, filled, unescaped, Unescape}
@@ -41,6 +41,7 @@ use Rattle.opening.specs.Opening.{OpeningIs}
 use Rattle.scalar.specs.declared.Copied.{Copied}
 use Rattle.scalar.specs.Answers.{lengthIn, bufferAfter, CopyIs}
 use Rattle.scalar.specs.Whole.{joinedFrom, LengthIs, JoinRoom, PutRoom, textIn, rootText}
+use Rattle.scalar.proofs.Texts.{string-nothing}
 use Rattle.scalar.proofs.Opened.{opened-laws, opened-why, opened-is}
 
 -- ---- a text at a place where it fits
@@ -130,10 +131,8 @@ pub ruleset copy-laws = (needs, copy-refused, copy-room, copy-put, copy-none)
 module _ (body t : List ℕ) (v : View) (s : StartRow) (c : Cursor) where
   pub whole-closed : (old : List ℕ) → s .closed ≡ true
       → CopyIs (textIn (length old) (wholeOf (childAt body t (v .count) s c))) old old (Copied.Length 0)
-  unfolding wholeOf stringIn
-  whole-closed old e =
-      let f : leb 0 (length old) ≡ true = le-leb 0 (length old) (omega arith) in
-      record { number = rw (e, f); buffer = rw (e, f) (sym (overwrite-none old)) }
+  unfolding wholeOf
+  whole-closed old e = rw e (string-nothing old)
 
   pub whole-inside : {old new : List ℕ} {r : Copied} → s .closed ≡ false
       → CopyIs (textIn (length old) (joinedFrom body t v (ScopeRow.Element (s .depth) (s .row)) (c .depth .0) (c .row))) old new r
