@@ -6,9 +6,7 @@ use mathlib.Core.List.{List}
 use borrow.Author.Needs.{needs}
 use lib.IntN.{ℤ}
 use Rattle.refusal.specs.Answer.{Answer, gives, refuses}
-use Rattle.refusal.specs.Numbers.{number}
 use Rattle.document.specs.Scope as doc
-use Rattle.decode.specs.declared.piece.Piece.{Piece}
 use Rattle.scalar.specs.declared.Integer.{Integer}
 use Rattle.scalar.specs.declared.Copied.{Copied}
 use Rattle.scalar.specs.declared.Finding.{Finding}

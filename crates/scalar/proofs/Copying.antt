@@ -14,7 +14,7 @@ use lib.ListN.{length}
 use Rattle.lists.specs.Overwrite.{overwritten, Stored, rest, back, rest-length, back-stored}
 use Rattle.refusal.specs.declared.Refusal.{Refusal}
 use Rattle.refusal.specs.Answer.{Answer, gives, refuses, onward}
-use Rattle.reference.specs.Text.{Out, answer, filled, unescaped, Unescape}
+use Rattle.reference.specs.Text.{answer, filled, unescaped, Unescape}
 use Rattle.reference.specs.declared.Unescaped.{Unescaped}
 use Rattle.table.specs.Row.{rowsOf, toksOf}
 use Rattle.table.specs.Rules.{TableRules}
@@ -45,9 +45,6 @@ use Rattle.scalar.proofs.Texts.{string-nothing}
 use Rattle.scalar.proofs.Opened.{opened-laws, opened-why, opened-is}
 
 -- ---- a text at a place where it fits
-pub put-low : {old : List ℕ} {size : ℕ} {o : Out} → PutRoom old size o → size ≤ length old
-put-low w = omega (arith, w .fits)
-
 module _ {text old ys : List ℕ} {size : ℕ} {r : Unescaped} (w : PutRoom old size (unescaped text))
     (x : Unescape text (rest old size) ys r) where
   fit : leb (length (bytesOf (unescaped text))) (length (rest old size)) ≡ true
@@ -79,7 +76,7 @@ module _ {text old ys : List ℕ} {size : ℕ} {r : Unescaped} (w : PutRoom old 
       let q : Unescaped.NoRoom ≡ Unescaped.Length (length (bytesOf (unescaped text))) = sym e ∙ answered in
       let z : _≡_ {A = ℕ} 0 1 = cc in absurd (omega arith)
 
-pub ruleset put-laws = (needs, put-low, put-length, put-bad, put-none, put-fits)
+pub ruleset put-laws = (needs, put-length, put-bad, put-none, put-fits)
 
 module _ (body t : List ℕ) (k : ℕ) {out : List ℕ} {size : ℕ} {v : List ℕ} (p : v ≡ valueAt body t k) where
   pub row-room : PutRoom out size (unescaped (valueAt body t k)) → PutRoom out size (unescaped v)

@@ -186,7 +186,7 @@ pub integer-none : refuses Refusal.NotInteger ≡ integerOf []
 unfolding integerOf
 integer-none = refl
 
-pub ruleset integer-replaced-laws = (needs, got-low, value-got, value-bad, integer-over)
+pub ruleset integer-replaced-laws = (needs, got-low, value-got, value-bad)
 
 pub ruleset integer-in-laws = (needs, value-plain)
 
