@@ -1,54 +1,22 @@
--- Laws of the answers as numbers and values: each case, and a call of an operation that gives one.
+-- Laws of the answers as numbers and values, and of a call of an operation that gives one so.
 use Prim.Native.Nat.{ℕ}
 use mathlib.Core.Path.{_≡_, refl, _∙_, ap}
-use mathlib.Core.Bool.{Bool, true, false}
+use mathlib.Core.Bool.{Bool}
 use mathlib.Core.List.{List}
 use borrow.Author.Needs.{needs}
 use lib.IntN.{ℤ}
-use Rattle.refusal.specs.declared.Refusal.{Refusal}
 use Rattle.refusal.specs.Answer.{Answer, gives, refuses}
-use Rattle.refusal.specs.Numbers.{number}
 use Rattle.document.specs.Scope as doc
-use Rattle.decode.specs.declared.piece.Piece.{Piece}
-use Rattle.scalar.specs.declared.Boolean.{Boolean}
 use Rattle.scalar.specs.declared.Integer.{Integer}
 use Rattle.scalar.specs.declared.Copied.{Copied}
 use Rattle.scalar.specs.declared.Finding.{Finding}
-use Rattle.scalar.specs.Answers.{booleanAs, integerAs, copiedAs, lengthIn, CopyIs, findingAs, FindingIs}
+use Rattle.scalar.specs.Answers.{integerAs, copiedAs, lengthIn, CopyIs, findingAs, FindingIs}
 use Rattle.scalar.specs.Calls.{numberOf, writtenOf, BooleanCall, IntegerCall, LengthCall, StringCall, FindCall}
 
-module _ (x : Boolean) (old : ℕ) where
-  pub give-true : {b : Bool} → x ≡ Boolean.Is b → b ≡ true → BooleanCall (booleanAs x) old 1 0
-  give-true e q = record { number = rw e; value = rw (e, q) }
+pub give-integer : (x : Integer) (old : ℤ) {z : ℤ} → x ≡ Integer.Is z → IntegerCall (integerAs x) old z 0
+give-integer x old e = record { number = rw e; value = rw e }
 
-  pub give-false : {b : Bool} → x ≡ Boolean.Is b → b ≡ false → BooleanCall (booleanAs x) old 0 0
-  give-false e q = record { number = rw e; value = rw (e, q) }
-
-  pub give-not : {f : Refusal} {m : ℕ} → x ≡ Boolean.Refused f → m ≡ number f → BooleanCall (booleanAs x) old old m
-  give-not e q = record { number = rw e q; value = rw e }
-
-module _ (x : Integer) (old : ℤ) where
-  pub give-integer : {z : ℤ} → x ≡ Integer.Is z → IntegerCall (integerAs x) old z 0
-  give-integer e = record { number = rw e; value = rw e }
-
-  pub give-none : {f : Refusal} {m : ℕ} → x ≡ Integer.Refused f → m ≡ number f → IntegerCall (integerAs x) old old m
-  give-none e q = record { number = rw e q; value = rw e }
-
-module _ (x : Copied) where
-  pub give-length : {n : ℕ} → x ≡ Copied.Length n → LengthCall (copiedAs x) n 0
-  give-length e = record { number = rw e; written = rw e }
-
-  pub give-zero : {f : Refusal} {m : ℕ} → x ≡ Copied.Refused f → m ≡ number f → LengthCall (copiedAs x) 0 m
-  give-zero e q = record { number = rw e q; written = rw e }
-
-module _ (x : Finding) where
-  pub give-part : {p : Piece} → x ≡ Finding.Part p → FindCall (findingAs x) (p .start) (p .len) 0
-  give-part e = record { number = rw e; start = rw e; len = rw e }
-
-  pub give-empty : {f : Refusal} {m : ℕ} → x ≡ Finding.Refused f → m ≡ number f → FindCall (findingAs x) 0 0 m
-  give-empty e q = record { number = rw e q; start = rw e; len = rw e }
-
-pub ruleset give-laws = (needs, give-true, give-false, give-not, give-integer, give-none, give-length, give-zero, give-part, give-empty)
+pub ruleset give-laws = (needs, give-integer)
 
 -- ---- an operation whose answer is given so
 pub call-boolean : {is x : Answer Bool} {old new r : ℕ} → BooleanCall x old new r → x ≡ is → BooleanCall is old new r

@@ -11,10 +11,10 @@ use mir.Val.{Fits}
 use mir.Syntax.{w64}
 use lib.Dec.{leb}
 use lib.ListN.{length}
-use Rattle.lists.specs.Overwrite.{overwritten, overwrite-none, Stored, rest, back, rest-length, back-stored}
+use Rattle.lists.specs.Overwrite.{overwritten, Stored, rest, back, rest-length, back-stored}
 use Rattle.refusal.specs.declared.Refusal.{Refusal}
 use Rattle.refusal.specs.Answer.{Answer, gives, refuses, onward}
-use Rattle.reference.specs.Text.{Out, answer, filled, unescaped, Unescape}
+use Rattle.reference.specs.Text.{answer, filled, unescaped, Unescape}
 use Rattle.reference.specs.declared.Unescaped.{Unescaped}
 use Rattle.table.specs.Row.{rowsOf, toksOf}
 use Rattle.table.specs.Rules.{TableRules}
@@ -41,12 +41,10 @@ use Rattle.opening.specs.Opening.{OpeningIs}
 use Rattle.scalar.specs.declared.Copied.{Copied}
 use Rattle.scalar.specs.Answers.{lengthIn, bufferAfter, CopyIs}
 use Rattle.scalar.specs.Whole.{joinedFrom, LengthIs, JoinRoom, PutRoom, textIn, rootText}
+use Rattle.scalar.proofs.Texts.{string-nothing}
 use Rattle.scalar.proofs.Opened.{opened-laws, opened-why, opened-is}
 
 -- ---- a text at a place where it fits
-pub put-low : {old : List ℕ} {size : ℕ} {o : Out} → PutRoom old size o → size ≤ length old
-put-low w = omega (arith, w .fits)
-
 module _ {text old ys : List ℕ} {size : ℕ} {r : Unescaped} (w : PutRoom old size (unescaped text))
     (x : Unescape text (rest old size) ys r) where
   fit : leb (length (bytesOf (unescaped text))) (length (rest old size)) ≡ true
@@ -78,7 +76,7 @@ module _ {text old ys : List ℕ} {size : ℕ} {r : Unescaped} (w : PutRoom old 
       let q : Unescaped.NoRoom ≡ Unescaped.Length (length (bytesOf (unescaped text))) = sym e ∙ answered in
       let z : _≡_ {A = ℕ} 0 1 = cc in absurd (omega arith)
 
-pub ruleset put-laws = (needs, put-low, put-length, put-bad, put-none, put-fits)
+pub ruleset put-laws = (needs, put-length, put-bad, put-none, put-fits)
 
 module _ (body t : List ℕ) (k : ℕ) {out : List ℕ} {size : ℕ} {v : List ℕ} (p : v ≡ valueAt body t k) where
   pub row-room : PutRoom out size (unescaped (valueAt body t k)) → PutRoom out size (unescaped v)
@@ -130,10 +128,8 @@ pub ruleset copy-laws = (needs, copy-refused, copy-room, copy-put, copy-none)
 module _ (body t : List ℕ) (v : View) (s : StartRow) (c : Cursor) where
   pub whole-closed : (old : List ℕ) → s .closed ≡ true
       → CopyIs (textIn (length old) (wholeOf (childAt body t (v .count) s c))) old old (Copied.Length 0)
-  unfolding wholeOf stringIn
-  whole-closed old e =
-      let f : leb 0 (length old) ≡ true = le-leb 0 (length old) (omega arith) in
-      record { number = rw (e, f); buffer = rw (e, f) (sym (overwrite-none old)) }
+  unfolding wholeOf
+  whole-closed old e = rw e (string-nothing old)
 
   pub whole-inside : {old new : List ℕ} {r : Copied} → s .closed ≡ false
       → CopyIs (textIn (length old) (joinedFrom body t v (ScopeRow.Element (s .depth) (s .row)) (c .depth .0) (c .row))) old new r

@@ -25,10 +25,10 @@ use Rattle.document.specs.Laws.Short.{cut-short}
 use Rattle.decode.specs.declared.reader.ScopeRow.{ScopeRow}
 use Rattle.decode.specs.declared.view.View.{View}
 use Rattle.decode.specs.Rows.{InTable, nameAt, valueAt, tokAt}
-use Rattle.decode.specs.Reader.{toksFrom, scopeAt, HasRow, ScopeIn, DepthIs, bytesOf}
+use Rattle.decode.specs.Reader.{toksFrom, scopeAt, HasRow, DepthIs, bytesOf}
 use Rattle.decode.specs.View.{Viewed}
 use Rattle.decode.proofs.Names.{value-span}
-use Rattle.decode.proofs.Places.{toks-next, toks-none, tok-is, row-seen, scope-seen}
+use Rattle.decode.proofs.Places.{toks-next, toks-none, tok-is, row-seen}
 use Rattle.scalar.specs.declared.Copied.{Copied}
 use Rattle.scalar.specs.declared.whole.Turn.{Turn}
 use Rattle.scalar.specs.Answers.{bufferAfter}
@@ -108,9 +108,6 @@ module _ {body t : List ℕ} {v : View} {s : ScopeRow} {d₀ k₀ : ℕ} {acc : 
   join-done h = sym (w .rest) ∙ rw (toks-none body t (v .count) k h) (ap gives (append-nil acc))
 
   module _ (h : k < v .count) where
-    pub join-scope : ScopeIn body t s k
-    join-scope = scope-seen (w .viewed .sees) (w .scope) h
-
     pub join-row : InTable t k
     join-row = row-seen (w .viewed .sees) h
 
@@ -203,7 +200,6 @@ module _ {body t : List ℕ} {v : View} {s : ScopeRow} {d₀ k₀ d k size : ℕ
 pub ruleset length-laws = (
   needs,
   length-start,
-  join-scope,
   join-row,
   length-done,
   length-element,
@@ -211,7 +207,6 @@ pub ruleset length-laws = (
   length-on,
   length-bad,
   length-never,
-  length-text,
   length-fits,
 )
 
@@ -290,4 +285,4 @@ module _ {body t : List ℕ} {v : View} {s : ScopeRow} {d₀ k₀ : ℕ} {old ou
             }
 
 pub ruleset fill-laws =
-    (needs, join-scope, join-row, fill-start, fill-done, fill-element, fill-ended, fill-on, fill-room, fill-text)
+    (needs, join-row, fill-start, fill-done, fill-element, fill-ended, fill-on, fill-room)

@@ -1,18 +1,17 @@
 -- Laws of booleans, integers and strings from a body.
 use Prim.Native.Nat.{ℕ, _+_, _-_, _*_, _≤_, _<_}
-use mathlib.Core.Path.{_≡_, refl, sym, ap}
+use mathlib.Core.Path.{_≡_, refl, ap}
 use mathlib.Core.Bool.{Bool, true, false}
 use mathlib.Core.List.{List, []}
 use native.Mathlib.Omega.{arith}
 use borrow.Author.Needs.{needs}
-use borrow.Author.Tests.{le-leb}
 use lib.Dec.{leb}
 use lib.IntN.{ℤ}
 use lib.ListN.{length, getD, take, drop}
 use Rattle.lists.specs.Tests.{pick}
 use Rattle.lists.specs.Bytes.{ascii, sameb, same-is}
 use Rattle.lists.specs.Find.{NextAt}
-use Rattle.lists.specs.Overwrite.{overwritten, overwrite-none}
+use Rattle.lists.specs.Overwrite.{overwritten}
 use Rattle.refusal.specs.declared.Refusal.{Refusal}
 use Rattle.refusal.specs.Answer.{Answer, gives, refuses, onward}
 use Rattle.reference.specs.Text.{Out, bytes, bad, answer, filled, unescaped, Unescape}
@@ -41,6 +40,7 @@ use Rattle.opening.specs.Opening.{OpeningIs}
 use Rattle.scalar.specs.declared.Copied.{Copied}
 use Rattle.scalar.specs.Answers.{CopyIs}
 use Rattle.scalar.specs.Read.{RowIn, RowsAs, RowsIn, TextRead, spoiltBy, openedAt, rootsText, readText}
+use Rattle.scalar.proofs.Texts.{string-nothing}
 use Rattle.scalar.proofs.Opened.{opened-laws, opened-why, opened-is}
 use Rattle.scalar.proofs.Unescaping.{size-length, size-bad, size-never, saw-length, saw-bad, saw-over, plain}
 
@@ -186,7 +186,7 @@ pub integer-none : refuses Refusal.NotInteger ≡ integerOf []
 unfolding integerOf
 integer-none = refl
 
-pub ruleset integer-replaced-laws = (needs, got-low, value-got, value-bad, integer-over)
+pub ruleset integer-replaced-laws = (needs, got-low, value-got, value-bad)
 
 pub ruleset integer-in-laws = (needs, value-plain)
 
@@ -237,10 +237,7 @@ module _ (body t : List ℕ) (r : Text) {old : List ℕ} where
   string-row e p x = rw e (rw p at x)
 
   pub string-empty : r ≡ Text.Empty → CopyIs (onward (textAt body t r) (stringIn (length old))) old old (Copied.Length 0)
-  unfolding stringIn
-  string-empty e =
-      let f : leb 0 (length old) ≡ true = le-leb 0 (length old) (omega arith) in
-      record { number = rw (e, f); buffer = rw (e, f) (sym (overwrite-none old)) }
+  string-empty e = rw e (string-nothing old)
 
   pub string-refused : {f : Refusal} → r ≡ Text.Refused f
       → CopyIs (onward (textAt body t r) (stringIn (length old))) old old (Copied.Refused f)

@@ -1,5 +1,5 @@
 -- Laws of the search for the part of a body that has a name.
-use Prim.Native.Nat.{ℕ, _+_, _-_, _^_, _≤_, _<_}
+use Prim.Native.Nat.{ℕ, _+_, _-_}
 use mathlib.Core.Path.{_≡_, refl, sym, _∙_, ap}
 use mathlib.Core.Bool.{Bool, true, false}
 use mathlib.Core.List.{List}
@@ -7,8 +7,6 @@ use mathlib.Core.Option.{Option, none, some}
 use native.Mathlib.Omega.{arith}
 use borrow.Author.Needs.{needs}
 use borrow.Author.Tests.{eq-eqb, ne-eqb}
-use mir.Val.{Fits}
-use mir.Syntax.{w64}
 use lib.ListN.{length, take, drop}
 use Rattle.lists.specs.Tests.{pick}
 use Rattle.lists.specs.Bytes.{sameb}
@@ -62,11 +60,6 @@ pub record FindAt (body t : List ℕ) (v : View) (name : List ℕ) (s : ScopeRow
   pub rest : firstPiece body (viewAt t v) name (left body t (v .count) s c)
       ≡ firstPiece body (viewAt t v) name (left body t (v .count) s c₀)
 
-pub find-start : {body t : List ℕ} {v : View} (name : List ℕ) (s : ScopeRow) (c : Cursor)
-    → Outside body t (v .count) (c .depth .0) (c .row)
-    → FindAt body t v name s c c
-find-start name s c w = record { stands = w; rest = refl }
-
 module _ {body t : List ℕ} {v : View} {name : List ℕ} {s : ScopeRow} {c₀ c : Cursor} (w : FindAt body t v name s c₀ c) {r : Next}
     (x : NextIs body t (v .count) s (c .depth .0) (c .row) r) where
   abbrev answer : Answer scope.Piece
@@ -92,7 +85,7 @@ module _ {body t : List ℕ} {v : View} {name : List ℕ} {s : ScopeRow} {c₀ c
     find-on h = record { stands = y .stands; rest = rw h at turned }
 
 pub ruleset find-laws =
-    (needs, view-readable, start-scope, find-start, found-start, found-outside, find-gone, find-here, find-on, less-left)
+    (needs, view-readable, start-scope, found-start, found-outside, find-gone, find-here, find-on, less-left)
 
 -- ---- of an element
 module _ (body t : List ℕ) (v : View) (name : List ℕ) (s : StartRow) (c : Cursor) where
@@ -187,10 +180,4 @@ module _ {body : List ℕ} {r : Piece} {is : scope.Piece} (x : PartIs body r is)
   pub slice-is : take (r .start + r .len - r .start) (drop (r .start) body) ≡ cut body (is .start) (is .len)
   slice-is = let z : r .start + r .len - r .start ≡ r .len = omega arith in rw (z, x .start, x .len)
 
-  pub slice-end : r .start + r .len ≤ length body
-  slice-end = omega (arith, x .start, x .len, x .within)
-
-  pub slice-fits : length body < 2 ^ 64 → Fits w64 (r .start + r .len)
-  slice-fits g = record { fits = omega (arith, slice-end) }
-
-pub ruleset slice-laws = (needs, slice-is, slice-end, slice-fits)
+pub ruleset slice-laws = (needs, slice-is)

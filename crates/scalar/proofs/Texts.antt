@@ -17,7 +17,7 @@ use lib.ListN.{length, getD, drop, drop-of-length-le}
 use lib.Seq.{drop-cons, sets-eq}
 use Rattle.lists.specs.Tests.{pick, within, is-within, within-is}
 use Rattle.lists.specs.Bytes.{ascii, sameb}
-use Rattle.lists.specs.Overwrite.{overwritten, Stored}
+use Rattle.lists.specs.Overwrite.{overwritten, overwrite-none, Stored}
 use Rattle.refusal.specs.declared.Refusal.{Refusal}
 use Rattle.refusal.specs.Answer.{Answer}
 use Rattle.reference.specs.Number.{digit, number}
@@ -233,5 +233,12 @@ module _ (text : List ℕ) {old : List ℕ} where
   pub string-none : length old < length text → CopyIs (stringIn (length old) text) old old (Copied.Refused Refusal.NoRoom)
   unfolding stringIn
   string-none h = record { number = rw (lt-leb (length text) (length old) h); buffer = rw (lt-leb (length text) (length old) h) }
+
+-- the empty text fits
+pub string-nothing : (old : List ℕ) → CopyIs (stringIn (length old) []) old old (Copied.Length 0)
+unfolding stringIn
+string-nothing old =
+    let f : leb 0 (length old) ≡ true = le-leb 0 (length old) (omega arith) in
+    record { number = rw f; buffer = rw f (sym (overwrite-none old)) }
 
 pub ruleset string-laws = (needs, string-put, string-none)
