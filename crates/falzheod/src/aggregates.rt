@@ -5,6 +5,42 @@ ghost use Rattle.deserializer.specs.Call.{SheetCall, settingsBy, shapeDepth};
 ghost use Rattle.deserializer.specs.Demand.{Demanded};
 ghost use Rattle.deserializer.specs.declared.Shape.{Shape};
 
+// The structure reading: 0, 1, 2, 3, 4, 5, 9 or 10.
+#[no_mangle]
+pub extern "C" fn falzheod_read_struct(
+    body: &[u8],
+    rows: &[u32],
+    end: u32,
+    sheet: &[u8],
+    flags: u32,
+    max_depth: u32,
+    depth: u32,
+    entries: &mut [u32],
+    texts: &mut [u8],
+    count: &mut usize,
+    length: &mut usize,
+) -> u32
+    ensures { λ r. ⌜ SheetCall Shape.Struct (now (body .entry)) (now (rows .entry)) end (now (sheet .entry)) (settingsBy flags «max_depth») (shapeDepth depth)
+        (now (entries .entry)) (now (texts .entry)) (now (entries .exit)) (now (texts .exit)) (now (count .exit)) (now (length .exit)) r ⌝ }
+    ensures demand { λ r. ⌜ Demanded Shape.Struct (now (body .entry)) (now (rows .entry)) end (now (sheet .entry)) (settingsBy flags «max_depth») (shapeDepth depth)
+        (now (entries .entry)) (now (texts .entry)) (now (entries .exit)) (now (count .exit)) r ⌝ }
+{
+    deserializer::read(
+        1,
+        body,
+        rows,
+        end,
+        sheet,
+        flags,
+        max_depth,
+        depth,
+        entries,
+        texts,
+        count,
+        length,
+    )
+}
+
 // The list reading: 0, 1, 2, 3, 4, 9 or 10. No text is written.
 #[no_mangle]
 pub extern "C" fn falzheod_read_list(

@@ -47,12 +47,12 @@ use Rattle.output.specs.Held.{Does, Enters, Adds}
 use Rattle.output.proofs.Then.{does-as}
 use Rattle.output.proofs.Sound.{scalar-adds, piece-adds}
 use Rattle.output.proofs.Siblings.{Keeps, keeps-start, keeps-other, keeps-more, keeps-flat, keeps-has}
-use Rattle.opening.specs.Level.{left, found-in, found-start, found-outside, none-left, one-left, less-left}
+use Rattle.opening.specs.Level.{left}
+use Rattle.opening.proofs.Level.{found-in, found-start, found-outside, none-left, one-left, less-left}
 use Rattle.structure.specs.declared.children.Taken.{Taken}
 use Rattle.structure.specs.Steps.{Given, Space, Wrote, Begins, afterAttributes, afterChildren}
 use Rattle.structure.specs.Children.{scalarStep, memberStep, childStep, takenOf, stepOf, KeptRoom, flatIf, Keeping, passed, kept, TakenAs, AllTaken, ChildrenTaken}
-use Rattle.structure.proofs.Loops.{given-viewed, given-sees, given-readable, given-said, given-index, viewed-space, viewed-sees, space-readable, value-short, value-ready}
-use Rattle.structure.proofs.Loops.{empty-ready, adds-as, idle-does, idle-adds, wrote-as, OneByOne, one-start, one-ends, one-stops, one-goes}
+use Rattle.structure.proofs.Loops.{given-viewed, given-sees, given-readable, given-said, given-index, viewed-space, viewed-sees, space-readable, value-short, value-ready, empty-ready, adds-as, idle-does, idle-adds, wrote-as, OneByOne, one-start, one-ends, one-stops, one-goes}
 
 -- ---- a step, and how many are kept
 pub with-done : (s : Step) (count : ℕ) {w : Written} → s ≡ Step.Done w → Taken.Done w count ≡ takenOf s count

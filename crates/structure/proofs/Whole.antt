@@ -35,7 +35,8 @@ use Rattle.output.specs.Held.{Does, Enters}
 use Rattle.output.proofs.Then.{midway-start, midway-goes, midway-stops, midway-last, tested-well, tested-ill, does-as}
 use Rattle.output.proofs.Room.{stays}
 use Rattle.output.proofs.Sound.{sound-nothing}
-use Rattle.opening.specs.Opening.{RootAt, root-viewed, root-start, root-stands}
+use Rattle.opening.specs.Opening.{RootAt}
+use Rattle.opening.proofs.Asked.{root-viewed, root-start, root-stands}
 use Rattle.structure.specs.declared.children.Taken.{Taken}
 use Rattle.structure.specs.Steps.{Given, Begins, DoesWithin, openedAt, afterAttributes, afterChildren}
 use Rattle.structure.specs.Attributes.{attributesStep}
