@@ -3,19 +3,17 @@ use Prim.Native.Nat.{ℕ, zero, suc, _+_, _*_, _-_, _≤_, _<_}
 use mathlib.Core.Path.{_≡_, refl, sym, _∙_, ap}
 use mathlib.Core.Bool.{Bool, true, false}
 use mathlib.Core.List.{List, [], _∷_}
-use mathlib.Core.Option.{Option, none, some}
+use mathlib.Core.Option.{Option}
 use native.Mathlib.Numerals.{add-one}
 use native.Mathlib.Omega.{arith}
 use borrow.Author.Needs.{needs}
 use borrow.Author.Tests.{eq-eqb, ne-eqb, eqb-true, eqb-false}
-use mir.Val.{Fits}
-use mir.Syntax.{w32, w64}
 use lib.Dec.{eqb}
-use lib.ListN.{length, getD, take, drop}
+use lib.ListN.{length, getD, drop}
 use Rattle.lists.specs.Tests.{pick}
 use Rattle.refusal.specs.declared.Refusal.{Refusal}
 use Rattle.table.specs.Row.{Row, Name, tokAs}
-use Rattle.table.specs.Rules.{among, lastPosition}
+use Rattle.table.specs.Rules.{among}
 use Rattle.table.specs.Flat.{rowAt, rowsFrom, unroll, rolled-out}
 use Rattle.table.specs.Piece.{openCount, closing, isClosed, pieceStart}
 use Rattle.document.specs.declared.Depth.{Depth}
@@ -23,7 +21,7 @@ use Rattle.document.specs.Reader.{depth, depthAfter, less}
 use Rattle.document.specs.Scope as scope
 use Rattle.sheet.specs.Sheet.{Structure}
 use Rattle.sheet.specs.Names.{Indexed, resolve}
-use Rattle.readings.specs.Output.{Room, Output, Reading, finished, writePiece}
+use Rattle.readings.specs.Output.{Room, Output, Reading, writePiece}
 use Rattle.readings.specs.Structure.{rootPiece, writeRoot}
 use Rattle.decode.specs.Rows.{nameAt}
 use Rattle.decode.specs.declared.reader.StartRow.{StartRow}
@@ -31,8 +29,7 @@ use Rattle.decode.specs.declared.reader.Cursor.{Cursor}
 use Rattle.decode.specs.declared.view.View.{View}
 use Rattle.decode.specs.declared.piece.Piece.{Piece}
 use Rattle.decode.specs.Reader.{StartIn, DepthIs}
-use Rattle.decode.specs.View.{viewAt, Viewed}
-use Rattle.decode.specs.Piece.{pieceAt}
+use Rattle.decode.specs.View.{Viewed}
 use Rattle.decode.proofs.ByKind.{other}
 use Rattle.decode.proofs.Places.{start-scope}
 use Rattle.decode.proofs.Pieces.{drop-rows, begins-low}
@@ -42,11 +39,11 @@ use Rattle.codec.proofs.Resolving.{found-low}
 use Rattle.output.specs.declared.Written.{Written}
 use Rattle.output.specs.declared.Step.{Step}
 use Rattle.output.specs.Steps.{piece, tested}
-use Rattle.output.specs.Held.{Does, Enters}
+use Rattle.output.specs.Held.{Enters}
 use Rattle.output.proofs.Then.{midway-start, midway-stops, tested-ill, does-as}
-use Rattle.structure.specs.Steps.{Given, openedAt}
+use Rattle.structure.specs.Steps.{openedAt}
 use Rattle.structure.specs.Unwrapped.{endFrom, EndIs, RootPieceIs, rootStep, unwrappedStep}
-use Rattle.structure.proofs.Loops.{given-viewed, given-sees, given-readable, given-said, given-index, viewed-sees, idle-does}
+use Rattle.structure.proofs.Loops.{given-index, idle-does}
 
 -- ---- how many elements are open after a row of a kind
 abbrev openAfter : ℕ → ℕ → ℕ
@@ -99,9 +96,6 @@ module _ {body t : List ℕ} {v : View} {from n k : ℕ} (q : Viewed body t v) (
   unfolding isClosed
   close-out h = record { is = rw (rolled-out t k (v .count) h) at (a .rest); low = q .ends }
 
-  pub close-fits : Fits w64 (n + 1)
-  close-fits = record { fits = omega (arith, a .few, a .high, q .few) }
-
   module _ (h : k < v .count) where
     pub close-in : k * 8 + 8 ≤ length t
     close-in = omega (arith, q .sees .rows)
@@ -135,7 +129,7 @@ module _ {body t : List ℕ} {v : View} {from n k : ℕ} (q : Viewed body t v) (
               low = rw p (q .sees .readable .each k close-in .position);
             }
 
-pub ruleset close-laws = (needs, close-start, close-out, close-fits, close-in, close-opens, close-on, close-found)
+pub ruleset close-laws = (needs, close-start, close-out, close-in, close-opens, close-on, close-found)
 
 -- ---- the piece
 pub root-piece : {body t : List ℕ} {v : View} {s : StartRow} {from end len : ℕ} → Viewed body t v → StartIn body t (v .count) s
@@ -151,7 +145,7 @@ root-piece {body} {t} {v} {s} {from} {end} {len} q i b f g =
     let low : from ≤ length body = rw b (begins-low (q .sees) i) in
     record { is = λ c. rw (y, ← p, ← f .is, g); start = low; len = omega (arith, f .low) }
 
-pub ruleset piece-laws = (needs, viewed-sees, root-piece)
+pub ruleset piece-laws = (needs, root-piece)
 
 -- ---- the reading
 module _ (body t : List ℕ) (v : View) (s : StartRow) (c : Cursor) where
@@ -181,13 +175,6 @@ module _ (body t : List ℕ) (v : View) (s : StartRow) (c : Cursor) where
     unfolding rootStep
     unwrapped-root q d = record { is = λ x. does-as (as-root (ap (foundIn (saidBy sheet .members)) q)) (d .is x) }
 
-module _ {body t : List ℕ} {v : View} {s : StartRow} {p : Piece} (q : Viewed body t v) (y : RootPieceIs body t v s p) where
-  pub root-starts : Fits w32 (p .start)
-  root-starts = record { fits = omega (arith, q .small, y .start) }
+pub ruleset root-laws = (needs, root-written)
 
-  pub root-long : Fits w32 (p .len)
-  root-long = record { fits = omega (arith, q .small, y .len) }
-
-pub ruleset root-laws = (needs, root-starts, root-long, root-written)
-
-pub ruleset unwrapped-laws = (needs, start-scope, given-viewed, given-sees, given-readable, given-said, given-index, found-low, unwrapped-ill, unwrapped-nothing, unwrapped-root)
+pub ruleset unwrapped-laws = (needs, start-scope, given-index, found-low, unwrapped-ill, unwrapped-nothing, unwrapped-root)

@@ -1,9 +1,9 @@
 -- Laws of the attributes of a root, member after member in sheet order.
-use Prim.Native.Nat.{ℕ, _+_, _*_, _/_, _-_, _^_, _≤_, _<_}
+use Prim.Native.Nat.{ℕ, _+_, _*_, _/_, _≤_, _<_}
 use mathlib.Core.Path.{_≡_, refl, sym, _∙_, ap}
-use mathlib.Core.Bool.{Bool, true, false}
+use mathlib.Core.Bool.{true, false}
 use mathlib.Core.List.{List, [], _∷_}
-use mathlib.Core.Option.{Option, none, some}
+use mathlib.Core.Option.{Option, none}
 use native.Mathlib.Omega.{arith}
 use borrow.Author.Needs.{needs}
 use lib.ListN.{length, getD, drop}
@@ -12,7 +12,7 @@ use Rattle.reference.specs.Text.{bytes, unescaped}
 use Rattle.document.specs.Reader as doc
 use Rattle.sheet.specs.Sheet.{Structure}
 use Rattle.sheet.specs.Names.{attributeName, membersOf}
-use Rattle.readings.specs.Output.{Room, Output, Reading, finished}
+use Rattle.readings.specs.Output.{Room, Output}
 use Rattle.readings.specs.Structure.{attributeOf, writeFound, readAttribute}
 use Rattle.decode.specs.Rows.{InTable, valueAt}
 use Rattle.decode.specs.declared.reader.StartRow.{StartRow}
@@ -31,8 +31,8 @@ use Rattle.output.specs.Held.{Does}
 use Rattle.output.proofs.Sound.{text-adds}
 use Rattle.structure.specs.Steps.{Given, Space, Wrote, Begins, DoesWithin, memberIn, afterAttributes}
 use Rattle.structure.specs.Attributes.{foundStep, attributeStep, attributesStep}
-use Rattle.structure.proofs.Loops.{given-viewed, given-sees, given-said, given-index, viewed-space, space-readable, value-short, value-ready}
-use Rattle.structure.proofs.Loops.{adds-as, idle-wrote, wrote-as, within-done, within-refused, OneByOne, one-start, one-ends, one-stops, one-goes}
+use Rattle.structure.proofs.Loops.{given-index, viewed-space, value-short, value-ready}
+use Rattle.structure.proofs.Loops.{idle-wrote, wrote-as, within-done, within-refused, OneByOne, one-start, one-ends, one-stops, one-goes}
 
 -- ---- by its name
 pub attribute-in : {body t : List ℕ} {s : StartRow} {name : List ℕ} {r : Attribute} {k : ℕ} → AttributeIs body t s name r → r ≡ Attribute.Row k → InTable t k
@@ -57,7 +57,7 @@ module _ (body t : List ℕ) (n : ℕ) (s : StartRow) (member : ℕ) (name : Lis
       let v : unescaped l ≡ bytes (bytesOf (unescaped (valueAt body t k))) = rw f ((rw p at (y .row)) .1) in
       wrote-as (λ room out. as-found (ap (valueIn body t) p) room out ∙ sym (rw v)) (value-short q k f) (text-adds member l) d
 
-pub ruleset attribute-laws = (needs, value-span, space-readable, value-ready, attribute-in, attribute-nothing, attribute-row)
+pub ruleset attribute-laws = (needs, value-span, value-ready, attribute-in, attribute-nothing, attribute-row)
 
 -- ---- of a member
 module _ {body t : List ℕ} {v : View} {sheet members : List ℕ} (s : StartRow) {i : ℕ} {m : Member} (g : Given body t v sheet members)
@@ -73,7 +73,7 @@ module _ {body t : List ℕ} {v : View} {sheet members : List ℕ} (s : StartRow
   unfolding attributeStep readAttribute foundStep
   member-attribute q p d = wrote-as (λ room out. rw (member-said (g .said) x h .attribute, q, p)) (omega arith) (d .adds) (d .does)
 
-pub ruleset member-laws = (needs, given-sees, given-said, given-index, member-other, member-attribute)
+pub ruleset member-laws = (needs, given-index, member-other, member-attribute)
 
 -- ---- the loop: from member i on
 pub record AttributesAt (body t : List ℕ) (s : StartRow) (st : Structure) (e x : List ℕ) (w : Written) (e₁ x₁ : List ℕ) (w₁ : Written) (i : ℕ) : Type 0 where
@@ -82,14 +82,6 @@ pub record AttributesAt (body t : List ℕ) (s : StartRow) (st : Structure) (e x
 
 pub attributes-start : (body t : List ℕ) (s : StartRow) (st : Structure) {e x : List ℕ} {w : Written} → Begins 0 e x w → AttributesAt body t s st e x w e x w 0
 attributes-start body t s st b = record { low = omega arith; one = one-start (attributeStep (startAt body t s .attributes)) (membersOf st) b }
-
-module _ {body t : List ℕ} {s : StartRow} {st : Structure} {e x : List ℕ} {w : Written} {e₁ x₁ : List ℕ} {w₁ : Written} {i : ℕ}
-    (a : AttributesAt body t s st e x w e₁ x₁ w₁ i) where
-  pub attributes-entries : length e₁ ≡ length e
-  attributes-entries = a .one .sameEntries
-
-  pub attributes-texts : length x₁ ≡ length x
-  attributes-texts = a .one .sameTexts
 
 module _ {body t : List ℕ} {s : StartRow} {sheet : List ℕ} {e x : List ℕ} {w : Written} {e₁ x₁ : List ℕ} {w₁ : Written} {i : ℕ}
     (a : AttributesAt body t s (saidBy sheet) e x w e₁ x₁ w₁ i) where
@@ -117,7 +109,4 @@ module _ {body t : List ℕ} {s : StartRow} {sheet : List ℕ} {e x : List ℕ} 
           → DoesWithin afterAttributes (attributesStep body t s (saidBy sheet)) e x w e₂ x₂ (Step.Refused why w₂)
       attributes-stop j = within-refused (one-stops here (d .does) j)
 
-pub index-in : (members : List ℕ) (i : ℕ) → i < length members / 3 → i * 3 + 3 ≤ length members
-index-in members i h = omega arith
-
-pub ruleset attributes-laws = (needs, index-in, attributes-start, attributes-entries, attributes-texts, attributes-space, attributes-end, attributes-on, attributes-stop)
+pub ruleset attributes-laws = (needs, attributes-start, attributes-space, attributes-end, attributes-on, attributes-stop)

@@ -1,7 +1,7 @@
 -- For the call above `structure_at`: the definition's reading is its step at the root that was opened, in the order of groups by rising member index, which is an order for the reading
 -- (`an-order` in readings/specs/Laws/Order.antt).
 use Prim.Native.Nat.{ℕ}
-use mathlib.Core.Path.{_≡_, refl, sym, _∙_}
+use mathlib.Core.Path.{_≡_, refl}
 use mathlib.Core.Bool.{Bool, true, false}
 use mathlib.Core.List.{List}
 use Rattle.lists.specs.Tests.{pick}

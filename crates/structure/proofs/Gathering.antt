@@ -8,19 +8,19 @@ use native.Mathlib.Omega.{arith}
 use borrow.Author.Needs.{needs}
 use borrow.Author.Tests.{eqb-true, ne-eqb}
 use mir.Val.{Fits}
-use mir.Syntax.{w32, w64}
+use mir.Syntax.{w64}
 use lib.Dec.{eqb}
-use lib.ListN.{length, getD}
+use lib.ListN.{length}
 use Rattle.lists.specs.Tests.{pick}
 use Rattle.refusal.specs.declared.Refusal.{Refusal}
 use Rattle.document.specs.View.{View}
 use Rattle.document.specs.Scope.{Child}
 use Rattle.sheet.specs.Sheet.{Member, Structure}
 use Rattle.sheet.specs.Names.{indexed}
-use Rattle.readings.specs.Output.{Room, Output, Reading}
+use Rattle.readings.specs.Output.{Room, Output}
 use Rattle.readings.specs.Structure.{groupOf}
 use Rattle.readings.specs.Conditions.Groups.{together}
-use Rattle.readings.specs.Laws.Order.{hasGroup, grouped, memberOrder}
+use Rattle.readings.specs.Laws.Order.{grouped, memberOrder}
 use Rattle.output.specs.declared.Written.{Written}
 use Rattle.output.specs.declared.Step.{Step}
 use Rattle.output.specs.Steps.{group, groups, groupSteps, eachOf}
@@ -97,9 +97,6 @@ module _ {body kept : List ℕ} (q : KeptIn body kept) where
   pub kept-small : length kept < 2 ^ 32
   kept-small = omega (arith, q .few)
 
-  pub kept-inside : Inside body kept
-  kept-inside = q .inside
-
 -- ---- the members that have a group, from i on
 module _ (kept : List ℕ) {n i : ℕ} where
   from-more : i < n → n - i ≡ suc (n - (i + 1))
@@ -116,9 +113,6 @@ module _ (kept : List ℕ) {n i : ℕ} where
   from-end : n ≤ i → keptFrom kept i (n - i) ≡ []
   unfolding keptFrom
   from-end h = let z : n - i ≡ 0 = omega arith in rw z
-
-pub index-fits : {n i : ℕ} → i < n → n ≤ 64 → Fits w32 i
-index-fits h k = record { fits = omega arith }
 
 below-next : (kept : List ℕ) (i : ℕ) → below kept (i + 1) ≡ below kept i + keptLen kept i
 below-next kept i = rw (add-one i)
@@ -171,13 +165,10 @@ module _ {body kept : List ℕ} {n entries bytes i : ℕ} (a : SumAt body kept n
       pub sum-bytes : n ≤ 64 → Fits w64 (bytes + (len + 17))
       sum-bytes k = record { fits = omega (arith, a .small, len-most q i, g .is) }
 
-  pub sum-count : i < n → n ≤ 64 → Fits w64 (entries + 1)
-  sum-count h k = record { fits = omega (arith, a .few) }
-
 pub sum-len : {body kept : List ℕ} {i len : ℕ} → KeptIn body kept → GroupLen kept i len → Fits w64 (len + 17)
 sum-len {i = i} q g = record { fits = omega (arith, len-most q i, g .is) }
 
-pub ruleset sum-laws = (needs, kept-small, index-fits, sum-start, sum-end, sum-without, sum-with, sum-bytes, sum-count, sum-len)
+pub ruleset sum-laws = (needs, kept-small, sum-start, sum-end, sum-without, sum-with, sum-bytes, sum-len)
 
 -- ---- one after another
 pub record GroupsAt (body kept : List ℕ) (n : ℕ) (e x : List ℕ) (w : Written) (e₁ x₁ : List ℕ) (w₁ : Written) (i : ℕ) : Type 0 where
@@ -192,12 +183,6 @@ groups-start {body} {kept} n q b =
     record { inside = q; low = omega arith; one = rw z (one-start (flatStep body kept) (keptFrom kept 0 n) b₀) }
 
 module _ {body kept : List ℕ} {n : ℕ} {e x : List ℕ} {w : Written} {e₁ x₁ : List ℕ} {w₁ : Written} {i : ℕ} (a : GroupsAt body kept n e x w e₁ x₁ w₁ i) where
-  pub groups-entries : length e₁ ≡ length e
-  groups-entries = a .one .sameEntries
-
-  pub groups-texts : length x₁ ≡ length x
-  groups-texts = a .one .sameTexts
-
   pub groups-ready : i < n → n ≤ 64 → Ready w₁ (length (flat body kept i))
   groups-ready h k = record { small = omega (arith, a .one .begins .small, flat-length body kept i (a .inside .inside), len-most (a .inside) i) }
 
@@ -236,7 +221,7 @@ module _ {body kept : List ℕ} {n : ℕ} {e x : List ℕ} {w : Written} {e₁ x
             one = one-goes here d (group-adds i (flat body kept i)) j v k (omega (arith, below-next kept i, flat-length body kept i (a .inside .inside)));
           }
 
-pub ruleset groups-laws = (needs, kept-small, kept-inside, index-fits, groups-start, groups-entries, groups-texts, groups-ready, groups-end, groups-without, groups-stop, groups-on)
+pub ruleset groups-laws = (needs, kept-small, groups-start, groups-ready, groups-end, groups-without, groups-stop, groups-on)
 
 -- ---- all or none
 -- of the children they are of: the order by rising member index, and the definition's bytes
@@ -285,10 +270,4 @@ module _ {body kept : List ℕ} {n : ℕ} {sum : Sum} (z : SumIs body kept n sum
           groups-never body v st kids (memberOrder st kids) (omega (arith, z .entries, b .sound .entries, ap length (order-is k m)))
           (omega (arith, o, b .sound .texts, bytes-are k (memberOrder st kids))) d
 
-pub begins-count : {limit : ℕ} {e x : List ℕ} {w : Written} → Begins limit e x w → w .count ≤ length e / 6
-begins-count b = omega (arith, b .sound .entries)
-
-pub begins-used : {limit : ℕ} {e x : List ℕ} {w : Written} → Begins limit e x w → w .used ≤ length x
-begins-used b = b .sound .texts
-
-pub ruleset all-laws = (needs, begins-count, begins-used, all-many, all-long, all-written)
+pub ruleset all-laws = (needs, all-many, all-long, all-written)

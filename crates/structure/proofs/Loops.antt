@@ -9,11 +9,9 @@ use lib.ListN.{length, getD}
 use Rattle.refusal.specs.declared.Refusal.{Refusal}
 use Rattle.document.specs.Laws.Short.{cut-short}
 use Rattle.readings.specs.Output.{Room, Output, Reading, finished}
-use Rattle.decode.specs.Rows.{Readable, valueAt}
+use Rattle.decode.specs.Rows.{valueAt}
 use Rattle.decode.specs.declared.view.View.{View}
-use Rattle.decode.specs.Reader.{Sees}
 use Rattle.decode.specs.View.{Viewed}
-use Rattle.codec.specs.Structure.{MembersSaid}
 use Rattle.output.specs.declared.Written.{Written}
 use Rattle.output.specs.declared.Step.{Step}
 use Rattle.output.specs.Steps.{eachOf}
@@ -24,39 +22,18 @@ use Rattle.structure.specs.Steps.{Given, Space, Wrote, Begins, DoesWithi
 
 -- ---- what is given
 module _ {body t : List ℕ} {v : View} {sheet members : List ℕ} (g : Given body t v sheet members) where
-  pub given-viewed : Viewed body t v
-  given-viewed = g .viewed
-
-  pub given-sees : Sees body t (v .count)
-  given-sees = g .viewed .sees
-
-  pub given-readable : Readable body t
-  given-readable = g .viewed .sees .readable
-
-  pub given-said : MembersSaid sheet members
-  given-said = g .said
-
   pub given-index : {i : ℕ} → i * 3 + 3 ≤ length members → Fits w32 i
   given-index h = record { fits = omega (arith, g .said .size, g .said .few) }
-pub viewed-sees : {body t : List ℕ} {v : View} → Viewed body t v → Sees body t (v .count)
-viewed-sees q = q .sees
-
 pub viewed-space : {body t : List ℕ} {v : View} {w : Written} → Viewed body t v → w .used + 65536 < 2 ^ 32 → Space body t w
 viewed-space q h = record { readable = q .sees .readable; short = q .small; small = h }
 
 -- ---- a value of a row
 module _ {body t : List ℕ} {w : Written} (q : Space body t w) where
-  pub space-readable : Readable body t
-  space-readable = q .readable
-
   pub value-short : (k : ℕ) {l : List ℕ} → l ≡ valueAt body t k → length l ≤ 65536
   value-short k e = rw e (omega (arith, q .short, cut-short body (getD t (k * 8 + 5) 0) (getD t (k * 8 + 6) 0)))
 
   pub value-ready : (k : ℕ) {l : List ℕ} → l ≡ valueAt body t k → Ready w (length l)
   value-ready k e = record { small = omega (arith, q .small, value-short k e) }
-
-  pub empty-ready : Ready w (length {A = ℕ} [])
-  empty-ready = record { small = omega (arith, q .small) }
 
 -- ---- one step
 pub adds-as : {f g : Room → Output → Reading} {n : ℕ} → ((room : Room) (out : Output) → f room out ≡ g room out) → n ≤ 65536 → Adds g n → Adds f 65536

@@ -1,26 +1,24 @@
 -- Laws of the children of a root: what a first text comes to, what a member says of a child, and the loop over children.
-use Prim.Native.Nat.{ℕ, _+_, _*_, _-_, _^_, _≤_, _<_}
+use Prim.Native.Nat.{ℕ, _+_, _*_, _≤_}
 use mathlib.Core.Path.{_≡_, refl, sym, _∙_, ap, subst}
 use mathlib.Core.Bool.{Bool, true, false}
 use mathlib.Core.List.{List, [], _∷_, append-nil}
-use mathlib.Core.Option.{Option, none, some}
+use mathlib.Core.Option.{Option, none}
 use native.Mathlib.Omega.{arith}
 use borrow.Author.Needs.{needs}
-use mir.Val.{Fits}
-use mir.Syntax.{w32, w64}
-use lib.ListN.{length, take}
+use lib.ListN.{length}
 use lib.Seq.{sets, length-take-le}
 use Rattle.lists.specs.Tests.{pick}
 use Rattle.refusal.specs.declared.Refusal.{Refusal}
 use Rattle.refusal.specs.Answer.{Answer}
 use Rattle.reference.specs.Text.{unescaped, decode}
-use Rattle.document.specs.Scope.{Child, children, childrenOf, pieceOf}
+use Rattle.document.specs.Scope.{Child, children, childrenOf}
 use Rattle.document.specs.Scope as scope
 use Rattle.document.specs.Text.{textOf}
 use Rattle.sheet.specs.Sheet.{Structure}
 use Rattle.sheet.specs.Names.{Indexed, resolve}
-use Rattle.readings.specs.Output.{Room, Output, Reading, finished, refused, output, fits, written, writePiece, failedEntry}
-use Rattle.readings.specs.Structure.{readScalar, readMember, readChild, flatMember}
+use Rattle.readings.specs.Output.{Room, Output, finished, refused, output, fits, written, writePiece, failedEntry}
+use Rattle.readings.specs.Structure.{readMember, readChild, flatMember}
 use Rattle.decode.specs.Rows.{InTable, nameAt, valueAt}
 use Rattle.decode.specs.declared.reader.ScopeRow.{ScopeRow}
 use Rattle.decode.specs.declared.reader.Cursor.{Cursor}
@@ -30,15 +28,15 @@ use Rattle.decode.specs.declared.reader.Next.{Next}
 use Rattle.decode.specs.declared.view.View.{View}
 use Rattle.decode.specs.declared.text.Text.{Text}
 use Rattle.decode.specs.declared.piece.Piece.{Piece}
-use Rattle.decode.specs.Reader.{Sees, Outside, NextIs, childAt, DroppedIs}
+use Rattle.decode.specs.Reader.{Outside, NextIs, childAt, DroppedIs}
 use Rattle.decode.specs.Text.{textAt, TextIn, TextIs}
 use Rattle.decode.specs.View.{failureAt, viewAt, Viewed}
-use Rattle.decode.specs.Piece.{pieceAt, PieceIs}
+use Rattle.decode.specs.Piece.{PieceIs}
 use Rattle.decode.proofs.Names.{value-span, local-span}
 use Rattle.decode.proofs.Places.{start-scope}
 use Rattle.codec.specs.declared.structure.Found.{Found}
 use Rattle.codec.specs.declared.structure.Member.{Member}
-use Rattle.codec.specs.Structure.{saidBy, nameless, foundIn, MemberRead, Resolved}
+use Rattle.codec.specs.Structure.{saidBy, foundIn, MemberRead, Resolved}
 use Rattle.codec.proofs.Resolving.{member-said, found-low}
 use Rattle.output.specs.declared.Written.{Written}
 use Rattle.output.specs.declared.Step.{Step}
@@ -52,7 +50,7 @@ use Rattle.opening.proofs.Level.{found-in, found-start, found-outside, none-lef
 use Rattle.structure.specs.declared.children.Taken.{Taken}
 use Rattle.structure.specs.Steps.{Given, Space, Wrote, Begins, afterAttributes, afterChildren}
 use Rattle.structure.specs.Children.{scalarStep, memberStep, childStep, takenOf, stepOf, KeptRoom, flatIf, Keeping, passed, kept, TakenAs, AllTaken, ChildrenTaken}
-use Rattle.structure.proofs.Loops.{given-viewed, given-sees, given-readable, given-said, given-index, viewed-space, viewed-sees, space-readable, value-short, value-ready, empty-ready, adds-as, idle-does, idle-adds, wrote-as, OneByOne, one-start, one-ends, one-stops, one-goes}
+use Rattle.structure.proofs.Loops.{given-index, viewed-space, value-short, value-ready, adds-as, idle-does, idle-adds, wrote-as, OneByOne, one-start, one-ends, one-stops, one-goes}
 
 -- ---- a step, and how many are kept
 pub with-done : (s : Step) (count : ℕ) {w : Written} → s ≡ Step.Done w → Taken.Done w count ≡ takenOf s count
@@ -98,16 +96,13 @@ pub put-refused : (body t : List ℕ) (text : Text) (member : ℕ) {e e′ : Lis
 unfolding scalarStep failed
 put-refused body t text member x {why = why} p d = rw p (wrote-as (λ room out. refl) (omega arith) (failed-adds member why) (d .is x))
 
-pub ruleset put-laws = (needs, value-span, space-readable, value-ready, empty-ready, text-row, put-row, put-empty, put-refused)
-
-pub text-in : {body t : List ℕ} {text : Text} {a : Answer (List ℕ)} → TextIs body t text a → TextIn t text
-text-in y = y .row
+pub ruleset put-laws = (needs, value-span, value-ready, text-row, put-row, put-empty, put-refused)
 
 pub scalar-read : {body t : List ℕ} {text : Text} {a : Answer (List ℕ)} (member : ℕ) {e x e′ x′ : List ℕ} {w : Written} {r : Step} → TextIs body t text a
     → Wrote (scalarStep member (textAt body t text)) e x w e′ x′ r → Wrote (scalarStep member a) e x w e′ x′ r
 scalar-read member y d = rw (y .same) at d
 
-pub ruleset scalar-laws = (needs, viewed-sees, text-in, scalar-read)
+pub ruleset scalar-laws = (needs, scalar-read)
 
 -- ---- a child of a member with these flags
 module _ (body t : List ℕ) (v : View) (s : StartRow) (c : Cursor) (index : ℕ) (m : Member) where
@@ -158,21 +153,7 @@ module _ (body t : List ℕ) (v : View) (s : StartRow) (c : Cursor) (index : ℕ
     unfolding memberStep scalarStep
     member-text a d = not-kept (rw a) (wrote-as (λ room out. rw a) (omega arith) (d .adds) (d .does))
 
-module _ {body t : List ℕ} {v : View} {s : StartRow} {c : Cursor} {p : Piece} (q : Viewed body t v) (y : PieceIs body t v s c p) where
-  pub piece-starts : Fits w32 (p .start)
-  piece-starts = record { fits = omega (arith, q .small, y .start) }
-
-  pub piece-long : Fits w32 (p .len)
-  piece-long = record { fits = omega (arith, q .small, y .len) }
-
-module _ {l : List ℕ} {count : ℕ} (k : KeptRoom l count) where
-  pub keep-room : count * 3 + 3 ≤ length l
-  keep-room = k .room
-
-  pub keep-count : Fits w64 (count + 1)
-  keep-count = record { fits = omega (arith, k .few) }
-
-pub ruleset member-laws = (needs, piece-starts, piece-long, keep-room, keep-count, member-kept, member-piece, member-text)
+pub ruleset member-laws = (needs, member-kept, member-piece, member-text)
 
 -- ---- a child by the member that its name resolves to
 pub row-resolved : (body t : List ℕ) (k : ℕ) {sheet members local : List ℕ} {f : Found} → local ≡ nameAt body t k .local → Resolved sheet members local f
@@ -214,7 +195,7 @@ module _ (body t : List ℕ) (v : View) (s : StartRow) (c : Cursor) {sheet membe
         keeps = λ w′ n z. rw flat (d .keeps w′ n z);
       }
 
-pub ruleset child-laws = (needs, start-scope, given-viewed, given-sees, given-readable, given-said, given-index, found-low, child-nothing, child-member)
+pub ruleset child-laws = (needs, start-scope, given-index, found-low, child-nothing, child-member)
 
 -- ---- the loop: from place c on, with what was written and kept so far
 pub record ChildrenAt (body t : List ℕ) (v : View) (st : Structure) (s : ScopeRow) (c₀ : Cursor) (l₀ e x : List ℕ) (w : Written) (l e₁ x₁ : List ℕ) (w₁ : Written)
@@ -259,21 +240,6 @@ all-done {w₁ = w₁} {n = n} d a = record { does = d; done = λ w′ m z. (let
 
 module _ {body t : List ℕ} {v : View} {st : Structure} {s : ScopeRow} {c₀ : Cursor} {l₀ e x : List ℕ} {w : Written} {l e₁ x₁ : List ℕ} {w₁ : Written} {count : ℕ} {c : Cursor}
     (a : ChildrenAt body t v st s c₀ l₀ e x w l e₁ x₁ w₁ count c) where
-  pub children-outside : Outside body t (v .count) (c .depth .0) (c .row)
-  children-outside = a .stands
-
-  pub children-kept : length l ≡ length l₀
-  children-kept = a .same
-
-  pub children-entries : length e₁ ≡ length e
-  children-entries = a .one .sameEntries
-
-  pub children-texts : length x₁ ≡ length x
-  children-texts = a .one .sameTexts
-
-  pub children-sees : Sees body t (v .count)
-  children-sees = a .viewed .sees
-
   pub children-space : Space body t w₁
   children-space = viewed-space (a .viewed) (omega (arith, a .one .begins .small, a .stands .high, a .viewed .few))
 
@@ -339,8 +305,7 @@ module _ {body t : List ℕ} {v : View} {st : Structure} {s : ScopeRow} {c₀ : 
             go (passed o f g) = with-kept (omega (arith, g)) (rw (f, g) (keeps-other before o))
             go (kept b o f g h) = with-kept (omega (arith, g)) (rw g (keeps-more before f (children-room .room) o refl h))
 
-pub ruleset children-laws = (needs, children-sees, found-start, found-outside, less-left, children-start, children-outside, children-kept, children-entries, children-texts,
-    children-space, children-gone, children-room, children-stop, children-on)
+pub ruleset children-laws = (needs, found-start, found-outside, less-left, children-start, children-space, children-gone, children-room, children-stop, children-on)
 
 -- ---- of an element
 module _ (body t : List ℕ) (v : View) (st : Structure) (s : StartRow) (c : Cursor) {e x : List ℕ} {w : Written} where
@@ -357,4 +322,4 @@ module _ (body t : List ℕ) (v : View) (st : Structure) (s : StartRow) (c : Cur
   unfolding childrenOf
   inside-open q k = rw q k
 
-pub ruleset inside-laws = (needs, start-scope, given-viewed, given-sees, inside-closed, inside-open)
+pub ruleset inside-laws = (needs, start-scope, inside-closed, inside-open)

@@ -1,15 +1,14 @@
 -- Laws of the whole of a structure: its parts one after another.
-use Prim.Native.Nat.{ℕ, _+_, _-_, _*_, _/_, _≤_}
-use mathlib.Core.Path.{_≡_, refl, sym, _∙_, ap}
+use Prim.Native.Nat.{ℕ, _-_, _*_, _/_, _≤_}
+use mathlib.Core.Path.{_≡_, refl, ap}
 use mathlib.Core.Bool.{Bool, true, false}
 use mathlib.Core.List.{List}
 use native.Mathlib.Omega.{arith}
 use borrow.Author.Needs.{needs}
 use mir.Val.{Fits}
 use mir.Syntax.{w64}
-use lib.ListN.{length, take}
+use lib.ListN.{length}
 use lib.Seq.{length-take-le}
-use Rattle.lists.specs.Tests.{pick}
 use Rattle.lists.specs.Parts.{part}
 use Rattle.refusal.specs.declared.Refusal.{Refusal}
 use Rattle.table.specs.Row.{Name}
@@ -17,9 +16,9 @@ use Rattle.document.specs.Names.{nameMatches}
 use Rattle.document.specs.Scope.{Child, childrenOf}
 use Rattle.sheet.specs.Sheet.{Structure}
 use Rattle.sheet.specs.Names.{rootName}
-use Rattle.readings.specs.Output.{Room, Output, Reading, refused}
+use Rattle.readings.specs.Output.{Room, Output, Reading}
 use Rattle.readings.specs.Laws.Order.{memberOrder}
-use Rattle.decode.specs.Rows.{Readable, InTable, nameAt}
+use Rattle.decode.specs.Rows.{InTable, nameAt}
 use Rattle.decode.specs.declared.reader.StartRow.{StartRow}
 use Rattle.decode.specs.declared.reader.Cursor.{Cursor}
 use Rattle.decode.specs.declared.view.View.{View}
@@ -27,24 +26,23 @@ use Rattle.decode.specs.Reader.{childAt}
 use Rattle.decode.specs.View.{viewAt}
 use Rattle.decode.proofs.Places.{start-scope}
 use Rattle.codec.specs.declared.structure.StructureSheet.{StructureSheet}
-use Rattle.codec.specs.Structure.{saidBy, StructureSaid, PartIn}
+use Rattle.codec.specs.Structure.{saidBy, StructureSaid}
 use Rattle.output.specs.declared.Written.{Written}
 use Rattle.output.specs.declared.Step.{Step}
-use Rattle.output.specs.Steps.{tested, groups}
+use Rattle.output.specs.Steps.{groups}
 use Rattle.output.specs.Held.{Does, Enters}
 use Rattle.output.proofs.Then.{midway-start, midway-goes, midway-stops, midway-last, tested-well, tested-ill, does-as}
 use Rattle.output.proofs.Room.{stays}
 use Rattle.output.proofs.Sound.{sound-nothing}
 use Rattle.opening.specs.Opening.{RootAt}
-use Rattle.opening.proofs.Asked.{root-viewed, root-start, root-stands}
 use Rattle.structure.specs.declared.children.Taken.{Taken}
 use Rattle.structure.specs.Steps.{Given, Begins, DoesWithin, openedAt, afterAttributes, afterChildren}
 use Rattle.structure.specs.Attributes.{attributesStep}
-use Rattle.structure.specs.Children.{stepOf, AllTaken, ChildrenTaken}
+use Rattle.structure.specs.Children.{stepOf, ChildrenTaken}
 use Rattle.structure.specs.Groups.{KeptIn, GroupsIs}
 use Rattle.structure.specs.Unwrapped.{unwrappedStep}
 use Rattle.structure.specs.Structure.{groupsStep, contentStep, membersStep, isOther, structureStep, ContentIs, none-written, MembersAre, StructureIs}
-use Rattle.structure.proofs.Loops.{given-viewed, given-sees, given-said}
+
 
 -- ---- children, then 9, then groups
 module _ {body t : List ℕ} {v : View} {st : Structure} {kids : List Child} {e x : List ℕ} {w : Written} {e₁ x₁ l : List ℕ} {got : Taken}
@@ -98,13 +96,10 @@ module _ {body t : List ℕ} {v : View} {st : Structure} (s : StartRow) (c : Cur
         (groups body (viewAt t v) st kids (memberOrder st kids)) (λ room out. refl) (tested-well e₁ x₁ w₁ p) refl)
         (d .is (viewAt t v) st kids kept f))
 
-pub members-size : {body t : List ℕ} {v : View} {sheet members : List ℕ} → Given body t v sheet members → length (saidBy sheet .members) ≡ length members / 3
-members-size g = omega (arith, g .said .size)
-
 pub members-few : {body t : List ℕ} {v : View} {sheet members : List ℕ} → Given body t v sheet members → length members / 3 ≤ 64
 members-few g = omega (arith, g .said .size, g .said .few)
 
-pub ruleset content-laws = (needs, members-size, members-few, taken-begins, taken-kept, taken-room, taken-fits, content-refused, content-ill, content-groups)
+pub ruleset content-laws = (needs, members-few, taken-begins, taken-kept, taken-room, taken-fits, content-refused, content-ill, content-groups)
 
 -- ---- attributes, then those
 pub nothing-begins : (e x : List ℕ) → Begins 0 e x (record { count = 0; used = 0 })
@@ -152,9 +147,6 @@ module _ {body t : List ℕ} {v : View} {sheet : List ℕ} {r : StructureSheet} 
   pub root-given : Given body t v sheet (part (r .members) 0 (r .count * 3))
   root-given = record { viewed = root .viewed; said = said .members }
 
-pub root-readable : {body t : List ℕ} {v : View} {s : StartRow} {c : Cursor} → RootAt body t v s c → Readable body t
-root-readable root = root .viewed .sees .readable
-
 pub root-row : {body t : List ℕ} {v : View} {s : StartRow} {c : Cursor} → RootAt body t v s c → InTable t (s .row)
 root-row root = start-scope (root .viewed .sees) (root .start)
 
@@ -175,6 +167,6 @@ module _ (body t : List ℕ) (v : View) (sheet : List ℕ) (tests : Bool) (s : S
     unfolding structureStep
     whole-members f d = record { does = does-as (λ room out. rw (← q, p, said .unwrapped, f)) (d .does) }
 
-pub ruleset whole-laws = (needs, root-viewed, root-start, root-stands, root-given, root-readable, root-row, whole-other, whole-alone, whole-members)
+pub ruleset whole-laws = (needs, root-given, root-row, whole-other, whole-alone, whole-members)
 
-pub ruleset room-laws = (needs, given-viewed, given-sees)
+pub ruleset room-laws = (needs)

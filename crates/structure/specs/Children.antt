@@ -12,9 +12,8 @@ use Rattle.document.specs.View as doc
 use Rattle.document.specs.Scope.{Child, pieceOf}
 use Rattle.document.specs.Text.{textOf}
 use Rattle.sheet.specs.Sheet.{Structure}
-use Rattle.sheet.specs.Names.{resolve}
 use Rattle.readings.specs.Output.{Room, Output, Reading, finished, writePiece}
-use Rattle.readings.specs.Structure.{readScalar, readChild, flatMember}
+use Rattle.readings.specs.Structure.{readScalar, readChild}
 use Rattle.decode.specs.declared.reader.StartRow.{StartRow}
 use Rattle.decode.specs.declared.reader.Cursor.{Cursor}
 use Rattle.decode.specs.declared.view.View.{View}

@@ -56,13 +56,24 @@ fn attribute_of(
     requires { ⌜ StartIn (now body) (now rows) (view .count) root ⌝ }
     requires { ⌜ Space (now body) (now rows) w ⌝ }
     requires { ⌜ i * 3 + 3 ≤ length (now members) ⌝ }
-    ensures { λ r. ⌜ Wrote (attributeStep (startAt (now (body .entry)) (now (rows .entry)) root .attributes) (memberIn (saidBy (now (sheet .entry))) i))
+    ensures { λ r. ⌜ Wrote (attributeStep (startAt (now (body .entry)) (now (rows .entry)) root .attributes)
+        (memberIn (saidBy (now (sheet .entry))) i))
         (now (entries .entry)) (now (texts .entry)) w (now (entries .exit)) (now (texts .exit)) r ⌝ }
 {
     let member = member_at(members, i);
     if member.attribute {
         let name = attribute_name(sheet, members, i);
-        return read_attribute(body, rows, view.count, root, name, i as u32, entries, texts, w);
+        return read_attribute(
+            body,
+            rows,
+            view.count,
+            root,
+            name,
+            i as u32,
+            entries,
+            texts,
+            w,
+        );
     }
     Step::Done(w)
 }
@@ -89,7 +100,18 @@ pub fn read_attributes(
     let mut held = w;
     let mut i = 0;
     while i < count {
-        match attribute_of(body, rows, view, root, sheet, members, i, entries, texts, held) {
+        match attribute_of(
+            body,
+            rows,
+            view,
+            root,
+            sheet,
+            members,
+            i,
+            entries,
+            texts,
+            held,
+        ) {
             Step::Done(more) => {
                 held = more;
                 i += 1;

@@ -1,5 +1,5 @@
-// "then children in body order": a text, a piece, or kept for its group. The rows are walked once: a child of a flattened aggregate member is kept as three
-// numbers, from which its group is written after the children.
+// "then children in body order": a text, a piece, or kept for its group. The rows are walked once: a child of a flattened aggregate member is
+// kept as three numbers, from which its group is written after the children.
 ghost use Prim.Native.Nat.{_+_, _*_, _≤_};
 ghost use lib.ListN.{length};
 ghost use mathlib.Core.Path.{_≡_};
@@ -84,7 +84,8 @@ fn read_scalar(
     requires { ⌜ Viewed (now body) (now rows) view ⌝ }
     requires { ⌜ StartIn (now body) (now rows) (view .count) start ⌝ }
     requires { ⌜ Space (now body) (now rows) w ⌝ }
-    ensures { λ r. ⌜ Wrote (scalarStep member (textOf (failureAt (view .failure)) (childAt (now (body .entry)) (now (rows .entry)) (view .count) start at)))
+    ensures { λ r. ⌜ Wrote (scalarStep member (textOf (failureAt (view .failure))
+        (childAt (now (body .entry)) (now (rows .entry)) (view .count) start at)))
         (now (entries .entry)) (now (texts .entry)) w (now (entries .exit)) (now (texts .exit)) r ⌝ }
 {
     let failure = view.failure;
@@ -114,10 +115,11 @@ fn read_member(
     requires { ⌜ Space (now body) (now rows) w ⌝ }
     requires { ⌜ KeptRoom (now kept) count ⌝ }
     ensures { λ r. ⌜ TakenAs (now (body .entry)) (now (rows .entry)) view start at
-        (memberStep (now (body .entry)) (viewAt (now (rows .entry)) view) (childAt (now (body .entry)) (now (rows .entry)) (view .count) start at) index
-        (member .aggregate) (member .flattened))
+        (memberStep (now (body .entry)) (viewAt (now (rows .entry)) view)
+        (childAt (now (body .entry)) (now (rows .entry)) (view .count) start at) index (member .aggregate) (member .flattened))
         (flatIf (member .aggregate) (member .flattened) index)
-        (now (entries .entry)) (now (texts .entry)) w (now (kept .entry)) count (now (entries .exit)) (now (texts .exit)) (now (kept .exit)) r ⌝ }
+        (now (entries .entry)) (now (texts .entry)) w (now (kept .entry)) count
+        (now (entries .exit)) (now (texts .exit)) (now (kept .exit)) r ⌝ }
 {
     if member.aggregate {
         let piece = decode::piece::piece_of(body, rows, view, start, at, past);
@@ -133,13 +135,7 @@ fn read_member(
 }
 
 // The member that the local name of a row's element resolves to, attribute members among them.
-pub fn member_of(
-    body: &[u8],
-    rows: &[u32],
-    row: usize,
-    sheet: &[u8],
-    members: &[u32],
-) -> Found
+pub fn member_of(body: &[u8], rows: &[u32], row: usize, sheet: &[u8], members: &[u32]) -> Found
     requires { ⌜ Readable (now body) (now rows) ⌝ }
     requires { ⌜ InTable (now rows) row ⌝ }
     requires { ⌜ MembersSaid (now sheet) (now members) ⌝ }
@@ -170,9 +166,11 @@ fn read_child(
     requires { ⌜ Space (now body) (now rows) w ⌝ }
     requires { ⌜ KeptRoom (now kept) count ⌝ }
     ensures { λ r. ⌜ TakenAs (now (body .entry)) (now (rows .entry)) view start at
-        (childStep (now (body .entry)) (viewAt (now (rows .entry)) view) (saidBy (now (sheet .entry))) (childAt (now (body .entry)) (now (rows .entry)) (view .count) start at))
+        (childStep (now (body .entry)) (viewAt (now (rows .entry)) view) (saidBy (now (sheet .entry)))
+        (childAt (now (body .entry)) (now (rows .entry)) (view .count) start at))
         (flatMember (resolve (saidBy (now (sheet .entry))) (nameAt (now (body .entry)) (now (rows .entry)) (start .row) .local)))
-        (now (entries .entry)) (now (texts .entry)) w (now (kept .entry)) count (now (entries .exit)) (now (texts .exit)) (now (kept .exit)) r ⌝ }
+        (now (entries .entry)) (now (texts .entry)) w (now (kept .entry)) count
+        (now (entries .exit)) (now (texts .exit)) (now (kept .exit)) r ⌝ }
 {
     match member_of(body, rows, start.row, sheet, members) {
         Found::Nothing => Taken::Done(w, count),
@@ -287,5 +285,17 @@ pub fn read_children(
     }
     let own = root.depth;
     let scope = ScopeRow::Element(own, root.row);
-    children_from(body, rows, view, sheet, members, scope, at, kept, entries, texts, w)
+    children_from(
+        body,
+        rows,
+        view,
+        sheet,
+        members,
+        scope,
+        at,
+        kept,
+        entries,
+        texts,
+        w,
+    )
 }

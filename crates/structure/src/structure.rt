@@ -10,6 +10,11 @@ ghost use Rattle.codec.specs.Structure.{saidBy, StructureSaid};
 ghost use Rattle.opening.specs.Opening.{RootAt};
 ghost use Rattle.structure.specs.Steps.{Given, Begins, afterAttributes, openedAt};
 ghost use Rattle.structure.specs.Structure.{isOther, ContentIs, MembersAre, StructureIs};
+use crate::attributes::read_attributes;
+use crate::children::Taken;
+use crate::children::read_children;
+use crate::groups::write_groups;
+use crate::unwrapped::read_unwrapped;
 use codec::structure::StructureSheet;
 use codec::structure::root_name;
 use decode::name::row_matches;
@@ -19,11 +24,6 @@ use decode::view::View;
 use output::Step;
 use output::Written;
 use refusal::Refusal;
-use crate::attributes::read_attributes;
-use crate::children::Taken;
-use crate::children::read_children;
-use crate::groups::write_groups;
-use crate::unwrapped::read_unwrapped;
 
 // The children of a root, then 9, then its groups.
 fn read_content(
@@ -47,7 +47,19 @@ fn read_content(
     ensures { λ r. ⌜ ContentIs (now (body .entry)) (now (rows .entry)) view (saidBy (now (sheet .entry))) root at
         (now (entries .entry)) (now (texts .entry)) w (now (entries .exit)) (now (texts .exit)) r ⌝ }
 {
-    match read_children(body, rows, view, root, at, sheet, members, kept, entries, texts, w) {
+    match read_children(
+        body,
+        rows,
+        view,
+        root,
+        at,
+        sheet,
+        members,
+        kept,
+        entries,
+        texts,
+        w,
+    ) {
         Taken::Refused(why, last) => Step::Refused(why, last),
         Taken::Done(held, count) => {
             if view.ill_formed {
@@ -82,7 +94,19 @@ fn read_members(
     let none = Written { count: 0, used: 0 };
     match read_attributes(body, rows, view, root, sheet, members, entries, texts, none) {
         Step::Refused(why, last) => Step::Refused(why, last),
-        Step::Done(held) => read_content(body, rows, view, root, at, sheet, members, kept, entries, texts, held),
+        Step::Done(held) => read_content(
+            body,
+            rows,
+            view,
+            root,
+            at,
+            sheet,
+            members,
+            kept,
+            entries,
+            texts,
+            held,
+        ),
     }
 }
 
@@ -106,7 +130,18 @@ fn members_of_few(
         (now (entries .entry)) (now (texts .entry)) (now (entries .exit)) (now (texts .exit)) r ⌝ }
 {
     let mut kept = [0u32; 384];
-    read_members(body, rows, view, root, at, sheet, members, &mut kept, entries, texts)
+    read_members(
+        body,
+        rows,
+        view,
+        root,
+        at,
+        sheet,
+        members,
+        &mut kept,
+        entries,
+        texts,
+    )
 }
 
 // With room to keep those of any table.
@@ -128,7 +163,18 @@ fn members_of_many(
         (now (entries .entry)) (now (texts .entry)) (now (entries .exit)) (now (texts .exit)) r ⌝ }
 {
     let mut kept = [0u32; 12288];
-    read_members(body, rows, view, root, at, sheet, members, &mut kept, entries, texts)
+    read_members(
+        body,
+        rows,
+        view,
+        root,
+        at,
+        sheet,
+        members,
+        &mut kept,
+        entries,
+        texts,
+    )
 }
 
 // A structure by its members. The array for the children that are kept is cleared first, so a small table has a small one.
@@ -167,7 +213,8 @@ fn is_other(
     requires { ⌜ Readable (now body) (now rows) ⌝ }
     requires { ⌜ InTable (now rows) (root .row) ⌝ }
     requires { ⌜ StructureSaid (now sheet) parsed ⌝ }
-    ensures { λ r. ⌜ r ≡ isOther tests (nameMatches (nameAt (now (body .entry)) (now (rows .entry)) (root .row)) (rootName (saidBy (now (sheet .entry))))) ⌝ }
+    ensures { λ r. ⌜ r ≡ isOther tests (nameMatches (nameAt (now (body .entry)) (now (rows .entry)) (root .row))
+        (rootName (saidBy (now (sheet .entry))))) ⌝ }
 {
     if tests {
         let row = root.row;
@@ -206,5 +253,15 @@ pub fn structure_at(
     if parsed.unwrapped {
         return read_unwrapped(body, rows, view, root, at, sheet, &all[0..n], entries, none);
     }
-    read_wrapped(body, rows, view, root, at, sheet, &all[0..n], entries, texts)
+    read_wrapped(
+        body,
+        rows,
+        view,
+        root,
+        at,
+        sheet,
+        &all[0..n],
+        entries,
+        texts,
+    )
 }

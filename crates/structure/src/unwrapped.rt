@@ -5,6 +5,7 @@ ghost use Rattle.codec.specs.Structure.{saidBy};
 ghost use Rattle.output.specs.Held.{Enters};
 ghost use Rattle.structure.specs.Steps.{Given, openedAt};
 ghost use Rattle.structure.specs.Unwrapped.{EndIs, RootPieceIs, rootStep, unwrappedStep};
+use crate::children::member_of;
 use codec::structure::Found;
 use decode::piece::Piece;
 use decode::piece::minus;
@@ -17,7 +18,6 @@ use output::Step;
 use output::Written;
 use refusal::Refusal;
 use table::field;
-use crate::children::member_of;
 
 // Where a root ends: at the position of the row that closes it, whatever its name, or where the view ends.
 fn root_end(body: &[u8], rows: &[u32], view: View, root: StartRow) -> usize
@@ -89,7 +89,8 @@ pub fn read_unwrapped(
 ) -> Step
     requires { ⌜ Given (now body) (now rows) view (now sheet) (now members) ⌝ }
     requires { ⌜ StartIn (now body) (now rows) (view .count) root ⌝ }
-    ensures { λ r. ⌜ Enters (unwrappedStep (now (body .entry)) (saidBy (now (sheet .entry))) (openedAt (now (body .entry)) (now (rows .entry)) view root at))
+    ensures { λ r. ⌜ Enters (unwrappedStep (now (body .entry)) (saidBy (now (sheet .entry)))
+        (openedAt (now (body .entry)) (now (rows .entry)) view root at))
         (now (entries .entry)) w (now (entries .exit)) r ⌝ }
 {
     if view.ill_formed {
