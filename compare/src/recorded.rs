@@ -201,10 +201,7 @@ impl Readings {
         let answer = answer
             .replace("ok true", "ok 1")
             .replace("ok false", "ok 0");
-        let answer = match answer.strip_prefix("ok -") {
-            Some(magnitude) if word == "int" => format!("0 {magnitude} -"),
-            _ => answer.replace("ok", "0").replace("refuse ", ""),
-        };
+        let answer = answer.replace("ok", "0").replace("refuse ", "");
         format!("{letter} {} {flags} {depth} {answer}", table(&body))
     }
 

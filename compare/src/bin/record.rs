@@ -8,8 +8,8 @@
 //!     K BODY END ROWS SHEET FLAGS MAXIMUM DEPTH N ENTRIES TEXTS   a reading: K is s
 //!         structure, l list, m map, t string list (where it is refused without ENTRIES
 //!         and TEXTS, which the Rust does not show)
-//!     K BODY END ROWS FLAGS DEPTH N [VALUE [-]]   a scalar: K is b boolean, i integer
-//!         (its sign behind it), w string
+//!     K BODY END ROWS FLAGS DEPTH N [VALUE]   a scalar: K is b boolean, i integer,
+//!         w string
 //!     f BODY END ROWS NAME N [START LENGTH]   find
 //!
 //! TEXT, RESULT, BODY, SHEET, NAME and TEXTS in hexadecimal, `-` for none. ROWS are all

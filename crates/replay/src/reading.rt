@@ -10,6 +10,7 @@ use falzheod::scalars::falzheod_read_integer;
 use falzheod::aggregates::falzheod_read_list;
 use falzheod::aggregates::falzheod_read_map;
 use falzheod::scalars::falzheod_read_string;
+use falzheod::scalars::falzheod_text_integer;
 use falzheod::aggregates::falzheod_read_string_list;
 use falzheod::aggregates::falzheod_read_struct;
 
@@ -286,13 +287,14 @@ fn reads_boolean(line: &[u8], body: &[u8], rows: &[u32]) -> bool {
     value == MARK
 }
 
-// An integer's sign stands in field 8, if it has one.
-fn recorded_integer(line: &[u8]) -> i64 {
-    let magnitude = number(line, 7) as i64;
-    if field::is_past(line, 8) {
-        return magnitude;
-    }
-    0 - magnitude
+// The recorded integer, by the reading of texts; another number where field 7 is none.
+fn recorded_integer(line: &[u8], otherwise: i32) -> i32 {
+    let word = field::nth(line, 7);
+    let from = word.from;
+    let to = word.to;
+    let mut value = otherwise;
+    let _ = falzheod_text_integer(&line[from..to], &mut value);
+    value
 }
 
 fn reads_integer(line: &[u8], body: &[u8], rows: &[u32]) -> bool {
@@ -309,7 +311,7 @@ fn reads_integer(line: &[u8], body: &[u8], rows: &[u32]) -> bool {
         return false;
     }
     if answer == 0 {
-        return value as i64 == recorded_integer(line);
+        return value == recorded_integer(line, 78);
     }
     value == 77
 }
