@@ -76,7 +76,8 @@ end-here : (ends p n : ℕ) (r : Row) (rest : List Row) → openCount n r ≡ 0 
 unfolding isClosed closing
 end-here ends p n r rest e = rw (eq-eqb (openCount n r) 0 e)
 
-end-on : (ends p n : ℕ) (r : Row) (rest : List Row) → (openCount n r ≡ 0 → ⊥) → endFrom ends p n (r ∷ rest) ≡ endFrom ends (r .position) (openCount n r) rest
+end-on : (ends p n : ℕ) (r : Row) (rest : List Row) → (openCount n r ≡ 0 → ⊥) → endFrom ends p n (r ∷ rest)
+    ≡ endFrom ends (r .position) (openCount n r) rest
 unfolding isClosed closing
 end-on ends p n r rest e = rw (ne-eqb (openCount n r) 0 e)
 
@@ -124,8 +125,9 @@ module _ {body t : List ℕ} {v : View} {from n k : ℕ} (q : Viewed body t v) (
         pub close-found : {r : ℕ} → m ≡ 0 → r ≡ getD t (k * 8 + 7) 0 → EndIs body t v from r
         close-found e p =
             record {
-              is = p ∙ (sym (end-here (v .ends) (a .last) n (rowAt t k) (rowsFrom t (k + 1) (v .count - (k + 1))) (sym (rw f at (open-is n kind u d)) ∙ e))
-              ∙ rw (unroll t k (v .count) h) at (a .rest));
+              is = p ∙ (sym (end-here (v .ends) (a .last) n (rowAt t k) (rowsFrom t (k + 1) (v .count - (k + 1)))
+                  (sym (rw f at (open-is n kind u d)) ∙ e))
+                  ∙ rw (unroll t k (v .count) h) at (a .rest));
               low = rw p (q .sees .readable .each k close-in .position);
             }
 
@@ -149,28 +151,39 @@ pub ruleset piece-laws = (needs, root-piece)
 
 -- ---- the reading
 module _ (body t : List ℕ) (v : View) (s : StartRow) (c : Cursor) where
-  pub root-written : {p : Piece} (member : ℕ) {e e′ : List ℕ} {w : Written} {r : Step} → RootPieceIs body t v s p → Enters (piece member (p .start) (p .len)) e w e′ r
+  pub root-written : {p : Piece} (member : ℕ) {e e′ : List ℕ} {w : Written} {r : Step} → RootPieceIs body t v s p
+      → Enters (piece member (p .start) (p .len)) e w e′ r
       → Enters (rootStep body (openedAt body t v s c) member) e w e′ r
   unfolding rootStep piece
-  root-written member y d = record { is = λ x. does-as (λ room out. ap (λ (q : scope.Piece). writePiece room member q out) (sym (y .is c))) (d .is x) }
+  root-written member y d = record {
+    is = λ x. does-as (λ room out. ap (λ (q : scope.Piece). writePiece room member q out) (sym (y .is c)))
+        (d .is x);
+  }
 
   pub unwrapped-ill : (st : Structure) (e : List ℕ) (w : Written) → v .«ill_formed» ≡ true
       → Enters (unwrappedStep body st (openedAt body t v s c)) e w e (Step.Refused Refusal.IllFormed w)
   unfolding unwrappedStep
   unwrapped-ill st e w p =
-      let more : Room → Output → Reading = λ room out. writeRoot room (rootPiece body (openedAt body t v s c)) (resolve st (nameAt body t (s .row) .local)) out in
-      record { is = λ x. midway-stops (midway-start (unwrappedStep body st (openedAt body t v s c)) e x w) {step = tested (v .«ill_formed»)} more (λ room out. refl) (tested-ill e x w p) refl }
+      let more : Room → Output → Reading = λ room out. writeRoot room (rootPiece body (openedAt body t v s c))
+      (resolve st (nameAt body t (s .row) .local)) out in
+      record {
+        is = λ x. midway-stops (midway-start (unwrappedStep body st (openedAt body t v s c)) e x w) {step = tested (v .«ill_formed»)}
+            more (λ room out. refl) (tested-ill e x w p) refl;
+      }
 
-  module _ {sheet members : List ℕ} {f : Found} (p : v .«ill_formed» ≡ false) (y : Resolved sheet members (nameAt body t (s .row) .local) f) where
+  module _ {sheet members : List ℕ} {f : Found} (p : v .«ill_formed» ≡ false)
+      (y : Resolved sheet members (nameAt body t (s .row) .local) f) where
     as-root : {o : Option Indexed} → foundIn (saidBy sheet .members) f ≡ o → (room : Room) (out : Output)
         → unwrappedStep body (saidBy sheet) (openedAt body t v s c) room out ≡ writeRoot room (rootPiece body (openedAt body t v s c)) o out
     unfolding unwrappedStep tested
     as-root q room out = rw (p, y .is, q)
 
-    pub unwrapped-nothing : (e : List ℕ) (w : Written) → f ≡ Found.Nothing → Enters (unwrappedStep body (saidBy sheet) (openedAt body t v s c)) e w e (Step.Done w)
+    pub unwrapped-nothing : (e : List ℕ) (w : Written) → f ≡ Found.Nothing
+        → Enters (unwrappedStep body (saidBy sheet) (openedAt body t v s c)) e w e (Step.Done w)
     unwrapped-nothing e w q = record { is = λ x. idle-does e x w (as-root (ap (foundIn (saidBy sheet .members)) q)) }
 
-    pub unwrapped-root : {i : ℕ} {e e′ : List ℕ} {w : Written} {r : Step} → f ≡ Found.At i → Enters (rootStep body (openedAt body t v s c) i) e w e′ r
+    pub unwrapped-root : {i : ℕ} {e e′ : List ℕ} {w : Written} {r : Step} → f ≡ Found.At i
+        → Enters (rootStep body (openedAt body t v s c) i) e w e′ r
         → Enters (unwrappedStep body (saidBy sheet) (openedAt body t v s c)) e w e′ r
     unfolding rootStep
     unwrapped-root q d = record { is = λ x. does-as (as-root (ap (foundIn (saidBy sheet .members)) q)) (d .is x) }

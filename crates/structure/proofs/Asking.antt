@@ -32,13 +32,16 @@ use Rattle.output.proofs.Sound.{text-adds}
 use Rattle.structure.specs.Steps.{Given, Space, Wrote, Begins, DoesWithin, memberIn, afterAttributes}
 use Rattle.structure.specs.Attributes.{foundStep, attributeStep, attributesStep}
 use Rattle.structure.proofs.Loops.{given-index, viewed-space, value-short, value-ready}
-use Rattle.structure.proofs.Loops.{idle-wrote, wrote-as, within-done, within-refused, OneByOne, one-start, one-ends, one-stops, one-goes}
+use Rattle.structure.proofs.Loops.{idle-wrote, wrote-as, within-done, within-refused, OneByOne, one-start, one-ends, one-stops}
+use Rattle.structure.proofs.Loops.{one-goes}
 
 -- ---- by its name
-pub attribute-in : {body t : List ℕ} {s : StartRow} {name : List ℕ} {r : Attribute} {k : ℕ} → AttributeIs body t s name r → r ≡ Attribute.Row k → InTable t k
+pub attribute-in : {body t : List ℕ} {s : StartRow} {name : List ℕ} {r : Attribute} {k : ℕ} → AttributeIs body t s name r → r
+    ≡ Attribute.Row k → InTable t k
 attribute-in y p = (rw p at (y .row)) .0
 
-module _ (body t : List ℕ) (n : ℕ) (s : StartRow) (member : ℕ) (name : List ℕ) {r : Attribute} (i : StartIn body t n s) (y : AttributeIs body t s name r) where
+module _ (body t : List ℕ) (n : ℕ) (s : StartRow) (member : ℕ) (name : List ℕ) {r : Attribute} (i : StartIn body t n s)
+    (y : AttributeIs body t s name r) where
   as-found : {o : Option (List ℕ)} → valueIn body t r ≡ o → (room : Room) (out : Output)
       → foundStep (startAt body t s .attributes) member name room out ≡ writeFound room member o out
   unfolding foundStep attributeOf
@@ -46,10 +49,12 @@ module _ (body t : List ℕ) (n : ℕ) (s : StartRow) (member : ℕ) (name : Lis
       let z = attribute-value body t name (λ (l : List doc.Attribute). attributeOf l name) refl (λ a l. refl) i y in
       ap (λ (o : Option (List ℕ)). writeFound room member o out) (sym z ∙ p)
 
-  pub attribute-nothing : (e x : List ℕ) (w : Written) → r ≡ Attribute.Nothing → Wrote (foundStep (startAt body t s .attributes) member name) e x w e x (Step.Done w)
+  pub attribute-nothing : (e x : List ℕ) (w : Written) → r ≡ Attribute.Nothing
+      → Wrote (foundStep (startAt body t s .attributes) member name) e x w e x (Step.Done w)
   attribute-nothing e x w p = idle-wrote e x w (as-found (ap (valueIn body t) p))
 
-  pub attribute-row : {k : ℕ} {l e x e′ x′ : List ℕ} {w : Written} {got : Step} → r ≡ Attribute.Row k → Space body t w → l ≡ valueAt body t k
+  pub attribute-row : {k : ℕ} {l e x e′ x′ : List ℕ} {w : Written} {got : Step} → r ≡ Attribute.Row k → Space body t w → l
+      ≡ valueAt body t k
       → Does (text member l) e x w e′ x′ got
       → Wrote (foundStep (startAt body t s .attributes) member name) e x w e′ x′ got
   unfolding text
@@ -67,7 +72,8 @@ module _ {body t : List ℕ} {v : View} {sheet members : List ℕ} (s : StartRow
   unfolding attributeStep readAttribute
   member-other e u w q = idle-wrote e u w (λ room out. rw (member-said (g .said) x h .attribute, q))
 
-  pub member-attribute : {name : List ℕ} {e x e′ x′ : List ℕ} {w : Written} {got : Step} → m .attribute ≡ true → name ≡ attributeName (getD (saidBy sheet .members) i nameless)
+  pub member-attribute : {name : List ℕ} {e x e′ x′ : List ℕ} {w : Written} {got : Step} → m .attribute ≡ true → name
+      ≡ attributeName (getD (saidBy sheet .members) i nameless)
       → Wrote (foundStep (startAt body t s .attributes) i name) e x w e′ x′ got
       → Wrote (attributeStep (startAt body t s .attributes) (memberIn (saidBy sheet) i)) e x w e′ x′ got
   unfolding attributeStep readAttribute foundStep
@@ -76,12 +82,17 @@ module _ {body t : List ℕ} {v : View} {sheet members : List ℕ} (s : StartRow
 pub ruleset member-laws = (needs, given-index, member-other, member-attribute)
 
 -- ---- the loop: from member i on
-pub record AttributesAt (body t : List ℕ) (s : StartRow) (st : Structure) (e x : List ℕ) (w : Written) (e₁ x₁ : List ℕ) (w₁ : Written) (i : ℕ) : Type 0 where
+pub record AttributesAt (body t : List ℕ) (s : StartRow) (st : Structure) (e x : List ℕ) (w : Written) (e₁ x₁ : List ℕ) (w₁ : Written)
+    (i : ℕ) : Type 0 where
   pub low : i ≤ length (st .members)
   pub one : OneByOne (attributeStep (startAt body t s .attributes)) (membersOf st) (drop i (membersOf st)) (i * 65536) e x w e₁ x₁ w₁
 
-pub attributes-start : (body t : List ℕ) (s : StartRow) (st : Structure) {e x : List ℕ} {w : Written} → Begins 0 e x w → AttributesAt body t s st e x w e x w 0
-attributes-start body t s st b = record { low = omega arith; one = one-start (attributeStep (startAt body t s .attributes)) (membersOf st) b }
+pub attributes-start : (body t : List ℕ) (s : StartRow) (st : Structure) {e x : List ℕ} {w : Written} → Begins 0 e x w
+    → AttributesAt body t s st e x w e x w 0
+attributes-start body t s st b = record {
+  low = omega arith;
+  one = one-start (attributeStep (startAt body t s .attributes)) (membersOf st) b;
+}
 
 module _ {body t : List ℕ} {s : StartRow} {sheet : List ℕ} {e x : List ℕ} {w : Written} {e₁ x₁ : List ℕ} {w₁ : Written} {i : ℕ}
     (a : AttributesAt body t s (saidBy sheet) e x w e₁ x₁ w₁ i) where
@@ -89,7 +100,8 @@ module _ {body t : List ℕ} {s : StartRow} {sheet : List ℕ} {e x : List ℕ} 
     pub attributes-space : Space body t w₁
     attributes-space = viewed-space (g .viewed) (omega (arith, a .one .begins .small, a .low, g .said .few))
 
-    pub attributes-end : length members / 3 ≤ i → DoesWithin afterAttributes (attributesStep body t s (saidBy sheet)) e x w e₁ x₁ (Step.Done w₁)
+    pub attributes-end : length members / 3 ≤ i
+        → DoesWithin afterAttributes (attributesStep body t s (saidBy sheet)) e x w e₁ x₁ (Step.Done w₁)
     attributes-end h =
         let none : drop i (membersOf (saidBy sheet)) ≡ [] = members-end (saidBy sheet .members) i (omega (arith, g .said .size)) in
         let o = rw none at (a .one) in
@@ -97,7 +109,8 @@ module _ {body t : List ℕ} {s : StartRow} {sheet : List ℕ} {e x : List ℕ} 
 
     module _ (h : i < length members / 3) {e₂ x₂ : List ℕ} {got : Step}
         (d : Wrote (attributeStep (startAt body t s .attributes) (memberIn (saidBy sheet) i)) e₁ x₁ w₁ e₂ x₂ got) where
-      here : OneByOne (attributeStep (startAt body t s .attributes)) (membersOf (saidBy sheet)) (memberIn (saidBy sheet) i ∷ drop (i + 1) (membersOf (saidBy sheet)))
+      here : OneByOne (attributeStep (startAt body t s .attributes)) (membersOf (saidBy sheet))
+          (memberIn (saidBy sheet) i ∷ drop (i + 1) (membersOf (saidBy sheet)))
           (i * 65536) e x w e₁ x₁ w₁
       here = rw (members-next (saidBy sheet .members) i (omega (arith, g .said .size))) at (a .one)
 

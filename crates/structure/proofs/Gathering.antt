@@ -48,7 +48,8 @@ module _ (j start len : ℕ) (more : List ℕ) where
   unfolding keptLen keptFor lengths
   len-more i = go (eqb j i)
     where
-      go : (b : Bool) → lengths (pick b (record { start = start; len = len } ∷ keptFor i more) (keptFor i more)) ≡ pick b len 0 + lengths (keptFor i more)
+      go : (b : Bool) → lengths (pick b (record { start = start; len = len } ∷ keptFor i more) (keptFor i more))
+          ≡ pick b len 0 + lengths (keptFor i more)
       go true = refl
       go false = omega arith
 
@@ -174,17 +175,23 @@ pub ruleset sum-laws = (needs, kept-small, sum-start, sum-end, sum-without, sum-
 pub record GroupsAt (body kept : List ℕ) (n : ℕ) (e x : List ℕ) (w : Written) (e₁ x₁ : List ℕ) (w₁ : Written) (i : ℕ) : Type 0 where
   pub inside : KeptIn body kept
   pub low : i ≤ n
-  pub one : OneByOne (flatStep body kept) (keptFrom kept 0 n) (keptFrom kept i (n - i)) (afterChildren + (below kept i + i * 17)) e x w e₁ x₁ w₁
+  pub one : OneByOne (flatStep body kept) (keptFrom kept 0 n) (keptFrom kept i (n - i)) (afterChildren + (below kept i + i * 17)) e x w e₁
+      x₁ w₁
 
-pub groups-start : {body kept : List ℕ} (n : ℕ) {e x : List ℕ} {w : Written} → KeptIn body kept → Begins afterChildren e x w → GroupsAt body kept n e x w e x w 0
+pub groups-start : {body kept : List ℕ} (n : ℕ) {e x : List ℕ} {w : Written} → KeptIn body kept → Begins afterChildren e x w
+    → GroupsAt body kept n e x w e x w 0
 groups-start {body} {kept} n q b =
     let z : n - 0 ≡ n = omega arith in
     let b₀ : Begins (afterChildren + (below kept 0 + 0 * 17)) _ _ _ = record { sound = b .sound; small = omega (arith, b .small) } in
     record { inside = q; low = omega arith; one = rw z (one-start (flatStep body kept) (keptFrom kept 0 n) b₀) }
 
-module _ {body kept : List ℕ} {n : ℕ} {e x : List ℕ} {w : Written} {e₁ x₁ : List ℕ} {w₁ : Written} {i : ℕ} (a : GroupsAt body kept n e x w e₁ x₁ w₁ i) where
+module _ {body kept : List ℕ} {n : ℕ} {e x : List ℕ} {w : Written} {e₁ x₁ : List ℕ} {w₁ : Written} {i : ℕ}
+    (a : GroupsAt body kept n e x w e₁ x₁ w₁ i) where
   pub groups-ready : i < n → n ≤ 64 → Ready w₁ (length (flat body kept i))
-  groups-ready h k = record { small = omega (arith, a .one .begins .small, flat-length body kept i (a .inside .inside), len-most (a .inside) i) }
+  groups-ready h k = record {
+    small = omega
+        (arith, a .one .begins .small, flat-length body kept i (a .inside .inside), len-most (a .inside) i);
+  }
 
   pub groups-end : n ≤ i → Does (eachOf (flatStep body kept) (keptFrom kept 0 n)) e x w e₁ x₁ (Step.Done w₁)
   groups-end h = one-ends (rw (from-end kept h) at (a .one))
@@ -205,20 +212,24 @@ module _ {body kept : List ℕ} {n : ℕ} {e x : List ℕ} {w : Written} {e₁ x
         }
 
     module _ (p : u ≡ true) {e₂ x₂ : List ℕ} {got : Step} (d : Does (group i (flat body kept i)) e₁ x₁ w₁ e₂ x₂ got) where
-      here : OneByOne (flatStep body kept) (keptFrom kept 0 n) (i ∷ keptFrom kept (i + 1) (n - (i + 1))) (afterChildren + (below kept i + i * 17)) e x w e₁ x₁ w₁
+      here : OneByOne (flatStep body kept) (keptFrom kept 0 n) (i ∷ keptFrom kept (i + 1) (n - (i + 1)))
+          (afterChildren + (below kept i + i * 17)) e x w e₁ x₁ w₁
       here = rw (from-with kept h (sym f ∙ p)) at (a .one)
 
-      pub groups-stop : {why : Refusal} {w₂ : Written} → got ≡ Step.Refused why w₂ → Does (eachOf (flatStep body kept) (keptFrom kept 0 n)) e x w e₂ x₂ (Step.Refused why w₂)
+      pub groups-stop : {why : Refusal} {w₂ : Written} → got ≡ Step.Refused why w₂
+          → Does (eachOf (flatStep body kept) (keptFrom kept 0 n)) e x w e₂ x₂ (Step.Refused why w₂)
       unfolding flatStep
       groups-stop j = one-stops here d j
 
-      pub groups-on : {w₂ : Written} → length e₂ ≡ length e₁ → length x₂ ≡ length x₁ → got ≡ Step.Done w₂ → GroupsAt body kept n e x w e₂ x₂ w₂ (i + 1)
+      pub groups-on : {w₂ : Written} → length e₂ ≡ length e₁ → length x₂ ≡ length x₁ → got ≡ Step.Done w₂
+          → GroupsAt body kept n e x w e₂ x₂ w₂ (i + 1)
       unfolding flatStep
       groups-on v k j =
           record {
             inside = a .inside;
-          low = omega arith;
-            one = one-goes here d (group-adds i (flat body kept i)) j v k (omega (arith, below-next kept i, flat-length body kept i (a .inside .inside)));
+            low = omega arith;
+            one = one-goes here d (group-adds i (flat body kept i)) j v k
+                (omega (arith, below-next kept i, flat-length body kept i (a .inside .inside)));
           }
 
 pub ruleset groups-laws = (needs, kept-small, groups-start, groups-ready, groups-end, groups-without, groups-stop, groups-on)
@@ -241,7 +252,8 @@ module _ {body : List ℕ} {v : View} {st : Structure} {kids : List Child} {kept
   unfolding groupSteps flatStep
   steps-are l room out = ap (λ (g : ℕ → List ℕ). eachOf (λ (i : ℕ). group i (g i)) l room out) (sym (fun-ext (k .flat)))
 
-module _ {body kept : List ℕ} {n : ℕ} {sum : Sum} (z : SumIs body kept n sum) {e x : List ℕ} {w : Written} (b : Begins afterChildren e x w) where
+module _ {body kept : List ℕ} {n : ℕ} {sum : Sum} (z : SumIs body kept n sum) {e x : List ℕ} {w : Written}
+    (b : Begins afterChildren e x w) where
   pub all-many : length e / 6 - w .count < sum .entries → GroupsIs body kept n e x w e x (Step.Refused Refusal.NoRoom w)
   all-many h =
       record {
@@ -260,10 +272,14 @@ module _ {body kept : List ℕ} {n : ℕ} {sum : Sum} (z : SumIs body kept n sum
 
   pub all-written : {e′ x′ : List ℕ} {r : Step} → sum .entries ≤ length e / 6 - w .count → sum .bytes ≤ length x - w .used
       → Does (eachOf (flatStep body kept) (keptFrom kept 0 n)) e x w e′ x′ r → GroupsIs body kept n e x w e′ x′ r
-  all-written {e′} {x′} {r} p q d = record { is = λ v st kids k m. go v st kids k m r (does-as (steps-are k (memberOrder st kids)) (rw (order-is k m) at d)) }
+  all-written {e′} {x′} {r} p q d = record {
+    is = λ v st kids k m. go v st kids k m r
+        (does-as (steps-are k (memberOrder st kids)) (rw (order-is k m) at d));
+  }
     where
       go : (v : View) (st : Structure) (kids : List Child) → GroupsKept body v st kids kept → length (st .members) ≡ n → (r : Step)
-          → Does (groupSteps body v st kids (memberOrder st kids)) e x w e′ x′ r → Does (groups body v st kids (memberOrder st kids)) e x w e′ x′ r
+          → Does (groupSteps body v st kids (memberOrder st kids)) e x w e′ x′ r
+          → Does (groups body v st kids (memberOrder st kids)) e x w e′ x′ r
       go v st kids k m (Step.Done w′) d = groups-all body v st kids (memberOrder st kids) d
       go v st kids k m (Step.Refused why w′) d =
           let o = rw (order-is k m) at (z .bytes) in

@@ -74,8 +74,10 @@ pub failed-adds : (member : ℕ) (why : Refusal) → Adds (failed member why) 0
 unfolding failed
 failed-adds member why = record { most = λ room out. go (fits room [] out) out }
   where
-    go : (b : Bool) (out : Output) → length (output (pick b (finished (written (failedEntry member why) [] out)) (refused Refusal.NoRoom out)) .texts) ≤ length (out .texts) + 0
-    go true out = let z : length (written (failedEntry member why) [] out .texts) ≡ length (out .texts) = rw (append-nil (out .texts)) in omega arith
+    go : (b : Bool) (out : Output) → length (output
+        (pick b (finished (written (failedEntry member why) [] out)) (refused Refusal.NoRoom out)) .texts) ≤ length (out .texts) + 0
+    go true out = let z : length (written (failedEntry member why) [] out .texts)
+        ≡ length (out .texts) = rw (append-nil (out .texts)) in omega arith
     go false out = omega arith
 
 pub text-row : {t : List ℕ} {text : Text} {k : ℕ} → TextIn t text → text ≡ Text.Row k → InTable t k
@@ -91,14 +93,16 @@ module _ {body t : List ℕ} {w : Written} (q : Space body t w) (text : Text) (m
   unfolding scalarStep scalar unescaped decode
   put-empty p d = rw p (wrote-as (λ room out. refl) (omega arith) (scalar-adds member []) d)
 
-pub put-refused : (body t : List ℕ) (text : Text) (member : ℕ) {e e′ : List ℕ} (x : List ℕ) {w : Written} {r : Step} {why : Refusal} → text ≡ Text.Refused why
+pub put-refused : (body t : List ℕ) (text : Text) (member : ℕ) {e e′ : List ℕ} (x : List ℕ) {w : Written} {r : Step} {why : Refusal} → text
+    ≡ Text.Refused why
     → Enters (failed member why) e w e′ r → Wrote (scalarStep member (textAt body t text)) e x w e′ x r
 unfolding scalarStep failed
 put-refused body t text member x {why = why} p d = rw p (wrote-as (λ room out. refl) (omega arith) (failed-adds member why) (d .is x))
 
 pub ruleset put-laws = (needs, value-span, value-ready, text-row, put-row, put-empty, put-refused)
 
-pub scalar-read : {body t : List ℕ} {text : Text} {a : Answer (List ℕ)} (member : ℕ) {e x e′ x′ : List ℕ} {w : Written} {r : Step} → TextIs body t text a
+pub scalar-read : {body t : List ℕ} {text : Text} {a : Answer (List ℕ)} (member : ℕ) {e x e′ x′ : List ℕ} {w : Written} {r : Step}
+    → TextIs body t text a
     → Wrote (scalarStep member (textAt body t text)) e x w e′ x′ r → Wrote (scalarStep member a) e x w e′ x′ r
 scalar-read member y d = rw (y .same) at d
 
@@ -110,15 +114,19 @@ module _ (body t : List ℕ) (v : View) (s : StartRow) (c : Cursor) (index : ℕ
   child = childAt body t (v .count) s c
 
   abbrev As : List ℕ → List ℕ → Written → List ℕ → ℕ → List ℕ → List ℕ → List ℕ → Taken → Type 0
-  As = TakenAs body t v s c (memberStep body (viewAt t v) child index (m .aggregate) (m .flattened)) (flatIf (m .aggregate) (m .flattened) index)
+  As = TakenAs body t v s c (memberStep body (viewAt t v) child index (m .aggregate) (m .flattened))
+      (flatIf (m .aggregate) (m .flattened) index)
 
-  pub member-kept : {p : Piece} (e x : List ℕ) (w : Written) {l l′ : List ℕ} {count : ℕ} → m .aggregate ≡ true → m .flattened ≡ true → PieceIs body t v s c p
+  pub member-kept : {p : Piece} (e x : List ℕ) (w : Written) {l l′ : List ℕ} {count : ℕ} → m .aggregate ≡ true → m .flattened ≡ true
+      → PieceIs body t v s c p
       → l′ ≡ sets l (count * 3) (index ∷ p .start ∷ p .len ∷ [])
-      → TakenAs body t v s c (memberStep body (viewAt t v) (childAt body t (v .count) s c) index (m .aggregate) (m .flattened)) (flatIf (m .aggregate) (m .flattened) index)
+      → TakenAs body t v s c (memberStep body (viewAt t v) (childAt body t (v .count) s c) index (m .aggregate) (m .flattened))
+      (flatIf (m .aggregate) (m .flattened) index)
       e x w l count e x l′ (Taken.Done w (count + 1))
   unfolding memberStep
   member-kept {p} e x w {l} {l′} {count} a f y q =
-      let idle : (room : Room) (out : Output) → memberStep body (viewAt t v) child index (m .aggregate) (m .flattened) room out ≡ finished out = λ room out. rw (a, f) in
+      let idle : (room : Room) (out : Output) → memberStep body (viewAt t v) child index (m .aggregate) (m .flattened) room out
+      ≡ finished out = λ room out. rw (a, f) in
       record {
         does = idle-does e x w idle;
         adds = idle-adds idle;
@@ -128,9 +136,11 @@ module _ (body t : List ℕ) (v : View) (s : StartRow) (c : Cursor) (index : ℕ
             (subst (λ (z : scope.Piece). z .start + z .len ≤ length body) (y .is) (y .inside)));
       }
 
-  module _ {e x : List ℕ} {w : Written} (l : List ℕ) (count : ℕ) {e′ x′ : List ℕ} {step : Step} {r : Taken} (q : r ≡ takenOf step count) where
+  module _ {e x : List ℕ} {w : Written} (l : List ℕ) (count : ℕ) {e′ x′ : List ℕ} {step : Step} {r : Taken}
+      (q : r ≡ takenOf step count) where
     -- the flags say that it waits for no group
-    not-kept : flatIf (m .aggregate) (m .flattened) index ≡ none → Wrote (memberStep body (viewAt t v) child index (m .aggregate) (m .flattened)) e x w e′ x′ step
+    not-kept : flatIf (m .aggregate) (m .flattened) index ≡ none
+        → Wrote (memberStep body (viewAt t v) child index (m .aggregate) (m .flattened)) e x w e′ x′ step
         → As e x w l count e′ x′ l r
     not-kept o d =
         record {
@@ -139,16 +149,21 @@ module _ (body t : List ℕ) (v : View) (s : StartRow) (c : Cursor) (index : ℕ
           keeps = λ w′ n z. passed o refl (count-of step count (sym q ∙ z));
         }
 
-    pub member-piece : {p : Piece} → m .aggregate ≡ true → m .flattened ≡ false → PieceIs body t v s c p → Enters (piece index (p .start) (p .len)) e w e′ step → x′ ≡ x
-        → TakenAs body t v s c (memberStep body (viewAt t v) (childAt body t (v .count) s c) index (m .aggregate) (m .flattened)) (flatIf (m .aggregate) (m .flattened) index)
+    pub member-piece : {p : Piece} → m .aggregate ≡ true → m .flattened ≡ false → PieceIs body t v s c p
+        → Enters (piece index (p .start) (p .len)) e w e′ step → x′ ≡ x
+        → TakenAs body t v s c (memberStep body (viewAt t v) (childAt body t (v .count) s c) index (m .aggregate) (m .flattened))
+        (flatIf (m .aggregate) (m .flattened) index)
         e x w l count e′ x′ l r
     unfolding memberStep piece
     member-piece {p} a f y d u =
-        not-kept (rw (a, f)) (rw u (wrote-as (λ room out. rw (a, f) (ap (λ (z : scope.Piece). writePiece room index z out) (sym (y .is)))) (omega arith)
+        not-kept (rw (a, f)) (rw u (wrote-as (λ room out. rw (a, f) (ap (λ (z : scope.Piece). writePiece room index z out) (sym (y .is))))
+        (omega arith)
         (piece-adds index (p .start) (p .len)) (d .is x)))
 
-    pub member-text : m .aggregate ≡ false → Wrote (scalarStep index (textOf (failureAt (v .failure)) (childAt body t (v .count) s c))) e x w e′ x′ step
-        → TakenAs body t v s c (memberStep body (viewAt t v) (childAt body t (v .count) s c) index (m .aggregate) (m .flattened)) (flatIf (m .aggregate) (m .flattened) index)
+    pub member-text : m .aggregate ≡ false
+        → Wrote (scalarStep index (textOf (failureAt (v .failure)) (childAt body t (v .count) s c))) e x w e′ x′ step
+        → TakenAs body t v s c (memberStep body (viewAt t v) (childAt body t (v .count) s c) index (m .aggregate) (m .flattened))
+        (flatIf (m .aggregate) (m .flattened) index)
         e x w l count e′ x′ l r
     unfolding memberStep scalarStep
     member-text a d = not-kept (rw a) (wrote-as (λ room out. rw a) (omega arith) (d .adds) (d .does))
@@ -156,13 +171,15 @@ module _ (body t : List ℕ) (v : View) (s : StartRow) (c : Cursor) (index : ℕ
 pub ruleset member-laws = (needs, member-kept, member-piece, member-text)
 
 -- ---- a child by the member that its name resolves to
-pub row-resolved : (body t : List ℕ) (k : ℕ) {sheet members local : List ℕ} {f : Found} → local ≡ nameAt body t k .local → Resolved sheet members local f
+pub row-resolved : (body t : List ℕ) (k : ℕ) {sheet members local : List ℕ} {f : Found} → local ≡ nameAt body t k .local
+    → Resolved sheet members local f
     → Resolved sheet members (nameAt body t k .local) f
 row-resolved body t k n y = rw n at y
 
 pub ruleset row-laws = (needs, local-span, row-resolved)
 
-module _ (body t : List ℕ) (v : View) (s : StartRow) (c : Cursor) {sheet members : List ℕ} {f : Found} (y : Resolved sheet members (nameAt body t (s .row) .local) f) where
+module _ (body t : List ℕ) (v : View) (s : StartRow) (c : Cursor) {sheet members : List ℕ} {f : Found}
+    (y : Resolved sheet members (nameAt body t (s .row) .local) f) where
   as-member : {o : Option Indexed} → foundIn (saidBy sheet .members) f ≡ o → (room : Room) (out : Output)
       → childStep body (viewAt t v) (saidBy sheet) (childAt body t (v .count) s c) room out
       ≡ readMember body (viewAt t v) room (childAt body t (v .count) s c) o out
@@ -176,9 +193,11 @@ module _ (body t : List ℕ) (v : View) (s : StartRow) (c : Cursor) {sheet membe
       let idle = as-member (ap (foundIn (saidBy sheet .members)) p) in
       record { does = idle-does e x w idle; adds = idle-adds idle; keeps = λ w′ n z. passed (rw (y .is, p)) refl cc }
 
-  pub child-member : {i : ℕ} {m : Member} {e x : List ℕ} {w : Written} {l : List ℕ} {count : ℕ} {e′ x′ l′ : List ℕ} {r : Taken} → f ≡ Found.At i
+  pub child-member : {i : ℕ} {m : Member} {e x : List ℕ} {w : Written} {l : List ℕ} {count : ℕ} {e′ x′ l′ : List ℕ} {r : Taken} → f
+      ≡ Found.At i
       → Given body t v sheet members → MemberRead members i m
-      → TakenAs body t v s c (memberStep body (viewAt t v) (childAt body t (v .count) s c) i (m .aggregate) (m .flattened)) (flatIf (m .aggregate) (m .flattened) i)
+      → TakenAs body t v s c (memberStep body (viewAt t v) (childAt body t (v .count) s c) i (m .aggregate) (m .flattened))
+      (flatIf (m .aggregate) (m .flattened) i)
       e x w l count e′ x′ l′ r
       → TakenAs body t v s c (childStep body (viewAt t v) (saidBy sheet) (childAt body t (v .count) s c))
       (flatMember (resolve (saidBy sheet) (nameAt body t (s .row) .local))) e x w l count e′ x′ l′ r
@@ -188,7 +207,8 @@ module _ (body t : List ℕ) (v : View) (s : StartRow) (c : Cursor) {sheet membe
       let same : (room : Room) (out : Output) → childStep body (viewAt t v) (saidBy sheet) (childAt body t (v .count) s c) room out
       ≡ memberStep body (viewAt t v) (childAt body t (v .count) s c) i (m .aggregate) (m .flattened) room out
       = λ room out. rw (← a .aggregate, ← a .flattened) (as-member (ap (foundIn (saidBy sheet .members)) p) room out) in
-      let flat : flatMember (resolve (saidBy sheet) (nameAt body t (s .row) .local)) ≡ flatIf (m .aggregate) (m .flattened) i = rw (y .is, p, a .aggregate, a .flattened) in
+      let flat : flatMember (resolve (saidBy sheet) (nameAt body t (s .row) .local))
+      ≡ flatIf (m .aggregate) (m .flattened) i = rw (y .is, p, a .aggregate, a .flattened) in
       record {
         does = does-as same (d .does);
         adds = adds-as same (omega arith) (d .adds);
@@ -198,17 +218,19 @@ module _ (body t : List ℕ) (v : View) (s : StartRow) (c : Cursor) {sheet membe
 pub ruleset child-laws = (needs, start-scope, given-index, found-low, child-nothing, child-member)
 
 -- ---- the loop: from place c on, with what was written and kept so far
-pub record ChildrenAt (body t : List ℕ) (v : View) (st : Structure) (s : ScopeRow) (c₀ : Cursor) (l₀ e x : List ℕ) (w : Written) (l e₁ x₁ : List ℕ) (w₁ : Written)
-    (count : ℕ) (c : Cursor) : Type 0 where
+pub record ChildrenAt (body t : List ℕ) (v : View) (st : Structure) (s : ScopeRow) (c₀ : Cursor) (l₀ e x : List ℕ) (w : Written)
+    (l e₁ x₁ : List ℕ) (w₁ : Written) (count : ℕ) (c : Cursor) : Type 0 where
   pub viewed : Viewed body t v
   pub wide : v .count * 3 ≤ length l₀ * 2
   pub stands : Outside body t (v .count) (c .depth .0) (c .row)
   pub few : count * 2 ≤ c .row
   pub same : length l ≡ length l₀
-  pub one : OneByOne (childStep body (viewAt t v) st) (left body t (v .count) s c₀) (left body t (v .count) s c) (afterAttributes + c .row * 65536) e x w e₁ x₁ w₁
+  pub one : OneByOne (childStep body (viewAt t v) st) (left body t (v .count) s c₀) (left body t (v .count) s c)
+      (afterAttributes + c .row * 65536) e x w e₁ x₁ w₁
   pub keeps : Keeps body (viewAt t v) st l count (left body t (v .count) s c) (left body t (v .count) s c₀)
 
-pub children-start : {body t : List ℕ} {v : View} {sheet members : List ℕ} (st : Structure) (s : ScopeRow) (c : Cursor) (l : List ℕ) {e x : List ℕ} {w : Written}
+pub children-start : {body t : List ℕ} {v : View} {sheet members : List ℕ} (st : Structure) (s : ScopeRow) (c : Cursor) (l : List ℕ)
+    {e x : List ℕ} {w : Written}
     → Given body t v sheet members → v .count * 3 ≤ length l * 2
     → Outside body t (v .count) (c .depth .0) (c .row) → Begins afterAttributes e x w → ChildrenAt body t v st s c l e x w l e x w 0 c
 children-start {body} {t} {v} st s c l g h o b =
@@ -218,12 +240,14 @@ children-start {body} {t} {v} st s c l g h o b =
       stands = o;
       few = omega arith;
       same = refl;
-      one = one-start (childStep body (viewAt t v) st) (left body t (v .count) s c) (record { sound = b .sound; small = omega (arith, b .small) });
+      one = one-start (childStep body (viewAt t v) st) (left body t (v .count) s c)
+          (record { sound = b .sound; small = omega (arith, b .small) });
       keeps = keeps-start body (viewAt t v) st l (left body t (v .count) s c);
     }
 
 -- all are taken
-all-taken : {body t : List ℕ} {v : View} {st : Structure} {kids : List Child} {e x : List ℕ} {w : Written} {l : List ℕ} {n : ℕ} → Viewed body t v → n * 2 ≤ v .count
+all-taken : {body t : List ℕ} {v : View} {st : Structure} {kids : List Child} {e x : List ℕ} {w : Written} {l : List ℕ} {n : ℕ}
+    → Viewed body t v → n * 2 ≤ v .count
     → Begins afterChildren e x w → Keeps body (viewAt t v) st l n [] kids → AllTaken body t v st kids e x w l n
 all-taken {l = l} {n} q h b k =
     record {
@@ -238,7 +262,8 @@ all-done : {body t : List ℕ} {v : View} {st : Structure} {kids : List Child} {
     → ChildrenTaken body t v st kids e x w e′ x′ l (Taken.Done w₁ n)
 all-done {w₁ = w₁} {n = n} d a = record { does = d; done = λ w′ m z. (let y : w₁ ≡ w′ = cc in let u : n ≡ m = cc in rw (← y, ← u) a) }
 
-module _ {body t : List ℕ} {v : View} {st : Structure} {s : ScopeRow} {c₀ : Cursor} {l₀ e x : List ℕ} {w : Written} {l e₁ x₁ : List ℕ} {w₁ : Written} {count : ℕ} {c : Cursor}
+module _ {body t : List ℕ} {v : View} {st : Structure} {s : ScopeRow} {c₀ : Cursor} {l₀ e x : List ℕ} {w : Written} {l e₁ x₁ : List ℕ}
+    {w₁ : Written} {count : ℕ} {c : Cursor}
     (a : ChildrenAt body t v st s c₀ l₀ e x w l e₁ x₁ w₁ count c) where
   pub children-space : Space body t w₁
   children-space = viewed-space (a .viewed) (omega (arith, a .one .begins .small, a .stands .high, a .viewed .few))
@@ -263,9 +288,11 @@ module _ {body t : List ℕ} {v : View} {st : Structure} {s : ScopeRow} {c₀ : 
           record { room = omega (arith, two-rows, a .few, a .same, a .wide); few = omega (arith, two-rows, a .few, a .viewed .few) }
 
       module _ {e₂ x₂ l₂ : List ℕ} {got : Taken}
-          (d : TakenAs body t v st₁ i (childStep body (viewAt t v) st (childAt body t (v .count) st₁ i)) (flatMember (resolve st (nameAt body t (st₁ .row) .local)))
+          (d : TakenAs body t v st₁ i (childStep body (viewAt t v) st (childAt body t (v .count) st₁ i))
+          (flatMember (resolve st (nameAt body t (st₁ .row) .local)))
           e₁ x₁ w₁ l count e₂ x₂ l₂ got) where
-        here : OneByOne (childStep body (viewAt t v) st) (left body t (v .count) s c₀) (childAt body t (v .count) st₁ i ∷ left body t (v .count) s (p .at))
+        here : OneByOne (childStep body (viewAt t v) st) (left body t (v .count) s c₀)
+            (childAt body t (v .count) st₁ i ∷ left body t (v .count) s (p .at))
             (afterAttributes + c .row * 65536) e x w e₁ x₁ w₁
         here = rw (one-left n q y) at (a .one)
 
@@ -277,14 +304,16 @@ module _ {body t : List ℕ} {v : View} {st : Structure} {s : ScopeRow} {c₀ : 
               done = λ w′ m z. (let f : _≡_ {A = ℕ} 0 1 = cc in absurd (omega arith));
             }
 
-        pub children-on : {w₂ : Written} {m : ℕ} → length e₂ ≡ length e₁ → length x₂ ≡ length x₁ → length l₂ ≡ length l → got ≡ Taken.Done w₂ m
+        pub children-on : {w₂ : Written} {m : ℕ} → length e₂ ≡ length e₁ → length x₂ ≡ length x₁ → length l₂ ≡ length l → got
+            ≡ Taken.Done w₂ m
             → ChildrenAt body t v st s c₀ l₀ e x w l₂ e₂ x₂ w₂ m (p .at)
         children-on {w₂} {m} u k z j = go (d .keeps w₂ m j)
           where
             rest : List Child
             rest = left body t (v .count) s (p .at)
 
-            before : Keeps body (viewAt t v) st l count (childAt body t (v .count) st₁ i ∷ left body t (v .count) s (p .at)) (left body t (v .count) s c₀)
+            before : Keeps body (viewAt t v) st l count (childAt body t (v .count) st₁ i ∷ left body t (v .count) s (p .at))
+                (left body t (v .count) s c₀)
             before = rw (one-left n q y) at (a .keeps)
 
             with-kept : m ≤ count + 1 → Keeps body (viewAt t v) st l₂ m (left body t (v .count) s (p .at)) (left body t (v .count) s c₀)
@@ -300,12 +329,24 @@ module _ {body t : List ℕ} {v : View} {st : Structure} {s : ScopeRow} {c₀ : 
                   keeps = new;
                 }
 
-            go : Keeping body (viewAt t v) (childAt body t (v .count) st₁ i) (flatMember (resolve st (nameAt body t (st₁ .row) .local))) l count l₂ m
+            go : Keeping body (viewAt t v) (childAt body t (v .count) st₁ i) (flatMember (resolve st (nameAt body t (st₁ .row) .local))) l
+                count l₂ m
                 → ChildrenAt body t v st s c₀ l₀ e x w l₂ e₂ x₂ w₂ m (p .at)
             go (passed o f g) = with-kept (omega (arith, g)) (rw (f, g) (keeps-other before o))
             go (kept b o f g h) = with-kept (omega (arith, g)) (rw g (keeps-more before f (children-room .room) o refl h))
 
-pub ruleset children-laws = (needs, found-start, found-outside, less-left, children-start, children-space, children-gone, children-room, children-stop, children-on)
+pub ruleset children-laws = (
+  needs,
+  found-start,
+  found-outside,
+  less-left,
+  children-start,
+  children-space,
+  children-gone,
+  children-room,
+  children-stop,
+  children-on,
+)
 
 -- ---- of an element
 module _ (body t : List ℕ) (v : View) (st : Structure) (s : StartRow) (c : Cursor) {e x : List ℕ} {w : Written} where

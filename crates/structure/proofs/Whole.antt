@@ -41,8 +41,8 @@ use Rattle.structure.specs.Attributes.{attributesStep}
 use Rattle.structure.specs.Children.{stepOf, ChildrenTaken}
 use Rattle.structure.specs.Groups.{KeptIn, GroupsIs}
 use Rattle.structure.specs.Unwrapped.{unwrappedStep}
-use Rattle.structure.specs.Structure.{groupsStep, contentStep, membersStep, isOther, structureStep, ContentIs, none-written, MembersAre, StructureIs}
-
+use Rattle.structure.specs.Structure.{groupsStep, contentStep, membersStep, isOther, structureStep, ContentIs, none-written}
+use Rattle.structure.specs.Structure.{MembersAre, StructureIs}
 
 -- ---- children, then 9, then groups
 module _ {body t : List ℕ} {v : View} {st : Structure} {kids : List Child} {e x : List ℕ} {w : Written} {e₁ x₁ l : List ℕ} {got : Taken}
@@ -59,22 +59,27 @@ module _ {body t : List ℕ} {v : View} {st : Structure} {kids : List Child} {e 
   pub taken-fits : Fits w64 (n * 3)
   taken-fits = let a = k .done w₁ n q in record { fits = omega (arith, a .inside .few, length-take-le (n * 3) l (a .room)) }
 
-module _ {body t : List ℕ} {v : View} {st : Structure} (s : StartRow) (c : Cursor) {e x : List ℕ} {w : Written} {e₁ x₁ l : List ℕ} {got : Taken}
+module _ {body t : List ℕ} {v : View} {st : Structure} (s : StartRow) (c : Cursor) {e x : List ℕ} {w : Written} {e₁ x₁ l : List ℕ}
+    {got : Taken}
     (k : ChildrenTaken body t v st (childrenOf (childAt body t (v .count) s c)) e x w e₁ x₁ l got) where
-  pub content-refused : {why : Refusal} {w₁ : Written} → got ≡ Taken.Refused why w₁ → ContentIs body t v st s c e x w e₁ x₁ (Step.Refused why w₁)
+  pub content-refused : {why : Refusal} {w₁ : Written} → got ≡ Taken.Refused why w₁
+      → ContentIs body t v st s c e x w e₁ x₁ (Step.Refused why w₁)
   unfolding contentStep
   content-refused q =
       record {
-        does = midway-stops (midway-start (contentStep body st (openedAt body t v s c)) e x w) (groupsStep body st (openedAt body t v s c)) (λ room out. refl) (k .does)
+        does = midway-stops (midway-start (contentStep body st (openedAt body t v s c)) e x w) (groupsStep body st (openedAt body t v s c))
+            (λ room out. refl) (k .does)
             (ap stepOf q);
       }
 
   module _ {w₁ : Written} {n : ℕ} (q : got ≡ Taken.Done w₁ n) where
-    groups-last : {e₂ x₂ : List ℕ} {r : Step} → Does (groupsStep body st (openedAt body t v s c)) e₁ x₁ w₁ e₂ x₂ r → ContentIs body t v st s c e x w e₂ x₂ r
+    groups-last : {e₂ x₂ : List ℕ} {r : Step} → Does (groupsStep body st (openedAt body t v s c)) e₁ x₁ w₁ e₂ x₂ r
+        → ContentIs body t v st s c e x w e₂ x₂ r
     unfolding contentStep
     groups-last d =
         record {
-          does = midway-last (midway-goes (midway-start (contentStep body st (openedAt body t v s c)) e x w) (groupsStep body st (openedAt body t v s c))
+          does = midway-last (midway-goes (midway-start (contentStep body st (openedAt body t v s c)) e x w)
+              (groupsStep body st (openedAt body t v s c))
               (λ room out. refl) (k .does) (ap stepOf q)) d;
         }
 
@@ -82,7 +87,8 @@ module _ {body t : List ℕ} {v : View} {st : Structure} (s : StartRow) (c : Cur
     unfolding groupsStep
     content-ill p =
         let kids = childrenOf (childAt body t (v .count) s c) in
-        groups-last (midway-stops (midway-start (groupsStep body st (openedAt body t v s c)) e₁ x₁ w₁) (groups body (viewAt t v) st kids (memberOrder st kids))
+        groups-last (midway-stops (midway-start (groupsStep body st (openedAt body t v s c)) e₁ x₁ w₁)
+        (groups body (viewAt t v) st kids (memberOrder st kids))
         (λ room out. refl) (tested-ill e₁ x₁ w₁ p) refl)
 
     pub content-groups : {m : ℕ} {e₂ x₂ : List ℕ} {r : Step} → v .«ill_formed» ≡ false → length (st .members) ≡ m
@@ -99,7 +105,17 @@ module _ {body t : List ℕ} {v : View} {st : Structure} (s : StartRow) (c : Cur
 pub members-few : {body t : List ℕ} {v : View} {sheet members : List ℕ} → Given body t v sheet members → length members / 3 ≤ 64
 members-few g = omega (arith, g .said .size, g .said .few)
 
-pub ruleset content-laws = (needs, members-few, taken-begins, taken-kept, taken-room, taken-fits, content-refused, content-ill, content-groups)
+pub ruleset content-laws = (
+  needs,
+  members-few,
+  taken-begins,
+  taken-kept,
+  taken-room,
+  taken-fits,
+  content-refused,
+  content-ill,
+  content-groups,
+)
 
 -- ---- attributes, then those
 pub nothing-begins : (e x : List ℕ) → Begins 0 e x (record { count = 0; used = 0 })
@@ -107,23 +123,28 @@ nothing-begins e x = record { sound = sound-nothing e x; small = omega arith }
 
 module _ (body t : List ℕ) (v : View) (st : Structure) (s : StartRow) (c : Cursor) {e x e₁ x₁ : List ℕ} {got : Step}
     (k : DoesWithin afterAttributes (attributesStep body t s st) e x (record { count = 0; used = 0 }) e₁ x₁ got) where
-  pub members-refused : {why : Refusal} {w₁ : Written} → got ≡ Step.Refused why w₁ → MembersAre body t v st s c e x e₁ x₁ (Step.Refused why w₁)
+  pub members-refused : {why : Refusal} {w₁ : Written} → got ≡ Step.Refused why w₁
+      → MembersAre body t v st s c e x e₁ x₁ (Step.Refused why w₁)
   unfolding membersStep
   members-refused q =
       record {
-        does = midway-stops (midway-start (membersStep body st (openedAt body t v s c)) e x none-written) (contentStep body st (openedAt body t v s c))
+        does = midway-stops (midway-start (membersStep body st (openedAt body t v s c)) e x none-written)
+            (contentStep body st (openedAt body t v s c))
             (λ room out. refl) (k .does) q;
       }
 
-  pub members-done : {w₁ : Written} {e₂ x₂ : List ℕ} {r : Step} → got ≡ Step.Done w₁ → ContentIs body t v st s c e₁ x₁ w₁ e₂ x₂ r → MembersAre body t v st s c e x e₂ x₂ r
+  pub members-done : {w₁ : Written} {e₂ x₂ : List ℕ} {r : Step} → got ≡ Step.Done w₁ → ContentIs body t v st s c e₁ x₁ w₁ e₂ x₂ r
+      → MembersAre body t v st s c e x e₂ x₂ r
   unfolding membersStep
   members-done q d =
       record {
-        does = midway-last (midway-goes (midway-start (membersStep body st (openedAt body t v s c)) e x none-written) (contentStep body st (openedAt body t v s c))
+        does = midway-last (midway-goes (midway-start (membersStep body st (openedAt body t v s c)) e x none-written)
+            (contentStep body st (openedAt body t v s c))
             (λ room out. refl) (k .does) q) (d .does);
       }
 
-pub within-begins : {limit : ℕ} {step : Room → Output → Reading} {e x e′ x′ : List ℕ} {w w′ : Written} {r : Step} → DoesWithin limit step e x w e′ x′ r → r ≡ Step.Done w′
+pub within-begins : {limit : ℕ} {step : Room → Output → Reading} {e x e′ x′ : List ℕ} {w w′ : Written} {r : Step}
+    → DoesWithin limit step e x w e′ x′ r → r ≡ Step.Done w′
     → Begins limit e′ x′ w′
 within-begins {w′ = w′} k q = k .done w′ q
 
@@ -133,7 +154,8 @@ pub ruleset members-laws = (needs, nothing-begins, within-begins, members-refuse
 pub other-not : (tests matches : Bool) → tests ≡ false → false ≡ isOther tests matches
 other-not tests matches p = rw p
 
-module _ (tests : Bool) (n : Name) (st : Structure) {name : List ℕ} {m : Bool} (p : tests ≡ true) (e : name ≡ rootName st) (f : m ≡ nameMatches n name) where
+module _ (tests : Bool) (n : Name) (st : Structure) {name : List ℕ} {m : Bool} (p : tests ≡ true) (e : name ≡ rootName st)
+    (f : m ≡ nameMatches n name) where
   pub other-same : m ≡ true → false ≡ isOther tests (nameMatches n (rootName st))
   other-same q = rw (p, ← e, ← f, q)
 
@@ -143,7 +165,8 @@ module _ (tests : Bool) (n : Name) (st : Structure) {name : List ℕ} {m : Bool}
 pub ruleset other-laws = (needs, other-not, other-same, other-named)
 
 -- ---- all of it
-module _ {body t : List ℕ} {v : View} {sheet : List ℕ} {r : StructureSheet} {s : StartRow} {c : Cursor} (root : RootAt body t v s c) (said : StructureSaid sheet r) where
+module _ {body t : List ℕ} {v : View} {sheet : List ℕ} {r : StructureSheet} {s : StartRow} {c : Cursor} (root : RootAt body t v s c)
+    (said : StructureSaid sheet r) where
   pub root-given : Given body t v sheet (part (r .members) 0 (r .count * 3))
   root-given = record { viewed = root .viewed; said = said .members }
 
@@ -152,12 +175,14 @@ root-row root = start-scope (root .viewed .sees) (root .start)
 
 module _ (body t : List ℕ) (v : View) (sheet : List ℕ) (tests : Bool) (s : StartRow) (c : Cursor) {u : Bool}
     (q : u ≡ isOther tests (nameMatches (nameAt body t (s .row)) (rootName (saidBy sheet)))) where
-  pub whole-other : (e x : List ℕ) → u ≡ true → StructureIs body t v (saidBy sheet) tests s c e x e x (Step.Refused Refusal.RootName none-written)
+  pub whole-other : (e x : List ℕ) → u ≡ true
+      → StructureIs body t v (saidBy sheet) tests s c e x e x (Step.Refused Refusal.RootName none-written)
   unfolding structureStep
   whole-other e x p = record { does = record { is = λ h. rw (← q, p) (stays h) } }
 
   module _ (p : u ≡ false) {r : StructureSheet} (said : StructureSaid sheet r) {e e′ : List ℕ} {got : Step} where
-    pub whole-alone : (x : List ℕ) → r .unwrapped ≡ true → Enters (unwrappedStep body (saidBy sheet) (openedAt body t v s c)) e none-written e′ got
+    pub whole-alone : (x : List ℕ) → r .unwrapped ≡ true
+        → Enters (unwrappedStep body (saidBy sheet) (openedAt body t v s c)) e none-written e′ got
         → StructureIs body t v (saidBy sheet) tests s c e x e′ x got
     unfolding structureStep
     whole-alone x f d = record { does = does-as (λ room out. rw (← q, p, said .unwrapped, f)) (d .is x) }

@@ -63,25 +63,28 @@ abbrev pub flatIf : Bool → Bool → ℕ → Option ℕ
 flatIf aggregate flattened index = pick aggregate (pick flattened (some index) none) none
 
 -- a child that waits for the group of member o, if it does, is three numbers more
-pub data Keeping (body : List ℕ) (v : doc.View) (c : Child) (o : Option ℕ) (l : List ℕ) (count : ℕ) (l′ : List ℕ) (count′ : ℕ) : Type 0 where
+pub data Keeping (body : List ℕ) (v : doc.View) (c : Child) (o : Option ℕ) (l : List ℕ) (count : ℕ) (l′ : List ℕ)
+    (count′ : ℕ) : Type 0 where
   passed : o ≡ none → l′ ≡ l → count′ ≡ count → Keeping body v c o l count l′ count′
   kept : (j : ℕ) → o ≡ some j → l′ ≡ sets l (count * 3) (j ∷ pieceOf body v c .start ∷ pieceOf body v c .len ∷ []) → count′ ≡ count + 1
       → pieceOf body v c .start + pieceOf body v c .len ≤ length body → Keeping body v c o l count l′ count′
 
 -- ---- one child: the step is done, and where it goes on, the child is kept for member o, if it is for one
-pub record TakenAs (body t : List ℕ) (v : View) (s : StartRow) (c : Cursor) (step : Room → Output → Reading) (o : Option ℕ) (e x : List ℕ) (w : Written) (l : List ℕ)
-    (count : ℕ) (e′ x′ l′ : List ℕ) (r : Taken) : Type 0 where
+pub record TakenAs (body t : List ℕ) (v : View) (s : StartRow) (c : Cursor) (step : Room → Output → Reading) (o : Option ℕ)
+    (e x : List ℕ) (w : Written) (l : List ℕ) (count : ℕ) (e′ x′ l′ : List ℕ) (r : Taken) : Type 0 where
   pub does : Does step e x w e′ x′ (stepOf r)
   pub adds : Adds step 65536
   pub keeps : (w′ : Written) (n : ℕ) → r ≡ Taken.Done w′ n → Keeping body (viewAt t v) (childAt body t (v .count) s c) o l count l′ n
 
 -- ---- all children: where they are done, the first n * 3 numbers of l are those of the groups
-pub record AllTaken (body t : List ℕ) (v : View) (st : Structure) (kids : List Child) (e x : List ℕ) (w : Written) (l : List ℕ) (n : ℕ) : Type 0 where
+pub record AllTaken (body t : List ℕ) (v : View) (st : Structure) (kids : List Child) (e x : List ℕ) (w : Written) (l : List ℕ)
+    (n : ℕ) : Type 0 where
   pub begins : Begins afterChildren e x w
   pub room : n * 3 ≤ length l
   pub inside : KeptIn body (take (n * 3) l)
   pub groups : GroupsKept body (viewAt t v) st kids (take (n * 3) l)
 
-pub record ChildrenTaken (body t : List ℕ) (v : View) (st : Structure) (kids : List Child) (e x : List ℕ) (w : Written) (e′ x′ l′ : List ℕ) (r : Taken) : Type 0 where
+pub record ChildrenTaken (body t : List ℕ) (v : View) (st : Structure) (kids : List Child) (e x : List ℕ) (w : Written) (e′ x′ l′ : List ℕ)
+    (r : Taken) : Type 0 where
   pub does : Does (eachOf (childStep body (viewAt t v) st) kids) e x w e′ x′ (stepOf r)
   pub done : (w′ : Written) (n : ℕ) → r ≡ Taken.Done w′ n → AllTaken body t v st kids e′ x′ w′ l′ n

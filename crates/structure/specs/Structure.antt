@@ -1,4 +1,5 @@
--- The whole of a structure whose root is given: the definition's `readOpened` (readings/specs/Structure.antt), as a step with the room last, in the order by rising member index.
+-- The whole of a structure whose root is given: the definition's `readOpened` (readings/specs/Structure.antt), as a step with the room
+-- last, in the order by rising member index.
 use Prim.Native.Nat.{ℕ}
 use mathlib.Core.Bool.{Bool, true, false}
 use mathlib.Core.List.{List}
@@ -35,7 +36,8 @@ contentStep body st o room out = andThen (eachOf (childStep body (o .seen) st) (
 
 -- the attributes, then those: `readMembers`
 unfoldable pub membersStep : List ℕ → Structure → Opened → Room → Output → Reading
-membersStep body st o room out = andThen (eachOf (attributeStep (o .root .start .attributes)) (membersOf st) room out) (contentStep body st o room)
+membersStep body st o room out =
+    andThen (eachOf (attributeStep (o .root .start .attributes)) (membersOf st) room out) (contentStep body st o room)
 
 -- "5 root name": it is tested, and another
 abbrev pub isOther : Bool → Bool → Bool
@@ -49,15 +51,18 @@ structureStep body st tests o room out =
     pick (isOther tests (nameMatches (o .root .start .name) (rootName st))) (refused Refusal.RootName out) (pick (st .unwrapped) alone all)
 
 -- ---- what the functions promise
-pub record ContentIs (body t : List ℕ) (v : View) (st : Structure) (s : StartRow) (c : Cursor) (e x : List ℕ) (w : Written) (e′ x′ : List ℕ) (r : Step) : Type 0 where
+pub record ContentIs (body t : List ℕ) (v : View) (st : Structure) (s : StartRow) (c : Cursor) (e x : List ℕ) (w : Written) (e′ x′ : List ℕ)
+    (r : Step) : Type 0 where
   pub does : Does (contentStep body st (openedAt body t v s c)) e x w e′ x′ r
 
 -- nothing is written yet
 abbrev pub none-written : Written
 none-written = record { count = 0; used = 0 }
 
-pub record MembersAre (body t : List ℕ) (v : View) (st : Structure) (s : StartRow) (c : Cursor) (e x e′ x′ : List ℕ) (r : Step) : Type 0 where
+pub record MembersAre (body t : List ℕ) (v : View) (st : Structure) (s : StartRow) (c : Cursor) (e x e′ x′ : List ℕ)
+    (r : Step) : Type 0 where
   pub does : Does (membersStep body st (openedAt body t v s c)) e x none-written e′ x′ r
 
-pub record StructureIs (body t : List ℕ) (v : View) (st : Structure) (tests : Bool) (s : StartRow) (c : Cursor) (e x e′ x′ : List ℕ) (r : Step) : Type 0 where
+pub record StructureIs (body t : List ℕ) (v : View) (st : Structure) (tests : Bool) (s : StartRow) (c : Cursor) (e x e′ x′ : List ℕ)
+    (r : Step) : Type 0 where
   pub does : Does (structureStep body st tests (openedAt body t v s c)) e x none-written e′ x′ r

@@ -42,4 +42,5 @@ rootStep body o index room = writePiece room index (rootPiece body o)
 
 -- "9, then one piece .. or none"
 unfoldable pub unwrappedStep : List ℕ → Structure → Opened → Room → Output → Reading
-unwrappedStep body st o room out = andThen (tested (o .seen .illFormed) room out) (writeRoot room (rootPiece body o) (resolve st (o .root .start .name .local)))
+unwrappedStep body st o room out =
+    andThen (tested (o .seen .illFormed) room out) (writeRoot room (rootPiece body o) (resolve st (o .root .start .name .local)))

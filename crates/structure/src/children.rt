@@ -1,5 +1,5 @@
-// "then children in body order": a text, a piece, or kept for its group. The rows are walked once: a child of a flattened aggregate member is
-// kept as three numbers, from which its group is written after the children.
+// "then children in body order": a text, a piece, or kept for its group. The rows are walked once: a child of a flattened aggregate member
+// is kept as three numbers, from which its group is written after the children.
 ghost use Prim.Native.Nat.{_+_, _*_, _≤_};
 ghost use lib.ListN.{length};
 ghost use mathlib.Core.Path.{_≡_};

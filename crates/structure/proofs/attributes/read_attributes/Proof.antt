@@ -5,7 +5,8 @@ use Rattle.structure.proofs.attributes.read_attributes.Statement.{state
 use Rattle.structure.proofs.attributes.read_attributes.Tie as tie
 
 abbrev Inv-loop : tie.InvT-loop
-Inv-loop body rows view root sheet members entries₀ texts₀ count held₀ i₀ entries texts held i = AttributesAt body rows root (saidBy sheet) entries₀ texts₀ held₀ entries texts held i
+Inv-loop body rows view root sheet members entries₀ texts₀ count held₀ i₀ entries texts held i =
+    AttributesAt body rows root (saidBy sheet) entries₀ texts₀ held₀ entries texts held i
 
 abbrev μ-loop : tie.MeasureT-loop
 μ-loop body rows view root sheet members entries₀ texts₀ count held₀ i₀ entries texts held i = count - i

@@ -34,7 +34,12 @@ same-length-3 : tie.Need-same-length-3
 same-length-3 c = search needs
 
 returns-2 : tie.Need-returns-2
-returns-2 c = child-member _ _ _ _ _ (c .before .before .before .before .before .before .before .before .before .before .before .before .before .before .member-of .ensures) (search child-laws) (search (child-laws, c .before .before .before .before .before .before .before .before .before .before .before .before .before .before .before .before .before .before .before .before .before .before .pre)) (c .before .before .before .before .before .before .before .before .before .before .member-at .ensures) (c .before .before .before .before .before .before .read-member .ensures)
+returns-2 c =
+    let done = c .before .before .before .before .before .before in
+    let found = done .before .before .before .before .before .before .before .before in
+    child-member _ _ _ _ _ (found .member-of .ensures) (search child-laws)
+    (search (child-laws, found .before .before .before .before .before .before .before .before .pre))
+    (done .before .before .before .before .member-at .ensures) (done .read-member .ensures)
 
 pub read-child-spec : {M : Type 1} → statement M
 read-child-spec =

@@ -34,7 +34,12 @@ loop-less : tie.Need-loop-less Inv-loop μ-loop
 loop-less c = search groups-laws
 
 loop-again : tie.Need-loop-again Inv-loop μ-loop
-loop-again c = groups-on (c .before .before .before .before .before .before .before .before .before .before .before .before .before .loop .inv) (c .before .before .before .before .before .before .before .before .before .before .before .before .loop-test .taken) (c .before .before .before .before .before .before .before .before .before .before .before .has-group .ensures) (c .before .before .before .before .before .before .before .before .before .before .if1 .taken) (c .before .before .before .before .before .before .before .write-group .ensures) (search groups-laws) (search groups-laws) (search groups-laws)
+loop-again c =
+    let done = c .before .before .before .before .before .before .before in
+    let turn = done .before .before .before .before .before in
+    groups-on (turn .before .loop .inv) (turn .loop-test .taken)
+    (done .before .before .before .before .has-group .ensures) (done .before .before .before .if1 .taken)
+    (done .write-group .ensures) (search groups-laws) (search groups-laws) (search groups-laws)
 
 enum-known-why : tie.Need-enum-known-why Inv-loop μ-loop
 enum-known-why c = search groups-laws

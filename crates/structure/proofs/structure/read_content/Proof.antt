@@ -37,7 +37,15 @@ part-write-groups-end : tie.Need-part-write-groups-end
 part-write-groups-end c = search content-laws
 
 write-groups-requires : tie.Need-write-groups-requires
-write-groups-requires c κs = (search content-laws, (search content-laws, taken-begins (c .before .before .before .before .before .before .before .before .before .before .before .before .before .before .read-children .ensures) (c .before .before .before .before .before .before .held .given .1)))
+write-groups-requires c κs = (
+  search content-laws,
+  (
+    search content-laws,
+    taken-begins (c .before .before .before .before .before .before .before .before .before .before
+        .before .before .before .before .read-children .ensures)
+        (c .before .before .before .before .before .before .held .given .1),
+  ),
+)
 
 same-length-4 : tie.Need-same-length-4
 same-length-4 c = search needs
@@ -61,7 +69,18 @@ same-length-9 : tie.Need-same-length-9
 same-length-9 c = search needs
 
 returns-3 : tie.Need-returns-3
-returns-3 c = content-groups _ _ (c .before .before .before .before .before .before .before .before .before .before .before .before .before .before .before .before .before .before .before .read-children .ensures) (c .before .before .before .before .before .before .before .before .before .before .before .held .given .1) (search content-laws) (search (content-laws, c .before .before .before .before .before .before .before .before .before .before .before .before .before .before .before .before .before .before .before .before .before .before .before .before .before .before .before .before .before .before .pre)) (c .before .before .before .before .write-groups .ensures)
+returns-3 c =
+    content-groups _ _
+    (c .before .before .before .before .before .before .before .before .before .before .before .before .before .before
+    .before .before .before .before .before .read-children .ensures)
+    (c .before .before .before .before .before .before .before .before .before .before .before .held .given .1)
+    (search content-laws)
+    (search (
+      content-laws,
+      c .before .before .before .before .before .before .before .before .before .before .before .before .before .before .before
+          .before .before .before .before .before .before .before .before .before .before .before .before .before .before .before .pre,
+    ))
+    (c .before .before .before .before .write-groups .ensures)
 
 pub read-content-spec : {M : Type 1} → statement M
 read-content-spec =
