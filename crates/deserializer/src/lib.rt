@@ -327,7 +327,19 @@ pub fn read(
         (now (entries .entry)) (now (texts .entry)) (now (entries .exit)) (now (count .exit)) r ⌝ }
 {
     let mut told = [0usize; 2];
-    let number = read_sheet(kind, body, rows, end, sheet, flags, max_depth, depth, entries, texts, &mut told);
+    let number = read_sheet(
+        kind,
+        body,
+        rows,
+        end,
+        sheet,
+        flags,
+        max_depth,
+        depth,
+        entries,
+        texts,
+        &mut told,
+    );
     *count = told[0];
     *length = told[1];
     number

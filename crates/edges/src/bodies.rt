@@ -98,7 +98,14 @@ fn bad_attribute() {
     put_row(&mut rows, 10, [4, 0, 0, 26, 1, 0, 0, 28]);
     put_row(&mut rows, 11, [4, 0, 0, 30, 1, 0, 0, 32]);
     let sheet = [0u8, 1, 114, 2, 2, 1, 97, 2, 1, 98];
-    struct_edge(b"<r><a x=\"&zz;\">1</a><b>2</b></r>", &rows, 32, &sheet, 0, 0);
+    struct_edge(
+        b"<r><a x=\"&zz;\">1</a><b>2</b></r>",
+        &rows,
+        32,
+        &sheet,
+        0,
+        0,
+    );
 }
 
 // "Lenient, a and c scalar: one text 1; c is never seen".
@@ -130,8 +137,34 @@ fn attribute_by_local_name() {
     put_row(&mut rows, 5, [6, 0, 0, 0, 0, 21, 1, 22]);
     put_row(&mut rows, 6, [4, 24, 1, 26, 1, 0, 0, 28]);
     put_row(&mut rows, 7, [4, 0, 0, 30, 1, 0, 0, 32]);
-    let sheet = [0u8, 1, 114, 3, 6, 4, 116, 121, 112, 101, 2, 3, 112, 58, 98, 2, 1, 98];
-    struct_edge(b"<r xsi:type=\"t\"><p:b>1</p:b></r>", &rows, 32, &sheet, 0, 0);
+    let sheet = [
+        0u8,
+        1,
+        114,
+        3,
+        6,
+        4,
+        116,
+        121,
+        112,
+        101,
+        2,
+        3,
+        112,
+        58,
+        98,
+        2,
+        1,
+        98,
+    ];
+    struct_edge(
+        b"<r xsi:type=\"t\"><p:b>1</p:b></r>",
+        &rows,
+        32,
+        &sheet,
+        0,
+        0,
+    );
 }
 
 // attribute members are candidates too when a child is resolved.
@@ -174,7 +207,14 @@ fn last_wins() {
     put_row(&mut rows, 20, [4, 0, 0, 68, 5, 0, 0, 74]);
     put_row(&mut rows, 21, [4, 0, 0, 76, 1, 0, 0, 78]);
     let sheet = [4u8];
-    map_edge(b"<r><entry><key>k</key><key>l</key><value>1</value><value>2</value></entry></r>", &rows, 78, &sheet, 0, 0);
+    map_edge(
+        b"<r><entry><key>k</key><key>l</key><value>1</value><value>2</value></entry></r>",
+        &rows,
+        78,
+        &sheet,
+        0,
+        0,
+    );
 }
 
 // a child named as both is a key.
@@ -195,7 +235,14 @@ fn both_is_key() {
     put_row(&mut rows, 12, [4, 0, 0, 28, 5, 0, 0, 34]);
     put_row(&mut rows, 13, [4, 0, 0, 36, 1, 0, 0, 38]);
     let sheet = [14u8, 1, 107, 1, 107];
-    map_edge(b"<r><entry><k>1</k><k>2</k></entry></r>", &rows, 38, &sheet, 0, 0);
+    map_edge(
+        b"<r><entry><k>1</k><k>2</k></entry></r>",
+        &rows,
+        38,
+        &sheet,
+        0,
+        0,
+    );
 }
 
 // groups are not handed out before the strict end test.

@@ -137,7 +137,7 @@ fn main() {
     empty_edge();
     repeated_edge();
     readings();
-    integer_edge(b"2147483647");
-    integer_edge(b"2147483648");
-    integer_edge(b"+5");
+    integer_edge(b"2147483647", 2147483647);
+    integer_edge(b"2147483648", 0);
+    integer_edge(b"+5", 5);
 }

@@ -15,35 +15,60 @@ struct Read {
     texts: [u8; 64],
 }
 
+fn long(x: u32) -> u64 {
+    x as u64
+}
+
+fn number_at(entries: &[u32; 24], i: usize) -> u64 {
+    if i < 24 {
+        return long(entries[i]);
+    }
+    0
+}
+
 fn print_entry(entries: &[u32; 24], k: usize) {
     io::write_all(STDOUT_FILENO, b" [");
+    if 4 <= k {
+        return;
+    }
+    let at = k * 6;
     let mut j = 0;
     while j < 6 {
         if j > 0 {
             io::write_all(STDOUT_FILENO, b" ");
         }
-        if k < 4 {
-            io::print_decimal(STDOUT_FILENO, entries[k * 6 + j] as u64);
-        }
+        io::print_decimal(STDOUT_FILENO, number_at(entries, at + j));
         j += 1;
     }
     io::write_all(STDOUT_FILENO, b"]");
 }
 
-fn print_read(r: Read) {
-    io::print_decimal(STDOUT_FILENO, r.number as u64);
-    let entries = r.entries;
+fn print_entries(entries: &[u32; 24], count: usize) {
     let mut k = 0;
-    while k < r.count && k < 4 {
-        print_entry(&entries, k);
+    while k < 4 {
+        if k < count {
+            print_entry(entries, k);
+        }
         k += 1;
     }
-    let n = r.length;
-    let texts = r.texts;
-    if n > 0 && n <= 64 {
+}
+
+fn print_texts(texts: &[u8], n: usize) {
+    if n == 0 {
+        return;
+    }
+    if n <= texts.len() {
         io::write_all(STDOUT_FILENO, b" ");
         io::write_all(STDOUT_FILENO, &texts[0..n]);
     }
+}
+
+fn print_read(r: Read) {
+    io::print_decimal(STDOUT_FILENO, long(r.number));
+    let entries = r.entries;
+    print_entries(&entries, r.count);
+    let texts = r.texts;
+    print_texts(&texts, r.length);
     io::write_all(STDOUT_FILENO, b"\n");
 }
 
@@ -61,7 +86,19 @@ pub fn struct_edge(body: &[u8], rows: &[u32], end: u32, sheet: &[u8], flags: u32
     let mut texts = [0u8; 64];
     let mut count: usize = 77;
     let mut length: usize = 77;
-    let number = falzheod_read_struct(body, rows, end, sheet, flags, 128, depth, &mut entries, &mut texts, &mut count, &mut length);
+    let number = falzheod_read_struct(
+        body,
+        rows,
+        end,
+        sheet,
+        flags,
+        128,
+        depth,
+        &mut entries,
+        &mut texts,
+        &mut count,
+        &mut length,
+    );
     print_asked(body, b" structure, flags ", flags, depth);
     print_read(Read {
         number,
@@ -77,7 +114,19 @@ pub fn list_edge(body: &[u8], rows: &[u32], end: u32, sheet: &[u8], flags: u32, 
     let mut texts = [0u8; 64];
     let mut count: usize = 77;
     let mut length: usize = 77;
-    let number = falzheod_read_list(body, rows, end, sheet, flags, 128, depth, &mut entries, &mut texts, &mut count, &mut length);
+    let number = falzheod_read_list(
+        body,
+        rows,
+        end,
+        sheet,
+        flags,
+        128,
+        depth,
+        &mut entries,
+        &mut texts,
+        &mut count,
+        &mut length,
+    );
     print_asked(body, b" list, flags ", flags, depth);
     print_read(Read {
         number,
@@ -93,7 +142,19 @@ pub fn map_edge(body: &[u8], rows: &[u32], end: u32, sheet: &[u8], flags: u32, d
     let mut texts = [0u8; 64];
     let mut count: usize = 77;
     let mut length: usize = 77;
-    let number = falzheod_read_map(body, rows, end, sheet, flags, 128, depth, &mut entries, &mut texts, &mut count, &mut length);
+    let number = falzheod_read_map(
+        body,
+        rows,
+        end,
+        sheet,
+        flags,
+        128,
+        depth,
+        &mut entries,
+        &mut texts,
+        &mut count,
+        &mut length,
+    );
     print_asked(body, b" map, flags ", flags, depth);
     print_read(Read {
         number,
@@ -104,16 +165,15 @@ pub fn map_edge(body: &[u8], rows: &[u32], end: u32, sheet: &[u8], flags: u32, d
     });
 }
 
-// "2147483647 is read, 2147483648 gives 12, +5 is 5": the number, and the value where it was read.
-pub fn integer_edge(text: &[u8]) {
+// "2147483647 is read, 2147483648 gives 12, +5 is 5": the number, and whether the value is the one expected; a refusal leaves it alone.
+pub fn integer_edge(text: &[u8], expected: i32) {
     let mut value: i32 = 0;
     let number = falzheod_text_integer(text, &mut value);
     io::write_all(STDOUT_FILENO, text);
     io::write_all(STDOUT_FILENO, b" integer: ");
     io::print_decimal(STDOUT_FILENO, number as u64);
-    if value > 0 {
-        io::write_all(STDOUT_FILENO, b" ");
-        io::print_decimal(STDOUT_FILENO, value as u64);
+    if value == expected {
+        io::write_all(STDOUT_FILENO, b", value as expected");
     }
     io::write_all(STDOUT_FILENO, b"\n");
 }

@@ -49,7 +49,10 @@ pub extern "C" fn falzheod_read_boolean(
         (now (value .entry)) (now (value .exit)) r ⌝ }
 {
     let settings = settings_by(flags, 0);
-    give_boolean(scalar::read::read_boolean(body, rows, end, settings, ShapeDepth(depth)), value)
+    give_boolean(
+        scalar::read::read_boolean(body, rows, end, settings, ShapeDepth(depth)),
+        value,
+    )
 }
 
 // The integer of a body: 0, 1, 4, 6, 7, 8, 9 or 12.
@@ -66,7 +69,10 @@ pub extern "C" fn falzheod_read_integer(
         (now (value .entry)) (now (value .exit)) r ⌝ }
 {
     let settings = settings_by(flags, 0);
-    give_integer(scalar::read::read_integer(body, rows, end, settings, ShapeDepth(depth)), value)
+    give_integer(
+        scalar::read::read_integer(body, rows, end, settings, ShapeDepth(depth)),
+        value,
+    )
 }
 
 // The string of a body: 0, 1, 4, 6, 7, 8, 9 or 10.
@@ -84,7 +90,10 @@ pub extern "C" fn falzheod_read_string(
         (now (out .entry)) (now (out .exit)) (now (length .exit)) r ⌝ }
 {
     let settings = settings_by(flags, 0);
-    give_length(scalar::read::read_string(body, rows, end, settings, ShapeDepth(depth), out), length)
+    give_length(
+        scalar::read::read_string(body, rows, end, settings, ShapeDepth(depth), out),
+        length,
+    )
 }
 
 // The part of a body that has the name: 0, 1 or 13. Start and length are 0 where it is refused.
@@ -99,7 +108,11 @@ pub extern "C" fn falzheod_find(
 ) -> u32
     ensures { λ r. ⌜ FindCall (readings.find (now (body .entry)) (now (rows .entry)) end (now (name .entry))) (now (start .exit)) (now (length .exit)) r ⌝ }
 {
-    give_part(scalar::find::finding_of(body, rows, end, name), start, length)
+    give_part(
+        scalar::find::finding_of(body, rows, end, name),
+        start,
+        length,
+    )
 }
 
 // The whole text of a body: 0, 1, 4, 6, 9 or 10.

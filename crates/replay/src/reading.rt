@@ -4,15 +4,15 @@ use crate::answer::Outcome;
 use crate::field;
 use crate::field::Decoded;
 use crate::field::Number;
+use falzheod::aggregates::falzheod_read_list;
+use falzheod::aggregates::falzheod_read_map;
+use falzheod::aggregates::falzheod_read_string_list;
+use falzheod::aggregates::falzheod_read_struct;
 use falzheod::scalars::falzheod_find;
 use falzheod::scalars::falzheod_read_boolean;
 use falzheod::scalars::falzheod_read_integer;
-use falzheod::aggregates::falzheod_read_list;
-use falzheod::aggregates::falzheod_read_map;
 use falzheod::scalars::falzheod_read_string;
 use falzheod::scalars::falzheod_text_integer;
-use falzheod::aggregates::falzheod_read_string_list;
-use falzheod::aggregates::falzheod_read_struct;
 
 // What stands in the buffers before a call.
 const MARK: u32 = 77;

@@ -1,83 +1,61 @@
+use Prim.Native.Nat.{_-_, _≤_}
+use borrow.Author.Needs.{needs}
 use Rattle.edges.proofs.show.print_entry.Statement.{statement}
 use Rattle.edges.proofs.show.print_entry.Tie as tie
-use Rattle.edges.proofs.show.print_entry.Reads as reads
-use Rattle.edges.proofs.show.print_entry.Lts as lts
-use Rattle.io.proofs.print_decimal.Reads as print-decimal-reads
-use Rattle.io.proofs.write_all.Reads as write-all-reads
 
 abbrev Inv-loop : tie.InvT-loop
-Inv-loop entries k j₀ t5 t6 j = ?
+Inv-loop entries k at j₀ t6 t7 j = at ≤ 18
 
 abbrev μ-loop : tie.MeasureT-loop
-μ-loop entries k j₀ t5 t6 j = ?
+μ-loop entries k at j₀ t6 t7 j = 6 - j
 
--- src/show.rt:19:34
 slice-aggregate-write-all : tie.Need-slice-aggregate-write-all Inv-loop μ-loop
-slice-aggregate-write-all c = ?
+slice-aggregate-write-all c = search needs
 
--- src/show.rt:19:5
 write-all-requires : tie.Need-write-all-requires Inv-loop μ-loop
-write-all-requires c κs = ?
+write-all-requires c κs = search needs
 
--- src/show.rt:21:5
-loop-holds : tie.Need-loop-holds Inv-loop μ-loop
-loop-holds c = ?
-
--- src/show.rt:23:42
-slice-aggregate-write-all-2 : tie.Need-slice-aggregate-write-all-2 Inv-loop μ-loop
-slice-aggregate-write-all-2 c = ?
-
--- src/show.rt:23:13
-write-all-requires-2 : tie.Need-write-all-requires-2 Inv-loop μ-loop
-write-all-requires-2 c κs = ?
-
--- src/show.rt:26:54
-mul-print-decimal : tie.Need-mul-print-decimal Inv-loop μ-loop
-mul-print-decimal c = ?
-
--- src/show.rt:26:54
-add-print-decimal : tie.Need-add-print-decimal Inv-loop μ-loop
-add-print-decimal c = ?
-
--- src/show.rt:26:46
-mul-print-decimal-2 : tie.Need-mul-print-decimal-2 Inv-loop μ-loop
-mul-print-decimal-2 c = ?
-
--- src/show.rt:26:46
-element-copy-out-print-decimal : tie.Need-element-copy-out-print-decimal Inv-loop μ-loop
-element-copy-out-print-decimal c = ?
-
--- src/show.rt:26:46
-cast-print-decimal : tie.Need-cast-print-decimal Inv-loop μ-loop
-cast-print-decimal c = ?
-
--- src/show.rt:26:13
-print-decimal-requires : tie.Need-print-decimal-requires Inv-loop μ-loop
-print-decimal-requires c κs = ?
-
--- src/show.rt:28:9
-add-j : tie.Need-add-j Inv-loop μ-loop
-add-j c = ?
-
--- src/show.rt:21:5
-loop-less : tie.Need-loop-less Inv-loop μ-loop
-loop-less c = ?
-
--- src/show.rt:21:5
-loop-again : tie.Need-loop-again Inv-loop μ-loop
-loop-again c = ?
-
--- src/show.rt:30:34
-slice-aggregate-write-all-3 : tie.Need-slice-aggregate-write-all-3 Inv-loop μ-loop
-slice-aggregate-write-all-3 c = ?
-
--- src/show.rt:30:5
-write-all-requires-3 : tie.Need-write-all-requires-3 Inv-loop μ-loop
-write-all-requires-3 c κs = ?
-
--- src/show.rt:18:1
 returns : tie.Need-returns Inv-loop μ-loop
-returns c = ?
+returns c = search needs
+
+mul-at : tie.Need-mul-at Inv-loop μ-loop
+mul-at c = search needs
+
+loop-holds : tie.Need-loop-holds Inv-loop μ-loop
+loop-holds c = search needs
+
+slice-aggregate-write-all-2 : tie.Need-slice-aggregate-write-all-2 Inv-loop μ-loop
+slice-aggregate-write-all-2 c = search needs
+
+write-all-requires-2 : tie.Need-write-all-requires-2 Inv-loop μ-loop
+write-all-requires-2 c κs = search needs
+
+add-number-at : tie.Need-add-number-at Inv-loop μ-loop
+add-number-at c = search needs
+
+number-at-requires : tie.Need-number-at-requires Inv-loop μ-loop
+number-at-requires c κs = search needs
+
+print-decimal-requires : tie.Need-print-decimal-requires Inv-loop μ-loop
+print-decimal-requires c κs = search needs
+
+add-j : tie.Need-add-j Inv-loop μ-loop
+add-j c = search needs
+
+loop-less : tie.Need-loop-less Inv-loop μ-loop
+loop-less c = search needs
+
+loop-again : tie.Need-loop-again Inv-loop μ-loop
+loop-again c = search needs
+
+slice-aggregate-write-all-3 : tie.Need-slice-aggregate-write-all-3 Inv-loop μ-loop
+slice-aggregate-write-all-3 c = search needs
+
+write-all-requires-3 : tie.Need-write-all-requires-3 Inv-loop μ-loop
+write-all-requires-3 c κs = search needs
+
+returns-2 : tie.Need-returns-2 Inv-loop μ-loop
+returns-2 c = search needs
 
 pub print-entry-spec : {M : Type 1} → statement M
 print-entry-spec =
@@ -87,18 +65,17 @@ print-entry-spec =
     μ-loop
     slice-aggregate-write-all
     write-all-requires
+    returns
+    mul-at
     loop-holds
     slice-aggregate-write-all-2
     write-all-requires-2
-    mul-print-decimal
-    add-print-decimal
-    mul-print-decimal-2
-    element-copy-out-print-decimal
-    cast-print-decimal
+    add-number-at
+    number-at-requires
     print-decimal-requires
     add-j
     loop-less
     loop-again
     slice-aggregate-write-all-3
     write-all-requires-3
-    returns)
+    returns-2)
