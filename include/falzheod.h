@@ -30,15 +30,42 @@ extern "C" {
 /* The token table breaks a rule (falzheod_drain says which there are). */
 #define FALZHEOD_TABLE UINT32_C(1)
 
+/* The sheet is broken (falzheod_read_struct says what sheets are). */
+#define FALZHEOD_SHEET UINT32_C(2)
+
+/* The depth is at or above the maximum. */
+#define FALZHEOD_DEPTH UINT32_C(3)
+
+/* There is no root element. */
+#define FALZHEOD_NO_ROOT UINT32_C(4)
+
+/* The root has another name than the sheet says. */
+#define FALZHEOD_ROOT_NAME UINT32_C(5)
+
+/* An element stands where text is wanted. */
+#define FALZHEOD_ELEMENT_IN_TEXT UINT32_C(6)
+
 /* A reference is bad: an `&` without a `;` before the next `&` or the end, a
  * name other than lt, gt, amp, quot and apos, or a number that is not taken. */
 #define FALZHEOD_REFERENCE UINT32_C(7)
+
+/* A token error stands where text is wanted. */
+#define FALZHEOD_TOKEN_ERROR UINT32_C(8)
 
 /* The table keeps the rules, but the document is ill-formed. */
 #define FALZHEOD_ILL_FORMED UINT32_C(9)
 
 /* The result is longer than the room lent for it. */
 #define FALZHEOD_NO_ROOM UINT32_C(10)
+
+/* The text is no boolean. */
+#define FALZHEOD_NOT_BOOLEAN UINT32_C(11)
+
+/* The text is no integer of 32 bits. */
+#define FALZHEOD_NOT_INTEGER UINT32_C(12)
+
+/* No element has the name. */
+#define FALZHEOD_NO_SUCH_ELEMENT UINT32_C(13)
 
 /* Replaces the references in `text` and writes the result to the front of
  * `out`: lt, gt, amp, quot, apos, `#` with decimal and `#x` (small x) with
@@ -121,6 +148,154 @@ uint32_t falzheod_is_utf8(const uint8_t *text, size_t text_len);
  * FALZHEOD_ILL_FORMED both become 0. Writes nothing else. */
 uint32_t falzheod_drain(const uint8_t *body, size_t body_len, const uint32_t *rows,
                         size_t rows_len, uint32_t end, size_t *row, uint32_t *cause);
+
+/* ---- Readings.
+ *
+ * What is read comes first: a body, its token table `rows` with the final position
+ * `end` (see falzheod_drain; a table that breaks a rule is FALZHEOD_TABLE). Then what
+ * is asked, how, where to, and what came of it. */
+
+/* Settings: the sum of these; other bits are passed over. A reading at depth 0 with
+ * FALZHEOD_VALIDATE_DOCUMENT is strict: it sees the rows before the one that fails
+ * the drain, and is refused with FALZHEOD_ILL_FORMED at its end. Any other reading is
+ * lenient. */
+#define FALZHEOD_VALIDATE_DOCUMENT UINT32_C(1)
+#define FALZHEOD_VALIDATE_ROOT_NAME UINT32_C(2)
+#define FALZHEOD_STRICT_COLLECTION_ELEMENT_NAMES UINT32_C(4)
+
+/* The kinds of entries. An entry is six numbers: kind, member index (0 for items and
+ * map entries), key start and length (0 and 0 outside maps), start and length. */
+
+/* A text in the text buffer. */
+#define FALZHEOD_ENTRY_TEXT UINT32_C(1)
+
+/* A piece of the body. */
+#define FALZHEOD_ENTRY_PIECE UINT32_C(2)
+
+/* A gathered group in the text buffer: `<__flat>`, the siblings, `</__flat>`. */
+#define FALZHEOD_ENTRY_GROUP UINT32_C(3)
+
+/* A text that failed: start is its number, 6 to 9, and length 0. */
+#define FALZHEOD_ENTRY_FAILED UINT32_C(4)
+
+/* How many numbers an entry has. */
+#define FALZHEOD_ENTRY_NUMBERS 6
+
+/* The four readings by a sheet have the same parameters. `entries` are numbers, six an
+ * entry, of any length: there is room for entries_len / 6 of them, rounded down.
+ * `*count` becomes the number of entries written and `*length` the number of text
+ * bytes, finished or refused; a refusal keeps what was written before it, and all else
+ * of both buffers stays as it was. An entry and its text are written only if both fit,
+ * else FALZHEOD_NO_ROOM. Texts and groups follow one another in `texts` from 0.
+ *
+ * A sheet is a byte of bits, then only the fields whose bit stands, in bit order; higher
+ * bits are 0. A name is a length byte 1 to 255, then its bytes. The sheet ends with its
+ * last field; any other bytes are FALZHEOD_SHEET.
+ *
+ * Each reading tests the table, the sheet, the depth (FALZHEOD_DEPTH where `depth` is at
+ * or above `max_depth`) and the root, in this order, before it reads. */
+
+/* A structure. Sheet: bits 0 XML name, 1 original name, 2 member name, 3 unwrapped; then
+ * the shape name, always; a count 0 to 64; and members: bits 0 XML name, 1 member name,
+ * 2 attribute, 3 flattened, 4 aggregate.
+ *
+ * With FALZHEOD_VALIDATE_ROOT_NAME at depth 0 the root's name is tested
+ * (FALZHEOD_ROOT_NAME). Then attribute members come in sheet order, children in body
+ * order (a text, a failed text, or, of an aggregate member, a piece), the test of a
+ * strict reading, and the groups of flattened aggregate members, in an order that is
+ * left open; if all groups together do not fit, none is written. An unwrapped sheet
+ * gives one piece, the root element, or none. */
+uint32_t falzheod_read_struct(const uint8_t *body, size_t body_len,
+                              const uint32_t *rows, size_t rows_len, uint32_t end,
+                              const uint8_t *sheet, size_t sheet_len,
+                              uint32_t flags, uint32_t max_depth, uint32_t depth,
+                              uint32_t *entries, size_t entries_len,
+                              uint8_t *texts, size_t texts_len,
+                              size_t *count, size_t *length);
+
+/* A list: each item a piece. Sheet: bits 0 has member, 1 flattened, 2 its XML name, 3
+ * its member name (2 and 3 only with 0). With
+ * FALZHEOD_STRICT_COLLECTION_ELEMENT_NAMES, children of another name than the member's
+ * are passed over, unless flattened stands. No text is written. */
+uint32_t falzheod_read_list(const uint8_t *body, size_t body_len,
+                            const uint32_t *rows, size_t rows_len, uint32_t end,
+                            const uint8_t *sheet, size_t sheet_len,
+                            uint32_t flags, uint32_t max_depth, uint32_t depth,
+                            uint32_t *entries, size_t entries_len,
+                            uint8_t *texts, size_t texts_len,
+                            size_t *count, size_t *length);
+
+/* A map: each entry its key and a text, or a piece where the value is an aggregate.
+ * Sheet: bits 0 flattened, 1 key XML name, 2 has value, 3 value XML name, 4 value
+ * aggregate (3 and 4 only with 2). A key or value that fails refuses the reading with
+ * its number, FALZHEOD_ELEMENT_IN_TEXT to FALZHEOD_ILL_FORMED, as it is met; room is
+ * tested at the end of each entry. */
+uint32_t falzheod_read_map(const uint8_t *body, size_t body_len,
+                           const uint32_t *rows, size_t rows_len, uint32_t end,
+                           const uint8_t *sheet, size_t sheet_len,
+                           uint32_t flags, uint32_t max_depth, uint32_t depth,
+                           uint32_t *entries, size_t entries_len,
+                           uint8_t *texts, size_t texts_len,
+                           size_t *count, size_t *length);
+
+/* A list of strings, by a list's sheet: each item a text. One that fails refuses the
+ * reading with its number, as it is met. */
+uint32_t falzheod_read_string_list(const uint8_t *body, size_t body_len,
+                                   const uint32_t *rows, size_t rows_len, uint32_t end,
+                                   const uint8_t *sheet, size_t sheet_len,
+                                   uint32_t flags, uint32_t max_depth, uint32_t depth,
+                                   uint32_t *entries, size_t entries_len,
+                                   uint8_t *texts, size_t texts_len,
+                                   size_t *count, size_t *length);
+
+/* The first text of the root, unescaped, as a boolean: `true` or `false`, nothing
+ * trimmed. Answers FALZHEOD_FINISHED, FALZHEOD_TABLE, FALZHEOD_NO_ROOT, the numbers of
+ * a text that fails, FALZHEOD_ILL_FORMED or FALZHEOD_NOT_BOOLEAN, in this order.
+ * `*value` becomes 1 or 0; a refusal leaves it alone. Of `flags` only
+ * FALZHEOD_VALIDATE_DOCUMENT says anything here. */
+uint32_t falzheod_read_boolean(const uint8_t *body, size_t body_len,
+                               const uint32_t *rows, size_t rows_len, uint32_t end,
+                               uint32_t flags, uint32_t depth, uint32_t *value);
+
+/* The same as an integer: an optional sign and one or more digits, in the range of 32
+ * bits; FALZHEOD_NOT_INTEGER else. */
+uint32_t falzheod_read_integer(const uint8_t *body, size_t body_len,
+                               const uint32_t *rows, size_t rows_len, uint32_t end,
+                               uint32_t flags, uint32_t depth, int32_t *value);
+
+/* The same as a string, to the front of `out`; FALZHEOD_NO_ROOM where it does not fit.
+ * `*length` becomes the number of bytes written, 0 for a refusal. */
+uint32_t falzheod_read_string(const uint8_t *body, size_t body_len,
+                              const uint32_t *rows, size_t rows_len, uint32_t end,
+                              uint32_t flags, uint32_t depth,
+                              uint8_t *out, size_t out_len, size_t *length);
+
+/* A text, such as an entry's, by the same rules. The first answers FALZHEOD_FINISHED or
+ * FALZHEOD_NOT_BOOLEAN, the second FALZHEOD_FINISHED or FALZHEOD_NOT_INTEGER, and both
+ * leave `*value` alone where they refuse; the third copies the text and answers
+ * FALZHEOD_FINISHED or FALZHEOD_NO_ROOM, with `*length` the number of bytes written. */
+uint32_t falzheod_text_boolean(const uint8_t *text, size_t text_len, uint32_t *value);
+uint32_t falzheod_text_integer(const uint8_t *text, size_t text_len, int32_t *value);
+uint32_t falzheod_text_string(const uint8_t *text, size_t text_len,
+                              uint8_t *out, size_t out_len, size_t *length);
+
+/* The part of the body that has this local name, leniently: the whole body if the root
+ * has it, else the first child of the root that has it. `*start` and `*length` become
+ * the part. Answers FALZHEOD_FINISHED, FALZHEOD_TABLE or FALZHEOD_NO_SUCH_ELEMENT (also
+ * without a root); both become 0 where it refuses. */
+uint32_t falzheod_find(const uint8_t *body, size_t body_len,
+                       const uint32_t *rows, size_t rows_len, uint32_t end,
+                       const uint8_t *name, size_t name_len,
+                       size_t *start, size_t *length);
+
+/* All texts that stand directly in the root, unescaped and joined, to the front of
+ * `out`. Answers FALZHEOD_FINISHED, FALZHEOD_TABLE, FALZHEOD_ILL_FORMED (what the drain
+ * does not pass), FALZHEOD_NO_ROOT, FALZHEOD_ELEMENT_IN_TEXT (any element inside the
+ * root) or FALZHEOD_NO_ROOM, in this order. `*length` becomes the number of bytes
+ * written, 0 for a refusal. */
+uint32_t falzheod_whole_text(const uint8_t *body, size_t body_len,
+                             const uint32_t *rows, size_t rows_len, uint32_t end,
+                             uint8_t *out, size_t out_len, size_t *length);
 
 #ifdef __cplusplus
 }

@@ -13,25 +13,43 @@
 #![warn(missing_docs)]
 
 mod drain;
+mod readings;
 pub mod sys;
 #[cfg(feature = "xmlparser")]
 pub mod table;
 
 pub use drain::{drain, drain_numbers, Cause, Row};
+pub use readings::{
+    find, read_boolean, read_integer, read_list, read_map, read_string, read_string_list,
+    read_struct, text_boolean, text_integer, text_string, whole_text, Entry, Lent, Refused,
+    Settings, Written,
+};
 
 use std::fmt;
 
-/// Why an operation did not finish. Nothing is written where it refuses.
+/// Why an operation did not finish.
 ///
-/// More numbers come with the readings, so a `match` needs a last arm.
+/// Later versions may have more, so a `match` needs a last arm.
 #[derive(Clone, Copy, Debug, PartialEq, Eq, Hash)]
 #[non_exhaustive]
 pub enum Refusal {
     /// The token table breaks a rule, so it is not looked at further.
     Table,
+    /// The sheet is broken.
+    Sheet,
+    /// The depth is at or above the maximum.
+    Depth,
+    /// There is no root element.
+    NoRoot,
+    /// The root has another name than the sheet says.
+    RootName,
+    /// An element stands where text is wanted.
+    ElementInText,
     /// A reference is bad: not ended, of an unknown name, or with a number that
     /// is not taken.
     Reference,
+    /// The tokenizer could not go on where text is wanted.
+    Token,
     /// The table keeps the rules, but the document is ill-formed.
     IllFormed {
         /// The first failing row, from 0; the count of rows for an element that is
@@ -42,6 +60,12 @@ pub enum Refusal {
     },
     /// The result is longer than the room lent for it.
     NoRoom,
+    /// The text is no boolean.
+    NotBoolean,
+    /// The text is no integer of 32 bits.
+    NotInteger,
+    /// No element has the name.
+    NoSuchElement,
 }
 
 impl Refusal {
@@ -54,9 +78,18 @@ impl Refusal {
     pub fn number(self) -> u32 {
         match self {
             Refusal::Table => 1,
+            Refusal::Sheet => 2,
+            Refusal::Depth => 3,
+            Refusal::NoRoot => 4,
+            Refusal::RootName => 5,
+            Refusal::ElementInText => 6,
             Refusal::Reference => 7,
+            Refusal::Token => 8,
             Refusal::IllFormed { .. } => 9,
             Refusal::NoRoom => 10,
+            Refusal::NotBoolean => 11,
+            Refusal::NotInteger => 12,
+            Refusal::NoSuchElement => 13,
         }
     }
 }
@@ -65,9 +98,18 @@ impl fmt::Display for Refusal {
     fn fmt(&self, f: &mut fmt::Formatter<'_>) -> fmt::Result {
         match self {
             Refusal::Table => f.write_str("the token table breaks a rule"),
+            Refusal::Sheet => f.write_str("the sheet is broken"),
+            Refusal::Depth => f.write_str("the depth is at or above the maximum"),
+            Refusal::NoRoot => f.write_str("there is no root element"),
+            Refusal::RootName => f.write_str("the root has another name than the sheet says"),
+            Refusal::ElementInText => f.write_str("an element stands where text is wanted"),
             Refusal::Reference => f.write_str("a reference is bad"),
+            Refusal::Token => f.write_str("a token error where text is wanted"),
             Refusal::IllFormed { row, cause } => write!(f, "ill-formed at row {row}: {cause}"),
             Refusal::NoRoom => f.write_str("the result does not fit into the room lent for it"),
+            Refusal::NotBoolean => f.write_str("the text is no boolean"),
+            Refusal::NotInteger => f.write_str("the text is no integer of 32 bits"),
+            Refusal::NoSuchElement => f.write_str("no element has the name"),
         }
     }
 }

@@ -1,16 +1,25 @@
-//! Writes the Rust's answers for some two thousand texts, two lines each, and for a
-//! thousand bodies, for crates/replay to replay without the Rust:
+//! Writes the Rust's answers for some two thousand texts, two lines each, for a
+//! thousand bodies, and for eight thousand readings, for crates/replay to replay without
+//! the Rust:
 //!
 //!     v TEXT N            validate_references: 0 or 7
 //!     u TEXT N [RESULT]   unescape: 0 and its result, or 7
 //!     d BODY END ROWS N [ROW CAUSE]   the strict drain: 0, or 9 with row and cause
+//!     K BODY END ROWS SHEET FLAGS MAXIMUM DEPTH N ENTRIES TEXTS   a reading: K is s
+//!         structure, l list, m map, t string list (where it is refused without ENTRIES
+//!         and TEXTS, which the Rust does not show)
+//!     K BODY END ROWS FLAGS DEPTH N [VALUE]   a scalar: K is b boolean, i integer,
+//!         w string
+//!     f BODY END ROWS NAME N [START LENGTH]   find
 //!
-//! TEXT, RESULT and BODY in hexadecimal, `-` for none. ROWS are all numbers of the
-//! table's rows in decimal, parted by commas, `-` for none. The same every time.
+//! TEXT, RESULT, BODY, SHEET, NAME and TEXTS in hexadecimal, `-` for none. ROWS are all
+//! numbers of the table's rows in decimal, parted by commas, `-` for none; ENTRIES are
+//! those of the entries, groups by rising member index. The same every time.
 
 use compare::bodies::{self, nested, start_tag};
 use compare::drains::of_rust;
 use compare::random::Random;
+use compare::recorded::{drain_line, Readings};
 use compare::texts::{self, BOUNDS, MARKED, PLAIN};
 use oracle::hex::hex;
 use std::collections::HashSet;
@@ -151,22 +160,6 @@ impl Bodies {
     }
 }
 
-fn drain_line(body: &[u8]) -> String {
-    let table = oracle::table::table(body);
-    let numbers: Vec<String> = table.rows.iter().flatten().map(u32::to_string).collect();
-    let rows = if numbers.is_empty() {
-        "-".to_string()
-    } else {
-        numbers.join(",")
-    };
-    let asked = format!("d {} {} {rows}", hex(body), table.end);
-    let answer = of_rust(body);
-    match answer.number {
-        0 => format!("{asked} 0"),
-        number => format!("{asked} {number} {} {}", answer.row, answer.cause),
-    }
-}
-
 fn validate_line(text: &str) -> String {
     let number = oracle::validate_references(text).map_or_else(|error| error.number(), |()| 0);
     format!("v {} {number}", hex(text.as_bytes()))
@@ -195,7 +188,11 @@ fn main() -> std::io::Result<()> {
         writeln!(out, "{}", validate_line(text))?;
         writeln!(out, "{}", unescape_line(text))?;
     }
-    for line in &bodies.lines {
+    for line in bodies
+        .lines
+        .iter()
+        .chain(&Readings::all(LONGEST_LINE).lines)
+    {
         writeln!(out, "{line}")?;
     }
     out.flush()

@@ -74,7 +74,7 @@ module _ {body t : List ℕ} {v : View} {p : Past} (w : EndIn body t v p) where
 pub ruleset piece-end-laws = (needs, end-out, end-first, end-row, end-in)
 
 -- ---- its first byte
-drop-rows : (t : List ℕ) (s i m : ℕ) → i < m → drop i (rowsFrom t s m) ≡ rowAt t (s + i) ∷ rowsFrom t (suc (s + i)) (m - suc i)
+pub drop-rows : (t : List ℕ) (s i m : ℕ) → i < m → drop i (rowsFrom t s m) ≡ rowAt t (s + i) ∷ rowsFrom t (suc (s + i)) (m - suc i)
 drop-rows t s i zero h = absurd (omega arith)
 drop-rows t s zero (suc m) h = let z : s + 0 ≡ s = omega arith in let y : suc m - suc 0 ≡ m = omega arith in rw (z, y)
 drop-rows t s (suc i) (suc m) h =
@@ -102,7 +102,7 @@ module _ {body t : List ℕ} {n : ℕ} {s : StartRow} (q : Sees body t n) (w : S
           (eq-or-lt-of-le (l .high)))
 
   -- it begins in the body
-  begins-low : pieceStart body (drop (s .row) (rowsFrom t 0 n)) ≤ length body
+  pub begins-low : pieceStart body (drop (s .row) (rowsFrom t 0 n)) ≤ length body
   begins-low =
       let z : 0 + s .row ≡ s .row = omega arith in
       let y = rw z at (drop-rows t 0 (s .row) n (omega (arith, w .low, w .high))) in

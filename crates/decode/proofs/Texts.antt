@@ -18,10 +18,10 @@ use Rattle.decode.specs.declared.reader.Cursor.{Cursor}
 use Rattle.decode.specs.declared.reader.StartRow.{StartRow}
 use Rattle.decode.specs.declared.view.Failure.{Failure}
 use Rattle.decode.specs.declared.text.Text.{Text}
-use Rattle.decode.specs.Rows.{nameAt, valueAt, tokAt}
+use Rattle.decode.specs.Rows.{InTable, nameAt, valueAt, tokAt}
 use Rattle.decode.specs.Reader.{toksFrom, scopeAt, childAt, Sees, DepthIs}
 use Rattle.decode.specs.View.{failureAt}
-use Rattle.decode.specs.Text.{endText, firstFrom, TextIs}
+use Rattle.decode.specs.Text.{TextIn, endText, firstFrom, TextIs}
 use Rattle.decode.proofs.ByKind.{other}
 use Rattle.decode.proofs.Places.{toks-next, toks-none, tok-is, row-seen, scope-seen, start-scope}
 
@@ -105,3 +105,7 @@ module _ (body t : List ℕ) (n : ℕ) (f : Failure) (s : StartRow) (c : Cursor)
   text-inside e x = record { same = rw e (x .same); row = x .row }
 
 pub ruleset element-text-laws = (needs, text-closed, text-inside, start-scope)
+
+-- ---- for callers: a text that has a row
+pub row-in : {t : List ℕ} {text : Text} {k : ℕ} → TextIn t text → text ≡ Text.Row k → InTable t k
+row-in w e = rw e at w

@@ -36,7 +36,7 @@ fn piece_end(body: &[u8], rows: &[u32], view: View, past: Past) -> usize
 }
 
 // Where an element begins: at the last `<` before its local name.
-fn piece_start(body: &[u8], rows: &[u32], n: usize, start: StartRow) -> usize
+pub fn piece_start(body: &[u8], rows: &[u32], n: usize, start: StartRow) -> usize
     requires { ⌜ Sees (now body) (now rows) n ⌝ }
     requires { ⌜ StartIn (now body) (now rows) n start ⌝ }
     ensures { λ r. ⌜ r ≡ pieceStart (now (body .entry)) (drop (start .row) (rowsFrom (now (rows .entry)) 0 n)) ⌝ }
@@ -47,7 +47,7 @@ fn piece_start(body: &[u8], rows: &[u32], n: usize, start: StartRow) -> usize
 }
 
 // One number less another, or 0.
-fn minus(a: usize, b: usize) -> usize
+pub fn minus(a: usize, b: usize) -> usize
     ensures { λ r. ⌜ r ≡ a - b ⌝ }
 {
     if a < b {

@@ -1,11 +1,16 @@
 // The bodies at the edges of the scope paper (01, "Bodies at the edges"), run through the proved functions. For each text a line: the text, what
 // `validate_references` answers, and the bytes that `unescape` gives, in hexadecimal; a refusal is its number. For each body with a table a line: the body, and
-// the drain's number, row and cause, the causes counted from 1 in the paper's order. `stdout` has what the paper expects, written by hand from the paper, and the
+// the drain's number, row and cause, the causes counted from 1 in the paper's order; then readings, with their entries and texts, and integers. `stdout` has what the paper expects, written by hand from the paper, and the
 // check compares. It rests on `unescape` and `falzheod`.
+mod bodies;
+mod show;
+
+use bodies::readings;
 use falzheod::falzheod_drain;
 use libc::STDOUT_FILENO;
 use reference::Unescaped;
 use reference::Validated;
+use show::integer_edge;
 use unescape::unescape;
 use unescape::validate_references;
 
@@ -75,7 +80,7 @@ fn drain_edge(body: &[u8], rows: &[u32], end: u32) {
 }
 
 // Row `k` of a table, where it has that row: kind, prefix start and length, local start and length, value start and length, position.
-fn put_row(rows: &mut [u32], k: usize, row: [u32; 8]) {
+pub fn put_row(rows: &mut [u32], k: usize, row: [u32; 8]) {
     if k >= rows.len() / 8 {
         return;
     }
@@ -131,4 +136,8 @@ fn main() {
     unclosed_edge();
     empty_edge();
     repeated_edge();
+    readings();
+    integer_edge(b"2147483647", 2147483647);
+    integer_edge(b"2147483648", 0);
+    integer_edge(b"+5", 5);
 }

@@ -16,6 +16,10 @@ use Rattle.xml.specs.declared.Drained.{Drained}
 abbrev pub finished : ℕ
 finished = 0
 
+-- how long a buffer is, where `length` is a parameter's name
+abbrev pub sizeOf : List ℕ → ℕ
+sizeOf l = length l
+
 -- 1 or 0
 abbrev pub yesNo : Bool → ℕ
 yesNo true = 1

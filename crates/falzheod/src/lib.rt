@@ -5,6 +5,10 @@ ghost use Rattle.reference.specs.Text.{validated};
 ghost use Rattle.utf8.specs.Table.{isUtf8};
 ghost use Rattle.xml.specs.Drain.{drained};
 ghost use Rattle.falzheod.specs.Numbers.{validatedNumber, UnescapeCall, yesNo, causeNumber, DrainCall};
+
+pub mod aggregates;
+pub mod scalars;
+
 use reference::Unescaped;
 use reference::Validated;
 use xml::Cause;

@@ -3,7 +3,7 @@
 use Prim.Native.Nat.{ℕ, zero, suc, _+_, _*_, _≤_}
 use mathlib.Core.Path.{_≡_, refl, sym, ap}
 use mathlib.Core.Bool.{Bool, true, false}
-use mathlib.Core.List.{List, [], _∷_}
+use mathlib.Core.List.{List, [], _∷_, _++_}
 use native.Mathlib.Omega.{arith}
 use lib.ListN.{length, getD, take, drop, take-append-drop, length-append, length-drop}
 use lib.Seq.{length-take-le}
@@ -13,13 +13,13 @@ use Rattle.refusal.specs.declared.Refusal.{Refusal}
 use Rattle.reference.specs.Text.{Out, bytes, bad, unescaped}
 use Rattle.reference.specs.Result.{unescaped-shorter}
 use Rattle.readings.specs.Output.{Entry, Room, Output, Reading, finished, refused, output, numbersOf, fits, written, write, textEntry}
-use Rattle.readings.specs.Output.{pieceEntry, groupEntry, failedEntry}
+use Rattle.readings.specs.Output.{pieceEntry, groupEntry, failedEntry, keyTextEntry, keyPieceEntry}
 use Rattle.readings.specs.Structure.{readScalar}
 use Rattle.document.specs.Text.{unescapedText}
 use Rattle.output.specs.declared.Written.{Written}
 use Rattle.output.specs.declared.Step.{Step}
-use Rattle.output.specs.Steps.{writeOr, text, scalar, piece, group}
-use Rattle.output.specs.Held.{roomOf, Holds, Does, Sound, Adds}
+use Rattle.output.specs.Steps.{plainOf, writeOr, text, scalar, piece, keyText, keyPiece, group}
+use Rattle.output.specs.Held.{roomOf, Holds, Does, Comes, Sound, Adds}
 use Rattle.output.proofs.AllOrNone.{holds-within}
 
 -- n entries from the front of a list
@@ -132,6 +132,20 @@ scalar-adds member txt = record { most = go (unescaped txt) refl }
 pub piece-adds : (member start len : ℕ) → Adds (piece member start len) 0
 unfolding piece
 piece-adds member start len = record { most = λ room out. write-adds room (pieceEntry member (record { start = start; len = len })) [] out }
+
+module _ {key : List ℕ} {n : ℕ} (c : Comes key n) where
+  pub key-text-adds : {value : List ℕ} {m : ℕ} → Comes value m → Adds (keyText key value) (n + m)
+  unfolding keyText
+  key-text-adds {value} d =
+      let k = plainOf (unescaped key) in
+      let v = plainOf (unescaped value) in
+      record { most = λ room out. omega (arith, write-adds room (keyTextEntry k v) (k ++ v) out, length-append k v, c .size, d .size) }
+
+  pub key-piece-adds : (start len : ℕ) → Adds (keyPiece key start len) n
+  unfolding keyPiece
+  key-piece-adds start len =
+      let k = plainOf (unescaped key) in
+      record { most = λ room out. omega (arith, write-adds room (keyPieceEntry k (record { start = start; len = len })) k out, c .size) }
 
 pub group-adds : (member : ℕ) (l : List ℕ) → Adds (group member l) (length l)
 unfolding group

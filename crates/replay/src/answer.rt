@@ -2,6 +2,7 @@
 use crate::field;
 use crate::field::Decoded;
 use crate::field::Number;
+use crate::reading;
 use check::same;
 use falzheod::falzheod_drain;
 use reference::Unescaped;
@@ -14,6 +15,7 @@ pub enum Outcome {
     Unescape { agrees: bool },
     Validate { agrees: bool },
     Drain { agrees: bool },
+    Reading { agrees: bool },
     Malformed,
 }
 
@@ -216,6 +218,13 @@ fn replay_operation(operation: u8, text: &[u8], rest: &[u8]) -> Outcome {
     Outcome::Malformed
 }
 
+// Whether a letter is that of a reading.
+fn is_reading(operation: u8) -> bool {
+    let by_sheet = operation == b's' || operation == b'l' || operation == b'm' || operation == b't';
+    let scalar = operation == b'b' || operation == b'i' || operation == b'w';
+    by_sheet || scalar || operation == b'f'
+}
+
 // A line without its end: the operation, a space, the text, and what was answered.
 pub fn replay(line: &[u8]) -> Outcome {
     if line.len() < 2 {
@@ -223,6 +232,9 @@ pub fn replay(line: &[u8]) -> Outcome {
     }
     if line[1] != b' ' {
         return Outcome::Malformed;
+    }
+    if is_reading(line[0]) {
+        return reading::replay(line[0], line);
     }
     let end = field::end(line, 2, b' ');
     let mut text = [0u8; 512];

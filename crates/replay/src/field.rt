@@ -132,3 +132,73 @@ pub fn numbers(field: &[u8], out: &mut [u32]) -> Decoded {
     }
     Decoded::Length(n)
 }
+
+// A field of a line: its bytes stand from one place up to another.
+pub struct Word {
+    pub from: usize,
+    pub to: usize,
+}
+
+// The place after a space, or the end.
+fn after(line: &[u8], stop: usize) -> usize
+    requires { ⌜ stop ≤ length (now line) ⌝ }
+    ensures { λ r. ⌜ r ≤ length (now (line .entry)) ⌝ }
+{
+    if stop < line.len() {
+        return stop + 1;
+    }
+    stop
+}
+
+// Where field `k` begins, the fields parted by spaces; past the last one, at the end.
+fn start_of(line: &[u8], k: usize) -> usize
+    ensures { λ r. ⌜ r ≤ length (now (line .entry)) ⌝ }
+{
+    let mut at = 0;
+    let mut left = k;
+    while left > 0 {
+        at = after(line, end(line, at, b' '));
+        left -= 1;
+    }
+    at
+}
+
+// Field `k`; past the last one, an empty one.
+pub fn nth(line: &[u8], k: usize) -> Word
+    ensures { λ r. ⌜ (r .from ≤ r .to) × (r .to ≤ length (now (line .entry))) ⌝ }
+{
+    let from = start_of(line, k);
+    let to = end(line, from, b' ');
+    Word { from, to }
+}
+
+// Whether there is no field `k`.
+pub fn is_past(line: &[u8], k: usize) -> bool {
+    let word = nth(line, k);
+    word.from == line.len()
+}
+
+pub fn number_at(line: &[u8], k: usize) -> Number {
+    let word = nth(line, k);
+    let from = word.from;
+    let to = word.to;
+    decimal(&line[from..to])
+}
+
+pub fn numbers_at(line: &[u8], k: usize, out: &mut [u32]) -> Decoded {
+    let word = nth(line, k);
+    let from = word.from;
+    let to = word.to;
+    numbers(&line[from..to], out)
+}
+
+// Bytes, where a field that is past the last one is none.
+pub fn bytes_at(line: &[u8], k: usize, out: &mut [u8]) -> Decoded {
+    let word = nth(line, k);
+    let from = word.from;
+    let to = word.to;
+    if from == to {
+        return Decoded::Length(0);
+    }
+    bytes(&line[from..to], out)
+}

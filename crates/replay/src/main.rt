@@ -5,6 +5,7 @@
 // all agree. It rests on `unescape` and `falzheod`, and on the recording being the Rust's; that the input is read as it stands rests on the system's calls.
 mod answer;
 mod field;
+mod reading;
 
 use answer::Outcome;
 use libc::STDIN_FILENO;
@@ -15,6 +16,7 @@ struct Progress {
     unescape: u64,
     validate: u64,
     drain: u64,
+    reading: u64,
     differences: u64,
     malformed: u64,
     lines: u64,
@@ -58,6 +60,10 @@ fn counted(p: Progress, outcome: Outcome) -> Progress {
         }
         Outcome::Drain { agrees } => {
             next.drain = one_more(p.drain);
+            next.differences = differences(p, agrees);
+        }
+        Outcome::Reading { agrees } => {
+            next.reading = one_more(p.reading);
             next.differences = differences(p, agrees);
         }
         Outcome::Malformed => {
@@ -130,9 +136,11 @@ fn report(p: Progress) {
     io::print_decimal(STDOUT_FILENO, p.unescape);
     io::write_all(STDOUT_FILENO, b" unescape, ");
     io::print_decimal(STDOUT_FILENO, p.validate);
-    io::write_all(STDOUT_FILENO, b" validate and ");
+    io::write_all(STDOUT_FILENO, b" validate, ");
     io::print_decimal(STDOUT_FILENO, p.drain);
-    io::write_all(STDOUT_FILENO, b" drain answers of the Rust: ");
+    io::write_all(STDOUT_FILENO, b" drain and ");
+    io::print_decimal(STDOUT_FILENO, p.reading);
+    io::write_all(STDOUT_FILENO, b" reading answers of the Rust: ");
     io::print_decimal(STDOUT_FILENO, p.differences);
     io::write_all(STDOUT_FILENO, b" differences\n");
     if p.malformed > 0 {
@@ -148,6 +156,7 @@ fn replay_input(line: &mut [u8]) {
         unescape: 0,
         validate: 0,
         drain: 0,
+        reading: 0,
         differences: 0,
         malformed: 0,
         lines: 0,

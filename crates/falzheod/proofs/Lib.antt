@@ -1,0 +1,2 @@
+-- Laws of the scalar readings as open operations.
+pub mod Flags

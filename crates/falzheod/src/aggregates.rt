@@ -1,0 +1,150 @@
+// The readings by a sheet. `entries` are six numbers an entry, of any length: there is room for a sixth of it, rounded down. `count` is how many entries are
+// written, and `length` how many text bytes, finished or refused; all else of both buffers stays as it was. flags: 1 validate_document, 2 validate_root_name,
+// 4 strict_collection_element_names; other bits are passed over. The second promise of each is demand 3: what holds where the drain passes the body and the table.
+ghost use Rattle.deserializer.specs.Call.{SheetCall, settingsBy, shapeDepth};
+ghost use Rattle.deserializer.specs.Demand.{Demanded};
+ghost use Rattle.deserializer.specs.declared.Shape.{Shape};
+
+// The structure reading: 0, 1, 2, 3, 4, 5, 9 or 10.
+#[no_mangle]
+pub extern "C" fn falzheod_read_struct(
+    body: &[u8],
+    rows: &[u32],
+    end: u32,
+    sheet: &[u8],
+    flags: u32,
+    max_depth: u32,
+    depth: u32,
+    entries: &mut [u32],
+    texts: &mut [u8],
+    count: &mut usize,
+    length: &mut usize,
+) -> u32
+    ensures { λ r. ⌜ SheetCall Shape.Struct (now (body .entry)) (now (rows .entry)) end (now (sheet .entry)) (settingsBy flags «max_depth») (shapeDepth depth)
+        (now (entries .entry)) (now (texts .entry)) (now (entries .exit)) (now (texts .exit)) (now (count .exit)) (now (length .exit)) r ⌝ }
+    ensures demand { λ r. ⌜ Demanded Shape.Struct (now (body .entry)) (now (rows .entry)) end (now (sheet .entry)) (settingsBy flags «max_depth») (shapeDepth depth)
+        (now (entries .entry)) (now (texts .entry)) (now (entries .exit)) (now (count .exit)) r ⌝ }
+{
+    deserializer::read(
+        1,
+        body,
+        rows,
+        end,
+        sheet,
+        flags,
+        max_depth,
+        depth,
+        entries,
+        texts,
+        count,
+        length,
+    )
+}
+
+// The list reading: 0, 1, 2, 3, 4, 9 or 10. No text is written.
+#[no_mangle]
+pub extern "C" fn falzheod_read_list(
+    body: &[u8],
+    rows: &[u32],
+    end: u32,
+    sheet: &[u8],
+    flags: u32,
+    max_depth: u32,
+    depth: u32,
+    entries: &mut [u32],
+    texts: &mut [u8],
+    count: &mut usize,
+    length: &mut usize,
+) -> u32
+    ensures { λ r. ⌜ SheetCall Shape.List (now (body .entry)) (now (rows .entry)) end (now (sheet .entry)) (settingsBy flags «max_depth») (shapeDepth depth)
+        (now (entries .entry)) (now (texts .entry)) (now (entries .exit)) (now (texts .exit)) (now (count .exit)) (now (length .exit)) r ⌝ }
+    ensures demand { λ r. ⌜ Demanded Shape.List (now (body .entry)) (now (rows .entry)) end (now (sheet .entry)) (settingsBy flags «max_depth») (shapeDepth depth)
+        (now (entries .entry)) (now (texts .entry)) (now (entries .exit)) (now (count .exit)) r ⌝ }
+{
+    deserializer::read(
+        2,
+        body,
+        rows,
+        end,
+        sheet,
+        flags,
+        max_depth,
+        depth,
+        entries,
+        texts,
+        count,
+        length,
+    )
+}
+
+// The map reading: 0, 1, 2, 3, 4, 6, 7, 8, 9 or 10.
+#[no_mangle]
+pub extern "C" fn falzheod_read_map(
+    body: &[u8],
+    rows: &[u32],
+    end: u32,
+    sheet: &[u8],
+    flags: u32,
+    max_depth: u32,
+    depth: u32,
+    entries: &mut [u32],
+    texts: &mut [u8],
+    count: &mut usize,
+    length: &mut usize,
+) -> u32
+    ensures { λ r. ⌜ SheetCall Shape.Map (now (body .entry)) (now (rows .entry)) end (now (sheet .entry)) (settingsBy flags «max_depth») (shapeDepth depth)
+        (now (entries .entry)) (now (texts .entry)) (now (entries .exit)) (now (texts .exit)) (now (count .exit)) (now (length .exit)) r ⌝ }
+    ensures demand { λ r. ⌜ Demanded Shape.Map (now (body .entry)) (now (rows .entry)) end (now (sheet .entry)) (settingsBy flags «max_depth») (shapeDepth depth)
+        (now (entries .entry)) (now (texts .entry)) (now (entries .exit)) (now (count .exit)) r ⌝ }
+{
+    deserializer::read(
+        3,
+        body,
+        rows,
+        end,
+        sheet,
+        flags,
+        max_depth,
+        depth,
+        entries,
+        texts,
+        count,
+        length,
+    )
+}
+
+// The string list reading: 0, 1, 2, 3, 4, 6, 7, 8, 9 or 10.
+#[no_mangle]
+pub extern "C" fn falzheod_read_string_list(
+    body: &[u8],
+    rows: &[u32],
+    end: u32,
+    sheet: &[u8],
+    flags: u32,
+    max_depth: u32,
+    depth: u32,
+    entries: &mut [u32],
+    texts: &mut [u8],
+    count: &mut usize,
+    length: &mut usize,
+) -> u32
+    ensures { λ r. ⌜ SheetCall Shape.StringList (now (body .entry)) (now (rows .entry)) end (now (sheet .entry)) (settingsBy flags «max_depth») (shapeDepth depth)
+        (now (entries .entry)) (now (texts .entry)) (now (entries .exit)) (now (texts .exit)) (now (count .exit)) (now (length .exit)) r ⌝ }
+    ensures demand { λ r. ⌜ Demanded Shape.StringList (now (body .entry)) (now (rows .entry)) end (now (sheet .entry)) (settingsBy flags «max_depth») (shapeDepth depth)
+        (now (entries .entry)) (now (texts .entry)) (now (entries .exit)) (now (count .exit)) r ⌝ }
+{
+    deserializer::read(
+        4,
+        body,
+        rows,
+        end,
+        sheet,
+        flags,
+        max_depth,
+        depth,
+        entries,
+        texts,
+        count,
+        length,
+    )
+}

@@ -1,0 +1,16 @@
+use Rattle.opening.proofs.Wanted.{wanted-laws}
+use borrow.Author.Needs.{needs}
+use Rattle.opening.proofs.is_wanted.Statement.{statement}
+use Rattle.opening.proofs.is_wanted.Tie as tie
+
+row-matches-requires : tie.Need-row-matches-requires
+row-matches-requires c κs = search needs
+
+returns : tie.Need-returns
+returns c = search wanted-laws
+
+returns-2 : tie.Need-returns-2
+returns-2 c = search needs
+
+pub is-wanted-spec : {M : Type 1} → statement M
+is-wanted-spec = tie.close (tie.spec row-matches-requires returns returns-2)

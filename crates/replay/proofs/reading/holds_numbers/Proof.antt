@@ -1,0 +1,53 @@
+use borrow.Author.Needs.{needs}
+use Prim.Native.Nat.{_-_}
+use Rattle.replay.proofs.reading.holds_numbers.Statement.{statement}
+use Rattle.replay.proofs.reading.holds_numbers.Tie as tie
+
+abbrev Inv-loop : tie.InvT-loop
+Inv-loop space numbers i₀ i = Unit {0}
+
+abbrev μ-loop : tie.MeasureT-loop
+μ-loop space numbers i₀ i = 256 - i
+
+loop-holds : tie.Need-loop-holds Inv-loop μ-loop
+loop-holds c = search needs
+
+number-or-requires : tie.Need-number-or-requires Inv-loop μ-loop
+number-or-requires c κs = search needs
+
+mul-if1 : tie.Need-mul-if1 Inv-loop μ-loop
+mul-if1 c = search needs
+
+element-copy-out-if1 : tie.Need-element-copy-out-if1 Inv-loop μ-loop
+element-copy-out-if1 c = search needs
+
+returns : tie.Need-returns Inv-loop μ-loop
+returns c = search needs
+
+add-i : tie.Need-add-i Inv-loop μ-loop
+add-i c = search needs
+
+loop-less : tie.Need-loop-less Inv-loop μ-loop
+loop-less c = search needs
+
+loop-again : tie.Need-loop-again Inv-loop μ-loop
+loop-again c = search needs
+
+returns-2 : tie.Need-returns-2 Inv-loop μ-loop
+returns-2 c = search needs
+
+pub holds-numbers-spec : {M : Type 1} → statement M
+holds-numbers-spec =
+    tie.close
+    (tie.spec
+    Inv-loop
+    μ-loop
+    loop-holds
+    number-or-requires
+    mul-if1
+    element-copy-out-if1
+    returns
+    add-i
+    loop-less
+    loop-again
+    returns-2)

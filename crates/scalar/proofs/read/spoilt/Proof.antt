@@ -1,0 +1,61 @@
+use Rattle.scalar.proofs.Reading.{spoilt-laws}
+use borrow.Author.Needs.{needs}
+use Rattle.scalar.proofs.read.spoilt.Statement.{statement}
+use Rattle.scalar.proofs.read.spoilt.Tie as tie
+
+enum-known-text : tie.Need-enum-known-text
+enum-known-text c = search needs
+
+span-requires : tie.Need-span-requires
+span-requires c κs = search spoilt-laws
+
+measure-requires : tie.Need-measure-requires
+measure-requires c κs = search needs
+
+enum-told : tie.Need-enum-told
+enum-told c = search needs
+
+enum-told-2 : tie.Need-enum-told-2
+enum-told-2 c = search needs
+
+enum-told-3 : tie.Need-enum-told-3
+enum-told-3 c = search needs
+
+enum-told-4 : tie.Need-enum-told-4
+enum-told-4 c = search needs
+
+enum-known-text-2 : tie.Need-enum-known-text-2
+enum-known-text-2 c = search needs
+
+returns : tie.Need-returns
+returns c = search spoilt-laws
+
+returns-2 : tie.Need-returns-2
+returns-2 c = search spoilt-laws
+
+returns-3 : tie.Need-returns-3
+returns-3 c = search spoilt-laws
+
+returns-4 : tie.Need-returns-4
+returns-4 c = search spoilt-laws
+
+returns-5 : tie.Need-returns-5
+returns-5 c = search spoilt-laws
+
+pub spoilt-spec : {M : Type 1} → statement M
+spoilt-spec =
+    tie.close
+    (tie.spec
+    enum-known-text
+    span-requires
+    measure-requires
+    enum-told
+    enum-told-2
+    enum-told-3
+    enum-told-4
+    enum-known-text-2
+    returns
+    returns-2
+    returns-3
+    returns-4
+    returns-5)

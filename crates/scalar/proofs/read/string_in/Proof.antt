@@ -1,0 +1,49 @@
+use Rattle.scalar.proofs.Reading.{string-in-laws}
+use borrow.Author.Needs.{needs}
+use Rattle.scalar.proofs.read.string_in.Statement.{statement}
+use Rattle.scalar.proofs.read.string_in.Tie as tie
+
+unescape-requires : tie.Need-unescape-requires
+unescape-requires c κs = search needs
+
+enum-known-n : tie.Need-enum-known-n
+enum-known-n c = search needs
+
+enum-told : tie.Need-enum-told
+enum-told c = search needs
+
+enum-told-2 : tie.Need-enum-told-2
+enum-told-2 c = search needs
+
+same-length : tie.Need-same-length
+same-length c = search needs
+
+returns : tie.Need-returns
+returns c = search string-in-laws
+
+same-length-2 : tie.Need-same-length-2
+same-length-2 c = search needs
+
+returns-2 : tie.Need-returns-2
+returns-2 c = search string-in-laws
+
+same-length-3 : tie.Need-same-length-3
+same-length-3 c = search needs
+
+returns-3 : tie.Need-returns-3
+returns-3 c = search string-in-laws
+
+pub string-in-spec : {M : Type 1} → statement M
+string-in-spec =
+    tie.close
+    (tie.spec
+    unescape-requires
+    enum-known-n
+    enum-told
+    enum-told-2
+    same-length
+    returns
+    same-length-2
+    returns-2
+    same-length-3
+    returns-3)
