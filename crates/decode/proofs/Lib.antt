@@ -11,3 +11,4 @@ pub mod Seeking
 pub mod Attributes
 pub mod Pieces
 pub mod Texts
+pub mod Readers

@@ -26,6 +26,13 @@ pub struct Cursor {
     pub depth: Depth,
 }
 
+// The rows of a view, which are lent, and the number of the next row. The functions over it are few and thin, since each is proved by hand:
+// they take it apart, and leave the loops to functions of a slice and numbers.
+pub struct Reader<'a> {
+    pub rows: &'a [u32],
+    pub next: usize,
+}
+
 // Where it stands once a scope is over, and whether the scope's own end was read.
 pub struct Past {
     pub ended: bool,
@@ -116,15 +123,29 @@ fn over(ended: bool, row: usize, d: usize) -> Past
     }
 }
 
-// On to the end of a scope.
-pub fn skip(body: &[u8], rows: &[u32], n: usize, scope: ScopeRow, at: Cursor) -> Past
+// A reader that stands before a row.
+pub fn reader_at<'a>(rows: &'a [u32], next: usize) -> Reader<'a>
+    ensures { λ r. ⌜ (r .rows ≡ rows .entry) × (r .next ≡ next) ⌝ }
+{
+    Reader { rows, next }
+}
+
+// On to the end of a scope, from a depth and a row.
+fn skip_from(
+    body: &[u8],
+    rows: &[u32],
+    n: usize,
+    scope: ScopeRow,
+    depth: Depth,
+    from: usize,
+) -> Past
     requires { ⌜ Sees (now body) (now rows) n ⌝ }
     requires { ⌜ HasRow (now rows) scope ⌝ }
-    requires { ⌜ At (now body) (now rows) n (at .depth .0) (at .row) ⌝ }
-    ensures { λ r. ⌜ PastIs (now (body .entry)) (now (rows .entry)) n scope (at .depth .0) (at .row) r ⌝ }
+    requires { ⌜ At (now body) (now rows) n (depth .0) from ⌝ }
+    ensures { λ r. ⌜ PastIs (now (body .entry)) (now (rows .entry)) n scope (depth .0) from r ⌝ }
 {
-    let mut k = at.row;
-    let mut d = at.depth.0;
+    let mut k = from;
+    let mut d = depth.0;
     while k < n {
         let kind = field(rows, k, 0);
         if kind == 1 {
@@ -139,6 +160,32 @@ pub fn skip(body: &[u8], rows: &[u32], n: usize, scope: ScopeRow, at: Cursor) ->
         }
     }
     over(false, k, d)
+}
+
+// The same from a reader.
+pub fn skip_on<'b, 'a>(
+    body: &'b [u8],
+    reader: Reader<'a>,
+    n: usize,
+    scope: ScopeRow,
+    depth: Depth,
+) -> Past
+    requires { ⌜ Sees (now body) (now (reader .rows)) n ⌝ }
+    requires { ⌜ HasRow (now (reader .rows)) scope ⌝ }
+    requires { ⌜ At (now body) (now (reader .rows)) n (depth .0) (reader .next) ⌝ }
+    ensures { λ r. ⌜ PastIs (now (body .entry)) (now (reader .entry .rows)) n scope (depth .0) (reader .entry .next) r ⌝ }
+{
+    skip_from(body, reader.rows, n, scope, depth, reader.next)
+}
+
+// The same from a place. Its parameters are plain, so that whoever calls it needs no proof by hand.
+pub fn skip(body: &[u8], rows: &[u32], n: usize, scope: ScopeRow, at: Cursor) -> Past
+    requires { ⌜ Sees (now body) (now rows) n ⌝ }
+    requires { ⌜ HasRow (now rows) scope ⌝ }
+    requires { ⌜ At (now body) (now rows) n (at .depth .0) (at .row) ⌝ }
+    ensures { λ r. ⌜ PastIs (now (body .entry)) (now (rows .entry)) n scope (at .depth .0) (at .row) r ⌝ }
+{
+    skip_on(body, reader_at(rows, at.row), n, scope, at.depth)
 }
 
 // Whether the value of row k unescapes.
@@ -216,15 +263,15 @@ fn start_tag(body: &[u8], rows: &[u32], n: usize, d: usize, i: usize) -> Next
     Next::Gone(over(false, k + 1, d + 1))
 }
 
-// The next start element of a scope.
-pub fn next_start_element(body: &[u8], rows: &[u32], n: usize, scope: ScopeRow, at: Cursor) -> Next
+// The next start element of a scope, from a depth and a row.
+fn next_from(body: &[u8], rows: &[u32], n: usize, scope: ScopeRow, depth: Depth, row: usize) -> Next
     requires { ⌜ Sees (now body) (now rows) n ⌝ }
     requires { ⌜ HasRow (now rows) scope ⌝ }
-    requires { ⌜ Outside (now body) (now rows) n (at .depth .0) (at .row) ⌝ }
-    ensures { λ r. ⌜ NextIs (now (body .entry)) (now (rows .entry)) n scope (at .depth .0) (at .row) r ⌝ }
+    requires { ⌜ Outside (now body) (now rows) n (depth .0) row ⌝ }
+    ensures { λ r. ⌜ NextIs (now (body .entry)) (now (rows .entry)) n scope (depth .0) row r ⌝ }
 {
-    let mut k = at.row;
-    let mut d = at.depth.0;
+    let mut k = row;
+    let mut d = depth.0;
     while k < n {
         let kind = field(rows, k, 0);
         if kind == 1 {
@@ -237,6 +284,32 @@ pub fn next_start_element(body: &[u8], rows: &[u32], n: usize, scope: ScopeRow, 
         k += 1;
     }
     Next::Gone(over(false, k, d))
+}
+
+// The same from a reader.
+pub fn next_start<'b, 'a>(
+    body: &'b [u8],
+    reader: Reader<'a>,
+    n: usize,
+    scope: ScopeRow,
+    depth: Depth,
+) -> Next
+    requires { ⌜ Sees (now body) (now (reader .rows)) n ⌝ }
+    requires { ⌜ HasRow (now (reader .rows)) scope ⌝ }
+    requires { ⌜ Outside (now body) (now (reader .rows)) n (depth .0) (reader .next) ⌝ }
+    ensures { λ r. ⌜ NextIs (now (body .entry)) (now (reader .entry .rows)) n scope (depth .0) (reader .entry .next) r ⌝ }
+{
+    next_from(body, reader.rows, n, scope, depth, reader.next)
+}
+
+// The same from a place, by plain parameters as in `skip`.
+pub fn next_start_element(body: &[u8], rows: &[u32], n: usize, scope: ScopeRow, at: Cursor) -> Next
+    requires { ⌜ Sees (now body) (now rows) n ⌝ }
+    requires { ⌜ HasRow (now rows) scope ⌝ }
+    requires { ⌜ Outside (now body) (now rows) n (at .depth .0) (at .row) ⌝ }
+    ensures { λ r. ⌜ NextIs (now (body .entry)) (now (rows .entry)) n scope (at .depth .0) (at .row) r ⌝ }
+{
+    next_start(body, reader_at(rows, at.row), n, scope, at.depth)
 }
 
 // The first start element of all.
