@@ -9,13 +9,14 @@ use borrow.Author.Needs.{needs}
 use borrow.Author.Tests.{eq-eqb, ne-eqb, leb-true, leb-false}
 use lib.Dec.{eqb, leb, ltb}
 use lib.ListN.{length, getD}
+use lib.Seq.{sets}
 use Rattle.lists.specs.Tests.{pick}
 use Rattle.lists.specs.Decide.{Says, says-no, says-same, says-not, says-ltb}
 use Rattle.table.specs.Row.{Row}
 use Rattle.table.specs.Rules.{among}
-use Rattle.table.specs.Flat.{rowAt, rowsFrom, unroll, rolled-out}
+use Rattle.table.specs.Flat.{rowAt, rowsFrom, length-rows, unroll, rolled-out}
 use Rattle.table.specs.Piece.{openCount, closing}
-use Rattle.element.specs.Rows.{openAfter, StartsAfter, FirstAfter}
+use Rattle.element.specs.Rows.{openAfter, StartsAfter, FirstAfter, movedTable, OwnRows}
 
 -- ---- the start row
 pub row-in : (t : List ℕ) {k : ℕ} → k < length t / 8 → k * 8 + 8 ≤ length t
@@ -134,3 +135,32 @@ module _ {t : List ℕ} {k n j : ℕ} (c : Counting t k n j) where
         z ∙ (ap (λ (x : ℕ). (j - k) + x) (sym (closing-here n (rowAt t j) later (sym is ∙ f))) ∙ rest-is)
 
 pub ruleset counting-laws = (needs, row-in, counting-start, counting-out, counting-few, counting-more, counting-done)
+
+-- ---- the whole
+pub closing-low : (n : ℕ) (l : List Row) → closing n l ≤ length l
+unfolding closing
+closing-low n [] = omega arith
+closing-low n (r ∷ l) = go (eqb (openCount n r) 0) (closing-low (openCount n r) l)
+  where
+    go : (b : Bool) → closing (openCount n r) l ≤ length l → suc (pick b 0 (closing (openCount n r) l)) ≤ suc (length l)
+    go true h = omega arith
+    go false h = omega arith
+
+module _ {t : List ℕ} {w k n : ℕ} (f : FirstAfter t w k) (c : n ≡ closing 0 (rowsFrom t k (length t / 8 - k))) where
+  few : n ≤ length t / 8 - k
+  few = rw c (omega (arith, closing-low 0 (rowsFrom t k (length t / 8 - k)), length-rows t k (length t / 8 - k)))
+
+  pub own-in : (k + n) * 8 ≤ length t
+  own-in = omega (arith, few, f .high)
+
+  module _ {place : ℕ} (q : w ≡ place) where
+    pub own-none : (old : List ℕ) → length old / 8 < n → OwnRows t place old old 0
+    own-none old h = record { row = k; first = rw q at f; fit = λ g. absurd (omega (arith, c)); short = λ g. (refl, refl) }
+
+    pub own-all : {old new : List ℕ} → new ≡ sets old 0 (movedTable place (rowsFrom t k n)) → n ≤ length old / 8 → OwnRows t place old new n
+    own-all e h = record { row = k; first = rw q at f; fit = λ g. (c, e); short = λ g. absurd (omega (arith, c)) }
+
+pub own-high : {t : List ℕ} {place k : ℕ} → FirstAfter t place k → k ≤ length t / 8
+own-high f = f .high
+
+pub ruleset own-laws = (needs, own-in, own-none, own-all, own-high)

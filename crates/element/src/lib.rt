@@ -8,7 +8,7 @@ ghost use Rattle.lists.specs.Tests.{pick};
 ghost use Rattle.lists.specs.Decide.{Says};
 ghost use Rattle.table.specs.Flat.{rowAt, rowsFrom};
 ghost use Rattle.table.specs.Piece.{moved, movedSpan, closing};
-ghost use Rattle.element.specs.Rows.{eightNumbers, movedTable, openAfter, StartsAfter, FirstAfter};
+ghost use Rattle.element.specs.Rows.{eightNumbers, movedTable, openAfter, StartsAfter, FirstAfter, OwnRows};
 use table::field;
 use table::uses_name;
 
@@ -26,7 +26,7 @@ fn starts_after(rows: &[u32], k: usize, place: usize) -> bool
 }
 
 // The first start row whose local name stands after a place: the row of the element that begins there, if one does.
-pub fn start_row(rows: &[u32], place: usize) -> usize
+fn start_row(rows: &[u32], place: usize) -> usize
     ensures { λ r. ⌜ FirstAfter (now (rows .entry)) place r ⌝ }
 {
     let n = rows.len() / 8;
@@ -68,7 +68,7 @@ fn open_after(kind: usize, n: usize) -> usize
 }
 
 // How many rows an element has that starts in row k: up to the row after which no element of its is open, or to the last.
-pub fn row_count(rows: &[u32], k: usize) -> usize
+fn row_count(rows: &[u32], k: usize) -> usize
     requires { ⌜ k ≤ length (now rows) / 8 ⌝ }
     ensures { λ r. ⌜ r ≡ closing 0 (rowsFrom (now (rows .entry)) k (length (now (rows .entry)) / 8 - k)) ⌝ }
 {
@@ -152,7 +152,7 @@ fn put_row(rows: &[u32], k: usize, place: u32, out: &mut [u32], i: usize)
 }
 
 // The n rows from row k on, counted from a place, at the front of another table.
-pub fn put_rows(rows: &[u32], k: usize, n: usize, place: u32, out: &mut [u32])
+fn put_rows(rows: &[u32], k: usize, n: usize, place: u32, out: &mut [u32])
     requires { ⌜ (k + n) * 8 ≤ length (now rows) ⌝ }
     requires { ⌜ n * 8 ≤ length (now out) ⌝ }
     ensures { λ _. ⌜ now (out .exit) ≡ sets (now (out .entry)) 0 (movedTable place (rowsFrom (now (rows .entry)) k n)) ⌝ }
@@ -162,4 +162,24 @@ pub fn put_rows(rows: &[u32], k: usize, n: usize, place: u32, out: &mut [u32])
         put_row(rows, k + i, place, out, i);
         i += 1;
     }
+}
+
+fn wide(x: u32) -> usize
+    ensures { λ r. ⌜ r ≡ x ⌝ }
+{
+    x as usize
+}
+
+// The rows of the element that begins at a place, counted from there, at the front of another table: how many they are. Where there is no
+// room for all of them nothing is written, and the answer is 0.
+pub fn own_rows(rows: &[u32], place: u32, out: &mut [u32]) -> usize
+    ensures { λ r. ⌜ OwnRows (now (rows .entry)) place (now (out .entry)) (now (out .exit)) r ⌝ }
+{
+    let k = start_row(rows, wide(place));
+    let n = row_count(rows, k);
+    if out.len() / 8 < n {
+        return 0;
+    }
+    put_rows(rows, k, n, place, out);
+    n
 }
