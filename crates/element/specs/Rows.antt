@@ -35,8 +35,8 @@ pub record FirstAfter (rows : List ℕ) (place r : ℕ) : Type 0 where
   pub found : r < length rows / 8 → StartsAfter rows place r
   pub first : (k : ℕ) → k < r → StartsAfter rows place k → ⊥
 
--- the rows of the first such row's element, counted from the place, stand at the front of a table that held old, and r is how many they are; where they
--- do not all fit, the table holds what it held, and r is 0
+-- the rows of the first such row's element, counted from the place, stand at the front of a table that held old, and r is how many they
+-- are; where they do not all fit, the table holds what it held, and r is 0
 pub record OwnRows (rows : List ℕ) (place : ℕ) (old new : List ℕ) (r : ℕ) : Type 0 where
   pub row : ℕ
   pub first : FirstAfter rows place row

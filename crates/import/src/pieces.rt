@@ -1,5 +1,5 @@
-// An upload drained, read, and each of its pieces read again by its own rows, as an import service does: what demand 3 says of these calls is
-// proved from the contracts of the drain and of the readings alone.
+// An upload drained, read, and each of its pieces read again by its own rows, as an import service does: what demand 3 says of these
+// calls is proved from the contracts of the drain and of the readings alone.
 ghost use mathlib.Core.Path.{_≡_};
 ghost use Prim.Native.Nat.{_*_, _≤_};
 ghost use lib.ListN.{length};
@@ -39,8 +39,8 @@ fn read_piece(
     requires { ⌜ PassedTable (now body) (now rows) ⌝ }
     requires { ⌜ ElementPiece (now body) (now rows) start len ⌝ }
     requires { ⌜ 65536 ≤ length (now table) ⌝ }
-    ensures { λ r. ⌜ Reread (shapeOf kind) (now (body .entry)) (now (rows .entry)) start len (now (sheet .entry)) (settingsBy flags «max_depth»)
-        (length (now (entries .entry))) (length (now (texts .entry))) r ⌝ }
+    ensures { λ r. ⌜ Reread (shapeOf kind) (now (body .entry)) (now (rows .entry)) start len (now (sheet .entry))
+        (settingsBy flags «max_depth») (length (now (entries .entry))) (length (now (texts .entry))) r ⌝ }
 {
     let from = wide(start);
     let to = from + wide(len);
@@ -74,15 +74,14 @@ fn read_entry(
     flags: u32,
     max_depth: u32,
     numbers: &mut [u32],
-    table: &mut [u32],
     piece_entries: &mut [u32],
     piece_texts: &mut [u8],
 )
     requires { ⌜ PassedTable (now body) (now rows) ⌝ }
     requires { ⌜ PieceAt (now body) (now rows) (now entries) (k * 6) ⌝ }
-    requires { ⌜ 65536 ≤ length (now table) ⌝ }
-    ensures { λ _. ⌜ RereadOne (shapeOf kind) (now (body .entry)) (now (rows .entry)) (now (entries .entry)) (now (sheet .entry)) (settingsBy flags «max_depth»)
-        (length (now («piece_entries» .entry))) (length (now («piece_texts» .entry))) (now (numbers .entry)) (now (numbers .exit)) k ⌝ }
+    ensures { λ _. ⌜ RereadOne (shapeOf kind) (now (body .entry)) (now (rows .entry)) (now (entries .entry))
+        (now (sheet .entry)) (settingsBy flags «max_depth») (length (now («piece_entries» .entry))) (length (now («piece_texts» .entry)))
+        (now (numbers .entry)) (now (numbers .exit)) k ⌝ }
 {
     if entries.len() / 6 <= k {
         return;
@@ -95,6 +94,7 @@ fn read_entry(
     }
     let start = entries[k * 6 + 4];
     let len = entries[k * 6 + 5];
+    let mut table = [0u32; 65536];
     numbers[k] = read_piece(
         kind,
         body,
@@ -104,7 +104,7 @@ fn read_entry(
         sheet,
         flags,
         max_depth,
-        table,
+        &mut table,
         piece_entries,
         piece_texts,
     );
@@ -126,10 +126,10 @@ fn read_pieces(
 )
     requires { ⌜ PassedTable (now body) (now rows) ⌝ }
     requires { ⌜ PiecesIn (now body) (now rows) (now entries) count ⌝ }
-    ensures { λ _. ⌜ EachReread (shapeOf kind) (now (body .entry)) (now (rows .entry)) (now (entries .entry)) count (now (sheet .entry))
-        (settingsBy flags «max_depth») (length (now («piece_entries» .entry))) (length (now («piece_texts» .entry))) (now (numbers .exit)) ⌝ }
+    ensures { λ _. ⌜ EachReread (shapeOf kind) (now (body .entry)) (now (rows .entry)) (now (entries .entry))
+        count (now (sheet .entry)) (settingsBy flags «max_depth») (length (now («piece_entries» .entry)))
+        (length (now («piece_texts» .entry))) (now (numbers .exit)) ⌝ }
 {
-    let mut table = [0u32; 65536];
     let mut k = 0;
     while k < count {
         read_entry(
@@ -142,7 +142,6 @@ fn read_pieces(
             flags,
             max_depth,
             numbers,
-            &mut table,
             piece_entries,
             piece_texts,
         );
@@ -167,9 +166,9 @@ pub fn import(
     piece_entries: &mut [u32],
     piece_texts: &mut [u8],
 ) -> Imported
-    ensures { λ r. ⌜ ImportCall (shapeOf kind) (shapeOf «piece_kind») (now (body .entry)) (now (rows .entry)) end (now (sheet .entry)) (now («piece_sheet» .entry))
-        (settingsBy flags «max_depth») (now (entries .entry)) (now (texts .entry)) (now (entries .exit)) (now (texts .exit)) (now (numbers .entry))
-        (now (numbers .exit)) (length (now («piece_entries» .entry))) (length (now («piece_texts» .entry))) r ⌝ }
+    ensures { λ r. ⌜ ImportCall (shapeOf kind) (shapeOf «piece_kind») (now (body .entry)) (now (rows .entry)) end
+        (now (sheet .entry)) (now («piece_sheet» .entry)) (settingsBy flags «max_depth») (now (entries .entry)) (now (texts .entry))
+        (now (entries .exit)) (now (texts .exit)) (now (numbers .entry)) (now (numbers .exit)) (length (now («piece_entries» .entry))) (length (now («piece_texts» .entry))) r ⌝ }
 {
     let mut row = 0;
     let mut cause = 0;

@@ -1,3 +1,4 @@
+-- By whether the row has a name.
 use Rattle.element.proofs.Numbers.{number-laws}
 use borrow.Author.Needs.{needs}
 use Rattle.element.proofs.moved_local.Statement.{statement}

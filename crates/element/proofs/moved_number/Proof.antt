@@ -1,3 +1,4 @@
+-- The four numbers that are places, and the four that stay.
 use Rattle.element.proofs.Numbers.{moved-laws}
 use borrow.Author.Needs.{needs}
 use Rattle.element.proofs.moved_number.Statement.{statement}

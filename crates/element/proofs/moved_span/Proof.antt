@@ -1,3 +1,4 @@
+-- An empty span stays; of a filled one the place is taken off.
 use Rattle.element.proofs.Numbers.{number-laws}
 use borrow.Author.Needs.{needs}
 use Rattle.element.proofs.moved_span.Statement.{statement}

@@ -1,3 +1,4 @@
+-- The four kinds, one by one.
 use Rattle.element.proofs.Rows.{open-laws}
 use borrow.Author.Needs.{needs}
 use Rattle.element.proofs.open_after.Statement.{statement}

@@ -1,3 +1,4 @@
+-- The row that was found, its rows counted, and copied where they fit.
 use Rattle.element.proofs.Rows.{own-laws}
 use borrow.Author.Needs.{needs}
 use Rattle.element.proofs.own_rows.Statement.{statement}

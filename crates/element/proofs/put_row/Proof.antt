@@ -1,3 +1,4 @@
+-- Eight stores, one after another.
 use Rattle.element.specs.Rows.{eightNumbers}
 use Rattle.table.specs.Piece.{moved}
 use Rattle.table.specs.Flat.{rowAt}

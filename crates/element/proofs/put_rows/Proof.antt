@@ -1,3 +1,4 @@
+-- Each row is stored after the one before.
 use Prim.Native.Nat.{_-_}
 use Rattle.element.proofs.Numbers.{copying-laws, Copying}
 use Rattle.element.proofs.put_rows.Statement.{statement}

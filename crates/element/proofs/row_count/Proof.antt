@@ -1,3 +1,4 @@
+-- The rows counted so far and those that close the rest make up all of them.
 use Prim.Native.Nat.{_-_}
 use Rattle.element.proofs.Rows.{counting-laws, Counting}
 use Rattle.element.proofs.row_count.Statement.{statement}

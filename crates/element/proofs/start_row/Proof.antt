@@ -1,3 +1,4 @@
+-- No earlier row starts an element after the place; the row that does is the answer.
 use Prim.Native.Nat.{_-_}
 use Rattle.element.proofs.Rows.{seeking-laws, Seeking}
 use Rattle.element.proofs.start_row.Statement.{statement}

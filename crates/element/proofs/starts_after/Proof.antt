@@ -1,3 +1,4 @@
+-- Both tests are the two halves of what is asked.
 use Rattle.element.proofs.Rows.{starts-laws}
 use borrow.Author.Needs.{needs}
 use Rattle.element.proofs.starts_after.Statement.{statement}
