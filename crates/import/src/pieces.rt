@@ -168,7 +168,8 @@ pub fn import(
 ) -> Imported
     ensures { λ r. ⌜ ImportCall (shapeOf kind) (shapeOf «piece_kind») (now (body .entry)) (now (rows .entry)) end
         (now (sheet .entry)) (now («piece_sheet» .entry)) (settingsBy flags «max_depth») (now (entries .entry)) (now (texts .entry))
-        (now (entries .exit)) (now (texts .exit)) (now (numbers .entry)) (now (numbers .exit)) (length (now («piece_entries» .entry))) (length (now («piece_texts» .entry))) r ⌝ }
+        (now (entries .exit)) (now (texts .exit)) (now (numbers .entry)) (now (numbers .exit))
+        (length (now («piece_entries» .entry))) (length (now («piece_texts» .entry))) r ⌝ }
 {
     let mut row = 0;
     let mut cause = 0;
