@@ -30,7 +30,7 @@ pub fn field(rows: &[u32], k: usize, j: usize) -> usize
 // ---- sets of kinds
 
 // Kinds that have a name.
-fn uses_name(kind: usize) -> bool
+pub fn uses_name(kind: usize) -> bool
     ensures { λ r. ⌜ r ≡ usesName kind ⌝ }
 {
     if kind == 1 {
