@@ -13,8 +13,10 @@ use Rattle.refusal.specs.declared.Refusal.{Refusal}
 use Rattle.sheet.specs.declared.ShapeDepth.{ShapeDepth}
 use Rattle.sheet.specs.Settings.{Settings}
 use Rattle.readings.specs.Output.{Entry, Output, Room, Reading, output, outcome, sixNumbers, numbersOf}
-use Rattle.readings.specs.Demand.Promise.{Handed, Promised, finishes, refuses, promised-output, Condition, read}
-use Rattle.readings.specs.Demand.Theorem.{demand-3}
+use Rattle.readings.specs.Shape as readings
+use Rattle.readings.specs.Shape.{read}
+use Rattle.readings.specs.Demand.Promise.{Handed, Promised, finishes, refuses}
+use Rattle.readings.specs.Demand.Theorem.{demand-3, promised-output}
 use Rattle.output.specs.Held.{roomOf}
 use Rattle.output.specs.Call.{ReadingCall}
 use Rattle.deserializer.specs.declared.Shape.{Shape}
@@ -50,9 +52,10 @@ pieces-of {body} {table} (y ∷ l) every x (suc k) h =
     (later-piece y (numbersOf l ++ x) (k * 6) (pieces-of l (every-rest every) x k (omega arith))))
 
 -- ---- the number
-may-answer : {Holds : Refusal → Output → Type 0} {body table sheet : List ℕ} {x : Reading} → Promised Holds body table sheet x → MayAnswer (outcome x)
+may-answer : {body table : List ℕ} {final : ℕ} {sheet : List ℕ} {settings : Settings} {depth : ShapeDepth} {room : Room} {shape : readings.Shape} {x : Reading}
+    → Promised body table final sheet settings depth room shape x → MayAnswer shape body table final sheet settings depth room (outcome x)
 may-answer (finishes a) = finished
-may-answer (refuses m h a) = refused m
+may-answer (refuses m a) = refused m
 
 -- ---- from the promise of a call
 module _ {body table : List ℕ} {final : ℕ} {sheet : List ℕ} {settings : Settings} {depth : ShapeDepth} {e t e′ t′ : List ℕ} {n m r : ℕ} where
@@ -62,6 +65,7 @@ module _ {body table : List ℕ} {final : ℕ} {sheet : List ℕ} {settings : Se
   keeps shape order c =
       record {
         kept = λ p. record {
+          order = order;
           number = rw (c .number) (may-answer (holds p order));
           pieces = rw (c .entries, c .count)
               (record { each = pieces-of (entries order) (promised-output (holds p order) .each) (drop (length (numbersOf (entries order))) e) });
@@ -73,7 +77,7 @@ module _ {body table : List ℕ} {final : ℕ} {sheet : List ℕ} {settings : Se
       entries order = output (read (shapeAt shape order) body table final sheet settings depth (roomOf e t)) .entries
 
       holds : drained body table final ≡ Drained.Passes → (order : List ℕ)
-          → Promised (Condition (shapeAt shape order) body table final sheet settings depth (roomOf e t)) body table sheet
+          → Promised body table final sheet settings depth (roomOf e t) (shapeAt shape order)
           (read (shapeAt shape order) body table final sheet settings depth (roomOf e t))
       holds p order = demand-3 (drained-passes-is body table final .0 p) (shapeAt shape order) sheet settings depth (roomOf e t)
 

@@ -1,4 +1,4 @@
--- Demand 3: its notions, its steps, and the theorem.
+-- Demand 3: what is promised, that what is written keeps it, and the theorem.
 pub mod Promise
-pub mod Keeps
+pub mod Handed
 pub mod Theorem

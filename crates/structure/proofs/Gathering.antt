@@ -19,7 +19,7 @@ use Rattle.sheet.specs.Sheet.{Member, Structure}
 use Rattle.sheet.specs.Names.{indexed}
 use Rattle.readings.specs.Output.{Room, Output}
 use Rattle.readings.specs.Structure.{groupOf}
-use Rattle.readings.specs.Conditions.Groups.{together}
+use Rattle.readings.specs.Notions.{together}
 use Rattle.readings.specs.Laws.Order.{grouped, memberOrder}
 use Rattle.output.specs.declared.Written.{Written}
 use Rattle.output.specs.declared.Step.{Step}

@@ -9,7 +9,7 @@ use Rattle.document.specs.Scope.{Child}
 use Rattle.sheet.specs.Sheet.{Structure}
 use Rattle.readings.specs.Output.{Room, Output, Reading}
 use Rattle.readings.specs.Structure.{groupOf}
-use Rattle.readings.specs.Conditions.Groups.{together}
+use Rattle.readings.specs.Notions.{together}
 use Rattle.readings.specs.Laws.Order.{hasGroup, memberOrder}
 use Rattle.output.specs.declared.Written.{Written}
 use Rattle.output.specs.declared.Step.{Step}

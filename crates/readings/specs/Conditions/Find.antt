@@ -16,7 +16,8 @@ use Rattle.document.specs.View.{View, view}
 use Rattle.document.specs.Scope.{Child, rootOf, childrenOf, Piece, pieceOf}
 use Rattle.readings.specs.Opening.{withTable, present}
 use Rattle.readings.specs.Find.{hasLocal, firstChild, wholeBody, findIn, find}
-use Rattle.readings.specs.Conditions.Opening.{given-refused, refuses-same, TableBroken, NoRootSeen, obeyed, not-obeyed}
+use Rattle.readings.specs.Conditions.Answers.{given-refused, refuses-same}
+use Rattle.readings.specs.Conditions.Opening.{TableBroken, NoRootSeen, obeyed, not-obeyed}
 
 has-local : (name : List ℕ) (c : Child) → (hasLocal name c ≡ false) ↔ (c .start .name .local ≡ name → ⊥)
 has-local name c = (λ p e. false-true {A = ⊥} (sym p ∙ rw e (same-self name)), go (hasLocal name c) refl)

@@ -1,6 +1,6 @@
 -- 01, "Numbers": "No other number". The numbers with which each reading may be refused, on every input.
 use Prim.Native.Nat.{ℕ}
-use mathlib.Core.Path.{_≡_, refl}
+use mathlib.Core.Path.{_≡_, refl, subst}
 use mathlib.Core.Bool.{Bool, true}
 use mathlib.Core.List.{List, [], _∷_}
 use Rattle.refusal.specs.declared.Refusal.{Refusal}
@@ -15,16 +15,15 @@ use Rattle.document.specs.View.{failureOf}
 use Rattle.sheet.specs.declared.ShapeDepth.{ShapeDepth}
 use Rattle.sheet.specs.Settings.{Settings}
 use Rattle.readings.specs.Output.{Room, Output, refused}
-use Rattle.readings.specs.Structure.{structureReading}
-use Rattle.readings.specs.Collection.{listReading, stringListReading, mapReading}
+use Rattle.readings.specs.Opening.{Asked}
+use Rattle.readings.specs.Shape.{Shape, structure, list, map, strings, SheetOf, sheetOf, read}
 use Rattle.readings.specs.Scalar.{booleanReading, integerReading, stringReading, wholeText}
 use Rattle.readings.specs.Find.{find}
-use Rattle.readings.specs.Conditions.Opening.{broken-table, no-root, by-table, by-sheet, by-depth, by-root, before, while}
-use Rattle.readings.specs.Conditions.Room.{as-met, last, at-element}
+use Rattle.readings.specs.Conditions.Opening.{broken-table, no-root, by-table, by-sheet, by-depth, by-root, AskedAs}
 use Rattle.readings.specs.Conditions.View.{Stopped, at-drain, at-error}
-use Rattle.readings.specs.Conditions.Text.{NoText, element-inside, bad-reference, rows-end, passed}
-use Rattle.readings.specs.Conditions.Collection.{item-no-room, ListRefused, list-refusal, string-no-text, string-no-room, StringListRefused, string-list-refusal, entry-no-text, entry-no-room, MapRefused, map-refusal}
-use Rattle.readings.specs.Conditions.Structure.{attribute-no-room, child-no-room, at-attribute, at-child, after-children, at-groups, unwrapped-ill-formed, unwrapped-no-room, root-name, unwrapped, wrapped, StructureRefused, structure-refusal}
+use Rattle.readings.specs.Conditions.Text.{NoText, element-inside, bad-reference, rows-end, passed, opened-text-refusal}
+use Rattle.readings.specs.Conditions.Readings.{Ends, refused-before, refused-while, reading-ends}
+use Rattle.readings.specs.Runs.Next.{Stops, no-room, root-name, unwrapped-ill-formed, ill-formed, groups-full, item-no-room, list-ill-formed, string-no-room, string-no-text, strings-ill-formed, entry-no-room, field-no-text, map-ill-formed}
 use Rattle.readings.specs.Conditions.Values.{NotABoolean, not-boolean, NotAnInteger, not-integer, StringTooLong, too-long}
 use Rattle.readings.specs.Conditions.Scalar.{not-opened, no-text, after-the-rest, Unread, not-read, wrong, boolean-refusal, integer-refusal, string-refusal}
 use Rattle.readings.specs.Conditions.Find.{FindRefused, find-table, find-no-root, find-none, find-refusal}
@@ -62,114 +61,82 @@ module _ {body table : List ℕ} {final : ℕ} {strict : Bool} where
   text-number (rows-end w) = stopped-number w
   text-number (passed p w) = text-number w
 
--- ---- readings with a sheet
+-- ---- readings with a sheet: 1, 2, 3, 4, and then
+abbrev pub later : Shape → List ℕ
+later (structure order) = 5 ∷ 9 ∷ 10 ∷ []
+later list = 9 ∷ 10 ∷ []
+later map = 6 ∷ 7 ∷ 8 ∷ 9 ∷ 10 ∷ []
+later strings = 6 ∷ 7 ∷ 8 ∷ 9 ∷ 10 ∷ []
+
 text-among : {r : Refusal} → OfText r → Only (1 ∷ 2 ∷ 3 ∷ 4 ∷ 6 ∷ 7 ∷ 8 ∷ 9 ∷ 10 ∷ []) r
 text-among six = refl
 text-among seven = refl
 text-among eight = refl
 text-among nine = refl
 
-module _ (body table : List ℕ) (final : ℕ) (sheet : List ℕ) (settings : Settings) (depth : ShapeDepth) (room : Room) {r : Refusal} {out : Output} where
-  pub structure-numbers : (order : List ℕ) → structureReading body table final sheet settings depth room order ≡ refused r out → Only (1 ∷ 2 ∷ 3 ∷ 4 ∷ 5 ∷ 9 ∷ 10 ∷ []) r
-  structure-numbers order e = go (structure-refusal body table final sheet settings depth room order r out .0 e)
-    where
-      go : {q : Refusal} {o : Output} → StructureRefused body table final sheet settings depth room order q o → Only (1 ∷ 2 ∷ 3 ∷ 4 ∷ 5 ∷ 9 ∷ 10 ∷ []) q
-      go (before (by-table n)) = refl
-      go (before (by-sheet t n)) = refl
-      go (before (by-depth t s n)) = refl
-      go (before (by-root t s h n)) = refl
-      go (while w (root-name d)) = refl
-      go (while w (unwrapped d u (unwrapped-ill-formed f))) = refl
-      go (while w (unwrapped d u (unwrapped-no-room f m n))) = refl
-      go (while w (wrapped d u (at-attribute (at-element i (attribute-no-room a v n))))) = refl
-      go (while w (wrapped d u (at-child p (at-element i (child-no-room c n))))) = refl
-      go (while w (wrapped d u (after-children a f))) = refl
-      go (while w (wrapped d u (at-groups a f g))) = refl
+module _ (body table : List ℕ) (final : ℕ) (sheet : List ℕ) (settings : Settings) (depth : ShapeDepth) (room : Room) where
+  while-among : (shape : Shape) (a : Asked (SheetOf shape)) → AskedAs body table final (sheetOf shape sheet) settings depth a → (out : Output) (r : Refusal)
+      → Stops body settings depth room shape a out r → Only (1 ∷ 2 ∷ 3 ∷ 4 ∷ later shape) r
+  while-among (structure order) a w out r (no-room x n) = refl
+  while-among (structure order) a w out r (root-name d) = refl
+  while-among (structure order) a w out r (unwrapped-ill-formed u e) = refl
+  while-among (structure order) a w out r (ill-formed x e) = refl
+  while-among (structure order) a w out r (groups-full x e f) = refl
+  while-among list a w out r (item-no-room x n) = refl
+  while-among list a w out r (list-ill-formed x e) = refl
+  while-among map a w out r (entry-no-room x n) = refl
+  while-among map a w out r (field-no-text {field = c} x e i t f) = text-among (text-number (opened-text-refusal body table final (w .begun) c r .0 f .inside))
+  while-among map a w out r (map-ill-formed x e) = refl
+  while-among strings a w out r (string-no-room x n) = refl
+  while-among strings a w out r (string-no-text {c = c} x h f) = text-among (text-number (opened-text-refusal body table final (w .begun) c r .0 f .inside))
+  while-among strings a w out r (strings-ill-formed x e) = refl
 
-  pub list-numbers : listReading body table final sheet settings depth room ≡ refused r out → Only (1 ∷ 2 ∷ 3 ∷ 4 ∷ 9 ∷ 10 ∷ []) r
-  list-numbers e = go (list-refusal body table final sheet settings depth room r out .0 e)
+  pub reading-numbers : (shape : Shape) {r : Refusal} {out : Output} → read shape body table final sheet settings depth room ≡ refused r out → Only (1 ∷ 2 ∷ 3 ∷ 4 ∷ later shape) r
+  reading-numbers shape {r} {out} e = go (subst (Ends body table final sheet settings depth room shape) e (reading-ends body table final sheet settings depth room shape))
     where
-      go : {q : Refusal} {o : Output} → ListRefused body table final sheet settings depth room q o → Only (1 ∷ 2 ∷ 3 ∷ 4 ∷ 9 ∷ 10 ∷ []) q
-      go (before (by-table n)) = refl
-      go (before (by-sheet t n)) = refl
-      go (before (by-depth t s n)) = refl
-      go (before (by-root t s h n)) = refl
-      go (while w (as-met (at-element i (item-no-room p n)))) = refl
-      go (while w (last p f)) = refl
+      go : {q : Refusal} {o : Output} → Ends body table final sheet settings depth room shape (refused q o) → Only (1 ∷ 2 ∷ 3 ∷ 4 ∷ later shape) q
+      go (refused-before (by-table n)) = refl
+      go (refused-before (by-sheet t n)) = refl
+      go (refused-before (by-depth t s n)) = refl
+      go (refused-before (by-root t s h n)) = refl
+      go (refused-while {a = a} {out = o} {r = q} w x) = while-among shape a w o q x
 
-  pub string-list-numbers : stringListReading body table final sheet settings depth room ≡ refused r out → Only (1 ∷ 2 ∷ 3 ∷ 4 ∷ 6 ∷ 7 ∷ 8 ∷ 9 ∷ 10 ∷ []) r
-  string-list-numbers e = go (string-list-refusal body table final sheet settings depth room r out .0 e)
+-- ---- scalars: 1, 4, 6 to 9, and then one of their own
+module _ (body table : List ℕ) (final : ℕ) (settings : Settings) (depth : ShapeDepth) where
+  unread-among : (last : ℕ) {Wrong : List ℕ → Refusal → Type 0} → ((t : List ℕ) (q : Refusal) → Wrong t q → Only (1 ∷ 4 ∷ 6 ∷ 7 ∷ 8 ∷ 9 ∷ last ∷ []) q)
+      → (r : Refusal) → Unread body table final settings depth Wrong r → Only (1 ∷ 4 ∷ 6 ∷ 7 ∷ 8 ∷ 9 ∷ last ∷ []) r
+  unread-among last {Wrong} f r w = go w
     where
-      go : {q : Refusal} {o : Output} → StringListRefused body table final sheet settings depth room q o → Only (1 ∷ 2 ∷ 3 ∷ 4 ∷ 6 ∷ 7 ∷ 8 ∷ 9 ∷ 10 ∷ []) q
-      go (before (by-table n)) = refl
-      go (before (by-sheet t n)) = refl
-      go (before (by-depth t s n)) = refl
-      go (before (by-root t s h n)) = refl
-      go (while w (as-met (at-element i (string-no-text p n)))) = text-among (text-number (n .inside))
-      go (while w (as-met (at-element i (string-no-room p t n)))) = refl
-      go (while w (last p f)) = refl
-
-  pub map-numbers : mapReading body table final sheet settings depth room ≡ refused r out → Only (1 ∷ 2 ∷ 3 ∷ 4 ∷ 6 ∷ 7 ∷ 8 ∷ 9 ∷ 10 ∷ []) r
-  map-numbers e = go (map-refusal body table final sheet settings depth room r out .0 e)
-    where
-      go : {q : Refusal} {o : Output} → MapRefused body table final sheet settings depth room q o → Only (1 ∷ 2 ∷ 3 ∷ 4 ∷ 6 ∷ 7 ∷ 8 ∷ 9 ∷ 10 ∷ []) q
-      go (before (by-table n)) = refl
-      go (before (by-sheet t n)) = refl
-      go (before (by-depth t s n)) = refl
-      go (before (by-root t s h n)) = refl
-      go (while w (as-met (at-element i (entry-no-text p n)))) = text-among (text-number (n .refused .noText .inside))
-      go (while w (as-met (at-element i (entry-no-room p f k x n)))) = refl
-      go (while w (last p f)) = refl
-
--- ---- scalars
-module _ (body table : List ℕ) (final : ℕ) (settings : Settings) (depth : ShapeDepth) {r : Refusal} where
-  pub boolean-numbers : booleanReading body table final settings depth ≡ refuses r → Only (1 ∷ 4 ∷ 6 ∷ 7 ∷ 8 ∷ 9 ∷ 11 ∷ []) r
-  boolean-numbers e = go (boolean-refusal body table final settings depth r .0 e)
-    where
-      ofText : {q : Refusal} → OfText q → Only (1 ∷ 4 ∷ 6 ∷ 7 ∷ 8 ∷ 9 ∷ 11 ∷ []) q
+      ofText : {q : Refusal} → OfText q → Only (1 ∷ 4 ∷ 6 ∷ 7 ∷ 8 ∷ 9 ∷ last ∷ []) q
       ofText six = refl
       ofText seven = refl
       ofText eight = refl
       ofText nine = refl
 
-      go : {q : Refusal} → Unread body table final settings depth NotABoolean q → Only (1 ∷ 4 ∷ 6 ∷ 7 ∷ 8 ∷ 9 ∷ 11 ∷ []) q
+      go : {q : Refusal} → Unread body table final settings depth Wrong q → Only (1 ∷ 4 ∷ 6 ∷ 7 ∷ 8 ∷ 9 ∷ last ∷ []) q
       go (not-read (not-opened (broken-table n))) = refl
       go (not-read (not-opened (no-root t n))) = refl
       go (not-read (no-text w n)) = ofText (text-number (n .inside))
       go (not-read (after-the-rest w t f)) = refl
-      go (wrong p (not-boolean m n)) = refl
+      go (wrong {text = t} {r = q} p w) = f t q w
 
-  pub integer-numbers : integerReading body table final settings depth ≡ refuses r → Only (1 ∷ 4 ∷ 6 ∷ 7 ∷ 8 ∷ 9 ∷ 12 ∷ []) r
-  integer-numbers e = go (integer-refusal body table final settings depth r .0 e)
-    where
-      ofText : {q : Refusal} → OfText q → Only (1 ∷ 4 ∷ 6 ∷ 7 ∷ 8 ∷ 9 ∷ 12 ∷ []) q
-      ofText six = refl
-      ofText seven = refl
-      ofText eight = refl
-      ofText nine = refl
+  boolean-among : (t : List ℕ) (q : Refusal) → NotABoolean t q → Only (1 ∷ 4 ∷ 6 ∷ 7 ∷ 8 ∷ 9 ∷ 11 ∷ []) q
+  boolean-among t q (not-boolean m n) = refl
 
-      go : {q : Refusal} → Unread body table final settings depth NotAnInteger q → Only (1 ∷ 4 ∷ 6 ∷ 7 ∷ 8 ∷ 9 ∷ 12 ∷ []) q
-      go (not-read (not-opened (broken-table n))) = refl
-      go (not-read (not-opened (no-root t n))) = refl
-      go (not-read (no-text w n)) = ofText (text-number (n .inside))
-      go (not-read (after-the-rest w t f)) = refl
-      go (wrong p (not-integer n)) = refl
+  integer-among : (t : List ℕ) (q : Refusal) → NotAnInteger t q → Only (1 ∷ 4 ∷ 6 ∷ 7 ∷ 8 ∷ 9 ∷ 12 ∷ []) q
+  integer-among t q (not-integer n) = refl
 
-  pub string-numbers : (room : ℕ) → stringReading body table final settings depth room ≡ refuses r → Only (1 ∷ 4 ∷ 6 ∷ 7 ∷ 8 ∷ 9 ∷ 10 ∷ []) r
-  string-numbers room e = go (string-refusal body table final settings depth room r .0 e)
-    where
-      ofText : {q : Refusal} → OfText q → Only (1 ∷ 4 ∷ 6 ∷ 7 ∷ 8 ∷ 9 ∷ 10 ∷ []) q
-      ofText six = refl
-      ofText seven = refl
-      ofText eight = refl
-      ofText nine = refl
+  string-among : (room : ℕ) (t : List ℕ) (q : Refusal) → StringTooLong room t q → Only (1 ∷ 4 ∷ 6 ∷ 7 ∷ 8 ∷ 9 ∷ 10 ∷ []) q
+  string-among room t q (too-long h) = refl
 
-      go : {q : Refusal} → Unread body table final settings depth (StringTooLong room) q → Only (1 ∷ 4 ∷ 6 ∷ 7 ∷ 8 ∷ 9 ∷ 10 ∷ []) q
-      go (not-read (not-opened (broken-table n))) = refl
-      go (not-read (not-opened (no-root t n))) = refl
-      go (not-read (no-text w n)) = ofText (text-number (n .inside))
-      go (not-read (after-the-rest w t f)) = refl
-      go (wrong p (too-long h)) = refl
+  pub boolean-numbers : (r : Refusal) → booleanReading body table final settings depth ≡ refuses r → Only (1 ∷ 4 ∷ 6 ∷ 7 ∷ 8 ∷ 9 ∷ 11 ∷ []) r
+  boolean-numbers r e = unread-among 11 boolean-among r (boolean-refusal body table final settings depth r .0 e)
+
+  pub integer-numbers : (r : Refusal) → integerReading body table final settings depth ≡ refuses r → Only (1 ∷ 4 ∷ 6 ∷ 7 ∷ 8 ∷ 9 ∷ 12 ∷ []) r
+  integer-numbers r e = unread-among 12 integer-among r (integer-refusal body table final settings depth r .0 e)
+
+  pub string-numbers : (room : ℕ) (r : Refusal) → stringReading body table final settings depth room ≡ refuses r → Only (1 ∷ 4 ∷ 6 ∷ 7 ∷ 8 ∷ 9 ∷ 10 ∷ []) r
+  string-numbers room r e = unread-among 10 (string-among room) r (string-refusal body table final settings depth room r .0 e)
 
 -- ---- find, and whole text
 pub find-numbers : (body table : List ℕ) (final : ℕ) (name : List ℕ) {r : Refusal} → find body table final name ≡ refuses r → Only (1 ∷ 13 ∷ []) r

@@ -1,6 +1,6 @@
 -- 01, "Scalar", of a body: which refusals booleans, integers and strings give, and that each is given exactly where its condition holds, on every input.
 use Prim.Native.Nat.{ℕ}
-use mathlib.Core.Path.{_≡_, refl, subst}
+use mathlib.Core.Path.{_≡_, refl}
 use mathlib.Core.Logic.{_↔_}
 use mathlib.Core.Bool.{Bool, true, false}
 use mathlib.Core.List.{List}
@@ -9,9 +9,11 @@ use Rattle.refusal.specs.Answer.{Answer, gives, refuses, onward}
 use Rattle.document.specs.Text.{textOf}
 use Rattle.sheet.specs.declared.ShapeDepth.{ShapeDepth}
 use Rattle.sheet.specs.Settings.{Settings, isStrict}
-use Rattle.readings.specs.Opening.{Opened, opened}
+use Rattle.readings.specs.Opening.{Opened}
 use Rattle.readings.specs.Scalar.{booleanOf, integerOf, stringIn, unlessIllFormed, scalarText, booleanReading, integerReading, stringReading}
-use Rattle.readings.specs.Conditions.Opening.{given-refused, refuses-same, OpenedRefused, OpenedAs, opened-refusal, opened-given}
+use Rattle.readings.specs.Runs.Carried.{Anything}
+use Rattle.readings.specs.Conditions.Answers.{Is, is-given, is-refused, refused-is, also, onward-is, itself}
+use Rattle.readings.specs.Conditions.Opening.{OpenedRefused, OpenedAs, opened-is, refused-opened, given-opened}
 use Rattle.readings.specs.Conditions.View.{DrainFails, Stopped, opened-fails}
 use Rattle.readings.specs.Conditions.Text.{NoTextIn, opened-text-refusal}
 use Rattle.readings.specs.Conditions.Values.{NotABoolean, boolean-text-refusal, NotAnInteger, integer-text-refusal, StringTooLong, string-text-refusal}
@@ -27,31 +29,26 @@ module _ (body table : List ℕ) (final : ℕ) (settings : Settings) (depth : Sh
     after-the-rest : {o : Opened} {text : List ℕ} → OpenedAs body table final strict o → textOf (o .seen .failure) (o .root) ≡ gives text →
         DrainFails body table final strict → ScalarRefused Refusal.IllFormed
 
+  scalar-is : Is Anything ScalarRefused (scalarText body table final settings depth)
+  unfolding scalarText
+  scalar-is =
+      onward-is _ (opened-is body table final strict)
+      (λ o w. onward-is _ (itself (textOf (o .seen .failure) (o .root))) (λ t e. end w e (o .seen .illFormed) refl) (λ r e. no-text w (opened-text-refusal body table final w (o .root) r .0 e)))
+      (λ r w. not-opened w)
+    where
+      end : {o : Opened} {t : List ℕ} → OpenedAs body table final strict o → textOf (o .seen .failure) (o .root) ≡ gives t → (b : Bool) → o .seen .illFormed ≡ b
+          → Is Anything ScalarRefused (unlessIllFormed b t)
+      end w e true p = is-refused (after-the-rest w e (opened-fails body table final w .0 p))
+      end w e false p = is-given (tt {0})
+
   pub scalar-refusal : (r : Refusal) → (scalarText body table final settings depth ≡ refuses r) ↔ ScalarRefused r
   unfolding scalarText
-  scalar-refusal r = (onOpened (opened strict body table final) refl, back)
+  scalar-refusal r = (refused-is scalar-is, back)
     where
-      rest : Opened → Answer (List ℕ)
-      rest o = onward (textOf (o .seen .failure) (o .root)) (unlessIllFormed (o .seen .illFormed))
-
-      onEnd : (o : Opened) (t : List ℕ) (b : Bool) → o .seen .illFormed ≡ b → OpenedAs body table final strict o → textOf (o .seen .failure) (o .root) ≡ gives t →
-          unlessIllFormed b t ≡ refuses r → ScalarRefused r
-      onEnd o t true p w q e = subst ScalarRefused (refuses-same e) (after-the-rest w q (opened-fails body table final w .0 p))
-      onEnd o t false p w q e = given-refused e
-
-      onText : (o : Opened) (a : Answer (List ℕ)) → textOf (o .seen .failure) (o .root) ≡ a → OpenedAs body table final strict o →
-          onward a (unlessIllFormed (o .seen .illFormed)) ≡ refuses r → ScalarRefused r
-      onText o (gives t) p w e = onEnd o t (o .seen .illFormed) refl w p e
-      onText o (refuses q) p w e = subst ScalarRefused (refuses-same e) (no-text w (opened-text-refusal body table final w (o .root) q .0 p))
-
-      onOpened : (a : Answer Opened) → opened strict body table final ≡ a → onward a rest ≡ refuses r → ScalarRefused r
-      onOpened (gives o) p e = onText o (textOf (o .seen .failure) (o .root)) refl (opened-given body table final strict o .0 p) e
-      onOpened (refuses q) p e = subst ScalarRefused (refuses-same e) (not-opened (opened-refusal body table final strict q .0 p))
-
-      back : {q : Refusal} → ScalarRefused q → onward (opened strict body table final) rest ≡ refuses q
-      back (not-opened {r = q} w) = rw (opened-refusal body table final strict q .1 w)
-      back (no-text {o = o} {r = q} w n) = rw (opened-given body table final strict o .1 w, opened-text-refusal body table final w (o .root) q .1 n)
-      back (after-the-rest {o = o} w p f) = rw (opened-given body table final strict o .1 w, p, opened-fails body table final w .1 f)
+      back : {q : Refusal} → ScalarRefused q → scalarText body table final settings depth ≡ refuses q
+      back (not-opened w) = rw (refused-opened body table final strict w)
+      back (no-text {o = o} {r = q} w n) = rw (given-opened body table final strict w, opened-text-refusal body table final w (o .root) q .1 n)
+      back (after-the-rest w p f) = rw (given-opened body table final strict w, p, opened-fails body table final w .1 f)
 
   -- the text is refused, or it is there and is not what is wanted: "10 for a string; 11 or 12"
   pub data Unread (Wrong : List ℕ → Refusal → Type 0) : Refusal → Type 0 where
@@ -60,11 +57,12 @@ module _ (body table : List ℕ) (final : ℕ) (settings : Settings) (depth : Sh
 
   unread : {A : Type 0} (of : List ℕ → Answer A) (Wrong : List ℕ → Refusal → Type 0) → ((text : List ℕ) (r : Refusal) → (of text ≡ refuses r) ↔ Wrong text r) →
       (r : Refusal) → (onward (scalarText body table final settings depth) of ≡ refuses r) ↔ Unread Wrong r
-  unread of Wrong law r = (go (scalarText body table final settings depth) refl, back)
+  unread {A} of Wrong law r = (refused-is is, back)
     where
-      go : (a : Answer (List ℕ)) → scalarText body table final settings depth ≡ a → onward a of ≡ refuses r → Unread Wrong r
-      go (gives t) p e = wrong p (law t r .0 e)
-      go (refuses q) p e = subst (Unread Wrong) (refuses-same e) (not-read (scalar-refusal q .0 p))
+      is : Is Anything (Unread Wrong) (onward (scalarText body table final settings depth) of)
+      is =
+          onward-is of (itself (scalarText body table final settings depth)) (λ t e. also (itself (of t)) (λ a q. tt {0}) (λ q w. wrong e (law t q .0 w)))
+          (λ q e. not-read (scalar-refusal q .0 e))
 
       back : {q : Refusal} → Unread Wrong q → onward (scalarText body table final settings depth) of ≡ refuses q
       back (not-read {r = q} w) = rw (scalar-refusal q .1 w)

@@ -17,7 +17,8 @@ use Rattle.document.specs.Reader.{depthAfter, Scope, isEnd}
 use Rattle.document.specs.Scope.{Child, scopeOf}
 use Rattle.document.specs.Text.{unescapedText, atEnd, textTurn, firstText, textOf}
 use Rattle.readings.specs.Opening.{Opened}
-use Rattle.readings.specs.Conditions.Opening.{given-refused, refuses-same, OpenedAs}
+use Rattle.readings.specs.Conditions.Answers.{given-refused, refuses-same}
+use Rattle.readings.specs.Conditions.Opening.{OpenedAs}
 use Rattle.readings.specs.Conditions.View.{Stopped, opened-stops}
 
 -- a token in which no text begins, and which neither begins an element nor ends the scope; it leaves depth d

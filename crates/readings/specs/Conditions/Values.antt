@@ -17,7 +17,7 @@ use Rattle.reference.specs.Number.{digit, number}
 use Rattle.reference.specs.declared.Number.{Number}
 use Rattle.reference.specs.declared.Number.the-variants.{Value, No}
 use Rattle.readings.specs.Scalar.{booleanOf, digitsOf, minus, positive, negative, integerOf, stringIn}
-use Rattle.readings.specs.Conditions.Opening.{given-refused, refuses-same, gives-same}
+use Rattle.readings.specs.Conditions.Answers.{given-refused, refuses-same, gives-same}
 
 -- "11 not a boolean": neither of the two words
 pub data NotABoolean (text : List ℕ) : Refusal → Type 0 where

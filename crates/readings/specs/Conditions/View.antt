@@ -105,11 +105,3 @@ module _ (body table : List ℕ) (final : ℕ) where
 
   pub opened-stops : {strict : Bool} {o : Opened} → OpenedAs body table final strict o → (r : Refusal) → (o .seen .failure ≡ some r) ↔ Stopped strict r
   opened-stops {strict} w r = rw (w .seen) (view-stops strict (w .rules) r)
-
-  -- where the drain does not fail
-  pub opened-passes : {strict : Bool} {o : Opened} → OpenedAs body table final strict o → (o .seen .illFormed ≡ false) ↔ (DrainFails strict → ⊥)
-  opened-passes {strict} {o} w = (λ e f. false-true {A = ⊥} (sym e ∙ opened-fails w .1 f), go (o .seen .illFormed) refl)
-    where
-      go : (t : Bool) → o .seen .illFormed ≡ t → (DrainFails strict → ⊥) → t ≡ false
-      go true p n = absurd (n (opened-fails w .0 p))
-      go false p n = refl

@@ -25,7 +25,8 @@ use Rattle.document.specs.Scope.{Child, scopeOf, rootOf, onRoot, nextFrom}
 use Rattle.document.specs.Text.{unescapedText, joinTurn, joined, wholeOf}
 use Rattle.readings.specs.Opening.{present}
 use Rattle.readings.specs.Scalar.{stringIn, passing, wholeText}
-use Rattle.readings.specs.Conditions.Opening.{given-refused, refuses-same, TableBroken}
+use Rattle.readings.specs.Conditions.Answers.{given-refused, refuses-same}
+use Rattle.readings.specs.Conditions.Opening.{TableBroken}
 use Rattle.readings.specs.Conditions.Values.{StringTooLong, too-long, string-text-refusal}
 
 -- ---- the tokens inside the root are tokens of the table

@@ -1,128 +1,65 @@
 -- DEMAND 3: for every body and table that the strict drain passes, a structure, list or map reading, strict or lenient, with any sheet, settings, depth, room
 -- and order of groups, keeps the promise of Promise.antt.
 use Prim.Native.Nat.{ℕ}
-use mathlib.Core.Path.{_≡_, refl}
-use mathlib.Core.Logic.{_⊎_}
+use mathlib.Core.Path.{_≡_, refl, sym, _∙_, subst}
 use mathlib.Core.Bool.{Bool, true, false}
 use mathlib.Core.List.{List, [], _∷_, _++_, List·Memᴰ, List·Memᴰ·head, List·Memᴰ·tail}
-use mathlib.Core.Option.{Option, none, some}
-use Rattle.lists.specs.Tests.{pick, pick-all}
-use Rattle.lists.specs.Bytes.{sameb}
+use mathlib.Core.Option.{Option, none, some, Option·none-ne-some, Option·some-injective}
+use Rattle.lists.specs.Tests.{pick, false-true}
 use Rattle.lists.specs.Every.{every-in}
 use Rattle.refusal.specs.declared.Refusal.{Refusal}
-use Rattle.refusal.specs.Answer.{Answer, gives, refuses, onward}
+use Rattle.refusal.specs.Answer.{Answer, refuses}
 use Rattle.table.specs.Row.{Tok, cut, rowsOf, toksOf}
-use Rattle.table.specs.Rules.{TableRules}
-use Rattle.table.specs.Test.{decTable}
 use Rattle.xml.specs.declared.Drained.{Drained}
 use Rattle.xml.specs.Drain.{drained}
-use Rattle.xml.specs.Grammar.{Document, Miscs}
 use Rattle.xml.specs.Passed.{Passed}
 use Rattle.xml.specs.Means.{drained-passes-is}
 use Rattle.xml.specs.Pass.{drained-document-is}
 use Rattle.xml.specs.Closing.{element-closed, element-last}
 use Rattle.xml.specs.Piece.{ElementPiece, element-piece}
-use Rattle.document.specs.Names.{nameMatches}
 use Rattle.document.specs.View.{View, whole, view}
-use Rattle.document.specs.Scope.{Child, childrenOf, dropping, afterChildren, rootOf, Piece, pieceOf}
+use Rattle.document.specs.Scope.{Child, childrenOf, dropping, afterChildren, rootOf, pieceOf}
+use Rattle.document.specs.Text.{textOf}
 use Rattle.document.specs.Passed.View.{view-passed}
 use Rattle.document.specs.Passed.Walks.{either-past, PastElements, level-in, dropping-past, after-children-past}
 use Rattle.document.specs.Passed.Pieces.{Met, met, inside-met, children-met, RootMet, root-met, no-root, document-root, TextOrElement, is-text, is-element, text-met, element-row, IsPieceAt, piece-met}
 use Rattle.sheet.specs.declared.ShapeDepth.{ShapeDepth}
-use Rattle.sheet.specs.Settings.{Settings, isStrict, tooDeep, testsRootName}
-use Rattle.sheet.specs.Sheet.{Structure, structureOf, listOf, MapSheet, mapOf}
-use Rattle.sheet.specs.Names.{rootName, Indexed, membersOf, resolve, itemName, entryName, attributeName, keyName, valueName, valueAggregate}
-use Rattle.readings.specs.Output.{Entry, pieceKind, output, Room, Output, nothing, Reading, refused}
-use Rattle.readings.specs.Opening.{Opened, Asked, asked, reading, present, rooted, withDepth, withTable}
-use Rattle.readings.specs.Structure.{
-  attributeOf,
-  writeFound,
-  readAttribute,
-  readScalar,
-  readMember,
-  readChild,
-  inGroup,
-  siblings,
-  groupOf,
-  allOrNone,
-  readGroups,
-  readMembers,
-  rootPiece,
-  writeRoot,
-  readUnwrapped,
-  withRootName,
-  readOpened,
-  structureReading,
-}
-use Rattle.readings.specs.Collection.{
-  isWanted,
-  readItem,
-  readItems,
-  listReading,
-  writeAnswer,
-  readString,
-  readStrings,
-  stringListReading,
-  MapValue,
-  text,
-  piece,
-  Fields,
-  noFields,
-  valueIn,
-  readField,
-  readFields,
-  writeFields,
-  writeEntry,
-  readEntry,
-  afterEntry,
-  entriesOf,
-  readEntries,
-  mapReading,
-}
-use Rattle.readings.specs.Demand.Promise.{Shape, structure, list, map, strings, read, Condition, broken-sheet, depth-limit, root-name, element-in-text, Siblings, no-child, sibling, stranger, AllHanded, Promised, finishes, refuses, promised-output}
+use Rattle.sheet.specs.Settings.{Settings, isStrict}
+use Rattle.sheet.specs.Sheet.{Structure}
+use Rattle.sheet.specs.Names.{entryName}
+use Rattle.readings.specs.Output.{Entry, pieceKind, Room, Output, nothing, Reading, refused, output}
+use Rattle.readings.specs.Opening.{Asked}
+use Rattle.readings.specs.Structure.{readAttribute, readChild, inGroup, siblings, groupOf, rootPiece}
+use Rattle.readings.specs.Collection.{isWanted, readItem, readString, readEntry, afterEntry, entriesOf}
+use Rattle.readings.specs.Shape.{Shape, structure, list, map, strings, SheetOf, sheetOf, read}
+use Rattle.readings.specs.Conditions.Answers.{given-refused, refuses-same}
+use Rattle.readings.specs.Conditions.Opening.{AskedRefused, by-table, by-sheet, by-depth, by-root, AskedAs}
+use Rattle.readings.specs.Notions.{NoRoomFor}
+use Rattle.readings.specs.Runs.Run.{reached-in, Ended, done, stopped, run-ended}
+use Rattle.readings.specs.Runs.Next.{StructureNext, attribute, child-text, child-failed, child-piece, item, string, text-entry, piece-entry, Stops, no-room, root-name, unwrapped-ill-formed, ill-formed, groups-full, item-no-room, list-ill-formed, string-no-room, string-no-text, strings-ill-formed, entry-no-room, field-no-text, map-ill-formed}
+use Rattle.readings.specs.Runs.Next as next
+use Rattle.readings.specs.Runs.Readings.{Reads, before, while, reads}
+use Rattle.readings.specs.Runs.Carried.{Anything, run-carried, Sources, ShapeSources, write-source}
+use Rattle.readings.specs.Demand.Promise.{Siblings, no-child, sibling, stranger, GroupBytes, AllHanded, TextWanted, ReadOf, MayRefuse, broken-sheet, depth-limit, element-in-text, of-root, of-attribute, of-child, of-item, of-string, of-entry, groups-no-room, Promised, finishes}
 use Rattle.readings.specs.Demand.Promise as promise
-use Rattle.readings.specs.Conditions.Structure.{structure-refusal}
-use Rattle.readings.specs.Conditions.Collection.{list-refusal, map-refusal, string-list-refusal}
-use Rattle.readings.specs.Demand.Keeps.{Kept, none-handed, then-keeps, each-keeps, text-keeps, key-text-keeps, piece-keeps, key-piece-keeps, failed-keeps, group-keeps}
+use Rattle.readings.specs.Demand.Handed.{IsElement, none-handed, handed-kept}
 
-module _ (body table sheet : List ℕ) (final : ℕ) (passes : drained body table final ≡ Drained.Passes) where
+module _ (body table : List ℕ) (final : ℕ) (passes : drained body table final ≡ Drained.Passes) where
   toks : List Tok
   toks = toksOf body (rowsOf table)
 
   seen : View
   seen = whole (rowsOf table) final
 
+  -- ---- what there is to be written: elements, and groups of elements
   piece-of : (c : Child) → Met toks c → IsPieceAt body table (c .start .row) (pieceOf body seen c)
   unfolding toks seen
   piece-of c m = piece-met final passes c m
 
-  -- ---- structures
-  found-keeps : (room : Room) (index : ℕ) (v : Option (List ℕ)) (out : Output) → AllHanded body table sheet out → Kept body table sheet (writeFound room index v out)
-  found-keeps room index none out a = finishes a
-  found-keeps room index (some v) out a = text-keeps body table sheet room index v out a
-
-  attribute-keeps : (room : Room) (o : Opened) (m : Indexed) (out : Output) → AllHanded body table sheet out → Kept body table sheet (readAttribute room (o .root .start .attributes) m out)
-  unfolding readAttribute
-  attribute-keeps room o m out a =
-      pick-all (Kept body table sheet) (m .member .attribute) _ _
-      (found-keeps room (m .index) (attributeOf (o .root .start .attributes) (attributeName (m .member))) out a)
-      (finishes a)
-
-  scalar-keeps : (room : Room) (index : ℕ) {t : Answer (List ℕ)} → TextOrElement t → (out : Output) → AllHanded body table sheet out → Kept body table sheet (readScalar room index t out)
-  scalar-keeps room index (is-text t) out a = text-keeps body table sheet room index t out a
-  scalar-keeps room index is-element out a = failed-keeps body table sheet room index out a
-
-  member-keeps : (room : Room) (c : Child) → Met toks c → (m : Option Indexed) (out : Output) → AllHanded body table sheet out → Kept body table sheet (readMember body seen room c m out)
-  unfolding seen
-  member-keeps room c x none out a = finishes a
-  member-keeps room c x (some m) out a =
-      pick-all (Kept body table sheet) (m .member .aggregate) _ _
-      (pick-all (Kept body table sheet) (m .member .flattened) _ _ (finishes a) (piece-keeps body table sheet room (m .index) (pieceOf body seen c) out a (piece-of c x)))
-      (scalar-keeps room (m .index) (text-met c x) out a)
-
-  child-keeps : (s : Structure) (room : Room) (c : Child) → Met toks c → (out : Output) → AllHanded body table sheet out → Kept body table sheet (readChild body seen s room c out)
-  unfolding readChild
-  child-keeps s room c x out a = member-keeps room c x (resolve s (c .start .name .local)) out a
+  root-piece : (root : Child) → Met toks root → IsPieceAt body table (root .start .row) (rootPiece body (record { seen = seen; root = root }))
+  unfolding rootPiece seen toks
+  root-piece root (met e d k h) =
+      rw (element-row e d k, element-closed body (rowsOf table) e k h, element-last body (rowsOf table) e k h) (element-piece final passes e k h)
 
   -- the siblings of a group are elements, and the others are no siblings
   siblings-are : (s : Structure) (i : ℕ) (l : List Child) → ((c : Child) → List·Memᴰ c l → Met toks c) → Siblings body table s i l (siblings body seen s i l)
@@ -138,123 +75,6 @@ module _ (body table sheet : List ℕ) (final : ℕ) (passes : drained body tabl
       go true q more = sibling q (piece-of c (f c (List·Memᴰ·head refl))) more
       go false q more = stranger q more
 
-  all-or-none : {r : Reading} (out : Output) → AllHanded body table sheet out → Kept body table sheet r → Kept body table sheet (allOrNone out r)
-  all-or-none out a (finishes b) = finishes b
-  all-or-none out a (refuses m h b) = refuses m h a
-
-  groups-keep : {s : Structure} → structureOf sheet ≡ some s → {root : Child} → rootOf toks ≡ some root → Met toks root → (room : Room) (order : List ℕ) (out : Output)
-      → AllHanded body table sheet out → Kept body table sheet (readGroups body seen s (childrenOf root) room order out)
-  unfolding readGroups groupOf toks
-  groups-keep {s} says {root} isRoot m room order out a =
-      all-or-none out a
-      (each-keeps body table sheet _ order
-      (λ i x. group-keeps body table sheet room i says isRoot (siblings-are s i (childrenOf root) (children-met toks root m))) out a)
-
-  members-keep : {s : Structure} → structureOf sheet ≡ some s → (room : Room) (order : List ℕ) {root : Child} → rootOf toks ≡ some root → Met toks root
-      → Kept body table sheet (readMembers body s room order (record { seen = seen; root = root }))
-  unfolding readMembers seen
-  members-keep {s} says room order {root} isRoot m =
-      then-keeps body table sheet _
-      (each-keeps body table sheet _ (membersOf s) (λ x i. attribute-keeps room (record { seen = seen; root = root }) x) nothing (none-handed body table sheet))
-      (λ out a. then-keeps body table sheet _
-      (each-keeps body table sheet _ (childrenOf root) (λ c i. child-keeps s room c (children-met toks root m c i)) out a)
-      (λ out a. groups-keep says isRoot m room order out a))
-
-  root-piece : (root : Child) → Met toks root → IsPieceAt body table (root .start .row) (rootPiece body (record { seen = seen; root = root }))
-  unfolding rootPiece seen toks
-  root-piece root (met e d k h) =
-      rw (element-row e d k, element-closed body (rowsOf table) e k h, element-last body (rowsOf table) e k h) (element-piece final passes e k h)
-
-  write-root-keeps : (room : Room) {p : Piece} {row : ℕ} → IsPieceAt body table row p → (m : Option Indexed) → Kept body table sheet (writeRoot room p m nothing)
-  write-root-keeps room x none = finishes (none-handed body table sheet)
-  write-root-keeps room {p} x (some m) = piece-keeps body table sheet room (m .index) p nothing (none-handed body table sheet) x
-
-  unwrapped-keeps : (s : Structure) (room : Room) (root : Child) → Met toks root → Kept body table sheet (readUnwrapped body s room (record { seen = seen; root = root }))
-  unfolding readUnwrapped seen
-  unwrapped-keeps s room root m = write-root-keeps room (root-piece root m) (resolve s (root .start .name .local))
-
-  root-name-keeps : (tests matches : Bool) {r : Reading} → Kept body table sheet r → Kept body table sheet (withRootName tests matches r)
-  root-name-keeps false matches p = p
-  root-name-keeps true true p = p
-  root-name-keeps true false p = refuses root-name tt (none-handed body table sheet)
-
-  -- ---- lists
-  item-keeps : (name : Option (List ℕ)) (room : Room) (c : Child) → Met toks c → (out : Output) → AllHanded body table sheet out → Kept body table sheet (readItem body seen name room c out)
-  unfolding readItem
-  item-keeps name room c m out a =
-      pick-all (Kept body table sheet) (isWanted name c) _ _ (piece-keeps body table sheet room 0 (pieceOf body seen c) out a (piece-of c m)) (finishes a)
-
-  answer-keeps : (room : Room) {t : Answer (List ℕ)} → TextOrElement t → (out : Output) → AllHanded body table sheet out → Kept body table sheet (writeAnswer room t out)
-  answer-keeps room (is-text t) out a = text-keeps body table sheet room 0 t out a
-  answer-keeps room is-element out a = refuses element-in-text tt a
-
-  string-keeps : (name : Option (List ℕ)) (room : Room) (c : Child) → Met toks c → (out : Output) → AllHanded body table sheet out → Kept body table sheet (readString seen name room c out)
-  unfolding readString seen
-  string-keeps name room c m out a =
-      pick-all (Kept body table sheet) (isWanted name c) _ _ (answer-keeps room (text-met c m) out a) (finishes a)
-
-  -- ---- maps
-  -- a value that is a piece is an element's
-  data ValueMet : Option MapValue → Type 0 where
-    no-value : ValueMet none
-    text-value : {t : List ℕ} → ValueMet (some (text t))
-    piece-value : {p : Piece} {row : ℕ} → IsPieceAt body table row p → ValueMet (some (piece p))
-
-  -- the fields of an entry; or 6
-  data FieldsMet : Answer Fields → Type 0 where
-    fields-met : {f : Fields} → ValueMet (f .value) → FieldsMet (gives f)
-    field-element : FieldsMet (refuses Refusal.ElementInText)
-
-  key-met : {t : Answer (List ℕ)} (f : Fields) → TextOrElement t → ValueMet (f .value)
-      → FieldsMet (onward t (λ (k : List ℕ). gives (record { key = some k; value = f .value })))
-  key-met f (is-text t) v = fields-met v
-  key-met f is-element v = field-element
-
-  value-met : (aggregate : Bool) (c : Child) → Met toks c → (f : Fields)
-      → FieldsMet (onward (valueIn body seen aggregate c) (λ (x : MapValue). gives (record { key = f .key; value = some x })))
-  unfolding seen
-  value-met true c m f = fields-met (piece-value (piece-of c m))
-  value-met false c m f = go (text-met c m)
-    where
-      go : {t : Answer (List ℕ)} → TextOrElement t
-          → FieldsMet (onward (onward t (λ (k : List ℕ). gives (text k))) (λ (x : MapValue). gives (record { key = f .key; value = some x })))
-      go (is-text t) = fields-met text-value
-      go is-element = field-element
-
-  field-met : (s : MapSheet) (f : Fields) → ValueMet (f .value) → (c : Child) → Met toks c → FieldsMet (readField body seen s f c)
-  unfolding readField seen
-  field-met s f v c m =
-      pick-all FieldsMet (sameb (c .start .name .local) (keyName s)) _ _ (key-met f (text-met c m) v)
-      (pick-all FieldsMet (sameb (c .start .name .local) (valueName s)) _ _ (value-met (valueAggregate s) c m f) (fields-met {f = f} v))
-
-  fields-are : (s : MapSheet) (l : List Child) → ((c : Child) → List·Memᴰ c l → Met toks c) → (f : Fields) → ValueMet (f .value) → FieldsMet (readFields body seen s l f)
-  unfolding readFields
-  fields-are s [] g f v = fields-met v
-  fields-are s (c ∷ l) g f v = go (field-met s f v c (g c (List·Memᴰ·head refl))) (fields-are s l (λ x i. g x (List·Memᴰ·tail i)))
-    where
-      go : {a : Answer Fields} → FieldsMet a → ((f : Fields) → ValueMet (f .value) → FieldsMet (readFields body seen s l f)) → FieldsMet (onward a (readFields body seen s l))
-      go (fields-met {f = f} v) more = more f v
-      go field-element more = field-element
-
-  write-fields-keep : (room : Room) (key : Option (List ℕ)) {value : Option MapValue} → ValueMet value → (out : Output) → AllHanded body table sheet out
-      → Kept body table sheet (writeFields room key value out)
-  write-fields-keep room none v out a = finishes a
-  write-fields-keep room (some k) no-value out a = finishes a
-  write-fields-keep room (some k) (text-value {t = t}) out a = key-text-keeps body table sheet room k t out a
-  write-fields-keep room (some k) (piece-value {p = p} x) out a = key-piece-keeps body table sheet room k p out a x
-
-  write-entry-keeps : (room : Room) {f : Answer Fields} → FieldsMet f → (out : Output) → AllHanded body table sheet out → Kept body table sheet (writeEntry room f out)
-  write-entry-keeps room (fields-met {f = f} v) out a = write-fields-keep room (f .key) v out a
-  write-entry-keeps room field-element out a = refuses element-in-text tt a
-
-  entry-keeps : (s : MapSheet) (name : Option (List ℕ)) (room : Room) (c : Child) → Met toks c → (out : Output) → AllHanded body table sheet out
-      → Kept body table sheet (readEntry body seen s name room c out)
-  unfolding readEntry
-  entry-keeps s name room c m out a =
-      pick-all (Kept body table sheet) (isWanted name c) _ _
-      (write-entry-keeps room (fields-are s (childrenOf c) (children-met toks c m) noFields no-value) out a)
-      (finishes a)
-
   -- the entries of a map are met, whether their fields are read or not
   after-entry-past : (name : Option (List ℕ)) → PastElements (afterEntry name)
   unfolding afterEntry
@@ -264,97 +84,144 @@ module _ (body table sheet : List ℕ) (final : ℕ) (passes : drained body tabl
   unfolding entriesOf
   entries-met name root (met e d k h) c i = inside-met toks e d k h c (rw (level-in (afterEntry name) (after-entry-past name) e d k) at i)
 
-  -- ---- the openings
-  -- a reading that keeps the promise, of whatever sheet it is told and root it meets
-  Keeping : {S : Type 0} → Option S → (Asked S → Reading) → Type 0
-  Keeping {S} said f =
-      (s : S) (root : Child) → said ≡ some s → rootOf toks ≡ some root → Met toks root
-      → Kept body table sheet (f (record { sheet = s; opened = record { seen = seen; root = root } }))
-
-  root-keeps : {S : Type 0} (said : Option S) (f : Asked S → Reading) → Keeping said f → (s : S) → said ≡ some s → {c : Option Child} → rootOf toks ≡ c → RootMet toks c
-      → Kept body table sheet (reading (onward (onward (present Refusal.NoRoot c) (λ (c : Child). gives (record { seen = seen; root = c }))) (λ (o : Opened). gives (record { sheet = s; opened = o }))) f)
-  unfolding Keeping
-  root-keeps said f g s says isRoot (root-met {c = c} m) = g s c says isRoot m
-  root-keeps said f g s says isRoot no-root = refuses promise.no-root tt (none-handed body table sheet)
-
-  depth-keeps : {A : Type 0} (deep : Bool) (a : Answer A) (f : A → Reading) → Kept body table sheet (reading a f) → Kept body table sheet (reading (withDepth deep a) f)
-  depth-keeps true a f p = refuses depth-limit tt (none-handed body table sheet)
-  depth-keeps false a f p = p
-
-  asked-keeps : {S : Type 0} (said : Option S) (settings : Settings) (depth : ShapeDepth) (f : Asked S → Reading) → Keeping said f
-      → Kept body table sheet (reading (asked body table final said settings depth) f)
-  unfolding asked Keeping toks seen
-  asked-keeps {S} said settings depth f g = go (decTable body table final) said refl
+  -- a text that is refused is refused with 6
+  only-six : (c : Child) → Met toks c → (r : Refusal) → textOf none c ≡ refuses r → r ≡ Refusal.ElementInText
+  unfolding toks
+  only-six c m r e = go (text-met c m) e
     where
-      both : TableRules body table final × (Document toks ⊎ Miscs toks [])
-      both = drained-document-is body table final .0 passes
+      go : {a : Answer (List ℕ)} → TextOrElement a → a ≡ refuses r → r ≡ Refusal.ElementInText
+      go (is-text t) e = given-refused e
+      go is-element e = sym (refuses-same e)
 
-      opening : S → Answer (Asked S)
-      opening s =
-          withDepth (tooDeep settings depth)
-          (onward (rooted body (view (isStrict settings depth) body (rowsOf table) final)) (λ (o : Opened). gives (record { sheet = s; opened = o })))
+  -- ---- what is read
+  met-root : {root : Child} → rootOf toks ≡ some root → Met toks root
+  unfolding toks
+  met-root {root} e = go (document-root (toksOf body (rowsOf table)) (drained-document-is body table final .0 passes .1)) e
+    where
+      go : {c : Option Child} → RootMet (toksOf body (rowsOf table)) c → c ≡ some root → Met (toksOf body (rowsOf table)) root
+      go (root-met m) e = subst (Met (toksOf body (rowsOf table))) (Option·some-injective _ _ e) m
+      go no-root e = absurd (Option·none-ne-some root e)
 
-      go : (d : Dec (TableRules body table final)) (s : Option S) → said ≡ s → Kept body table sheet (reading (withTable d (onward (present Refusal.Sheet s) opening)) f)
-      go (no broken) s e = absurd (broken (both .0))
-      go (yes rules) none e = refuses broken-sheet tt (none-handed body table sheet)
-      go (yes rules) (some s) e =
-          depth-keeps (tooDeep settings depth) _ f
-          (rw (view-passed body table final passes (isStrict settings depth)) (root-keeps said f g s e refl (document-root toks (both .1))))
+  module _ (sheet : List ℕ) (shape : Shape) (a : Asked (SheetOf shape)) (w : ReadOf body table final sheet shape a) where
+    root : Met toks (a .opened .root)
+    unfolding toks
+    root = met-root (w .root)
 
-  -- ---- the four readings
-  structure-keeps : (settings : Settings) (depth : ShapeDepth) (room : Room) (order : List ℕ) → Kept body table sheet (structureReading body table final sheet settings depth room order)
-  unfolding structureReading Keeping readOpened
-  structure-keeps settings depth room order =
-      asked-keeps (structureOf sheet) settings depth (readOpened body settings depth room order)
-      (λ s root says isRoot m. root-name-keeps (testsRootName settings depth) (nameMatches (root .start .name) (rootName s))
-      (pick-all (Kept body table sheet) (s .unwrapped) _ _ (unwrapped-keeps s room root m) (members-keep says room order isRoot m)))
+    met-sources : Sources (Met toks) Anything (λ (r : Refusal). r ≡ Refusal.ElementInText) (IsElement body table) body (a .opened)
+    unfolding seen
+    met-sources =
+        record {
+          root = root;
+          children = children-met toks;
+          entries = entries-met;
+          text = λ c m b e. tt {0};
+          failed = λ c m r e. only-six c m r (rw (w .seen) at e);
+          piece = λ c m. record { row = c .start .row; is = rw (w .seen) (piece-of c m) };
+        }
 
-  list-keeps : (settings : Settings) (depth : ShapeDepth) (room : Room) → Kept body table sheet (listReading body table final sheet settings depth room)
-  unfolding listReading Keeping readItems seen
-  list-keeps settings depth room =
-      asked-keeps (listOf sheet) settings depth (readItems body settings room)
-      (λ s root says isRoot m. then-keeps body table sheet _
-      (each-keeps body table sheet _ (childrenOf root) (λ c i. item-keeps (itemName settings s) room c (children-met toks root m c i)) nothing (none-handed body table sheet))
-      (λ out a. finishes a))
+  shape-sources : (sheet : List ℕ) (shape : Shape) (a : Asked (SheetOf shape)) → ReadOf body table final sheet shape a
+      → ShapeSources Anything Anything (GroupBytes body table sheet) (IsElement body table) body shape a
+  unfolding seen toks groupOf rootPiece
+  shape-sources sheet (structure order) a w =
+      let kids = childrenOf (a .opened .root) in
+      record {
+        member = λ m i. tt {0};
+        ordered = λ i j. tt {0};
+        attribute = λ name v e. tt {0};
+        group = λ i. record {
+          structure = a .sheet;
+          says = w .says;
+          root = a .opened .root;
+          isRoot = w .root;
+          gathered = siblings body seen (a .sheet) i kids;
+          siblings = siblings-are (a .sheet) i kids (children-met toks (a .opened .root) (root sheet (structure order) a w));
+          are = rw (w .seen);
+        };
+        root = record { row = a .opened .root .start .row; is = rw (w .seen) (root-piece (a .opened .root) (root sheet (structure order) a w)) };
+      }
+  shape-sources sheet list a w = tt {0}
+  shape-sources sheet map a w = tt {0}
+  shape-sources sheet strings a w = tt {0}
 
-  strings-keep : (settings : Settings) (depth : ShapeDepth) (room : Room) → Kept body table sheet (stringListReading body table final sheet settings depth room)
-  unfolding stringListReading Keeping readStrings seen
-  strings-keep settings depth room =
-      asked-keeps (listOf sheet) settings depth (readStrings settings room)
-      (λ s root says isRoot m. then-keeps body table sheet _
-      (each-keeps body table sheet _ (childrenOf root) (λ c i. string-keeps (itemName settings s) room c (children-met toks root m c i)) nothing (none-handed body table sheet))
-      (λ out a. finishes a))
+  -- ---- where it is refused
+  module _ (sheet : List ℕ) (settings : Settings) (depth : ShapeDepth) (room : Room) where
+    read-of : (shape : Shape) (a : Asked (SheetOf shape)) → AskedAs body table final (sheetOf shape sheet) settings depth a → ReadOf body table final sheet shape a
+    read-of shape a w =
+        let all = w .begun .seen ∙ view-passed body table final passes (isStrict settings depth) in
+        record { says = w .says; seen = all; root = rw all at (w .begun .root) }
 
-  map-keeps : (settings : Settings) (depth : ShapeDepth) (room : Room) → Kept body table sheet (mapReading body table final sheet settings depth room)
-  unfolding mapReading Keeping readEntries seen
-  map-keeps settings depth room =
-      asked-keeps (mapOf sheet) settings depth (readEntries body settings room)
-      (λ s root says isRoot m. then-keeps body table sheet _
-      (each-keeps body table sheet _ (entriesOf (entryName settings s) root)
-      (λ c i. entry-keeps s (entryName settings s) room c (entries-met (entryName settings s) root m c i)) nothing (none-handed body table sheet))
-      (λ out a. finishes a))
+    before-reading : (shape : Shape) {r : Refusal} → AskedRefused body table final (sheetOf shape sheet) settings depth r → MayRefuse body table final sheet settings depth room shape r nothing
+    before-reading shape (by-table n) = absurd (n (drained-document-is body table final .0 passes .0))
+    before-reading shape (by-sheet t q) = broken-sheet q
+    before-reading shape (by-depth t q h) = depth-limit h
+    before-reading shape (by-root t q h n) = promise.no-root (rw (view-passed body table final passes (isStrict settings depth)) at n)
 
--- and of a refusal its condition, which is known of every reading
-with-condition : {Holds : Refusal → Output → Type 0} {body table sheet : List ℕ} {x : Reading} → ((r : Refusal) (out : Output) → x ≡ refused r out → Holds r out) → Kept body table sheet x
-    → Promised Holds body table sheet x
-with-condition c (finishes a) = finishes a
-with-condition c (refuses {r = r} {out = out} m h a) = refuses m (c r out refl) a
+    -- no view of such a table is ill-formed
+    not-ill-formed : {A : Type 0} {shape : Shape} {a : Asked (SheetOf shape)} → ReadOf body table final sheet shape a → a .opened .seen .illFormed ≡ true → A
+    not-ill-formed w e = false-true (rw (w .seen) at e)
+
+    -- a text that is wanted is refused with 6
+    six : (shape : Shape) (a : Asked (SheetOf shape)) → ReadOf body table final sheet shape a → (c : Child) → TextWanted settings shape a c → Met toks c → {out : Output} {r : Refusal}
+        → textOf (a .opened .seen .failure) c ≡ refuses r → MayRefuse body table final sheet settings depth room shape r out
+    six shape a w c wanted m {out} {r} e =
+        let first : textOf none c ≡ refuses r = rw (w .seen) at e in
+        let q = only-six c m r first in
+        rw q (element-in-text c w wanted (rw q at first))
+
+    -- what comes next is written in the next step
+    structure-next : {order : List ℕ} {a : Asked Structure} → ReadOf body table final sheet (structure order) a → {entry : ℕ → Entry} {bytes : List ℕ} {out : Output}
+        → StructureNext body settings depth room (a .sheet) (a .opened) out entry bytes → NoRoomFor room bytes out → MayRefuse body table final sheet settings depth room (structure order) Refusal.NoRoom out
+    unfolding readAttribute readChild
+    structure-next w {entry} (attribute u x h e) n = promise.no-room entry w (of-attribute (u .flag) x) n (λ lent. rw (h, e))
+    structure-next w {entry} (child-text x p h e) n = promise.no-room entry w (of-child (x .begun .flag) (x .read) (x .reached)) n (λ lent. rw (p, h, e))
+    structure-next w {entry} (child-failed x p h e) n = promise.no-room entry w (of-child (x .begun .flag) (x .read) (x .reached)) n (λ lent. rw (p, h, e))
+    structure-next w {entry} (child-piece x p h f) n = promise.no-room entry w (of-child (x .begun .flag) (x .read) (x .reached)) n (λ lent. rw (p, h, f))
+    structure-next w {entry} (next.root u h p) n = promise.no-room entry w (of-root (u .flag)) n (λ lent. rw p)
+
+    while-reading : (shape : Shape) (a : Asked (SheetOf shape)) → ReadOf body table final sheet shape a → (out : Output) (r : Refusal) → Stops body settings depth room shape a out r
+        → MayRefuse body table final sheet settings depth room shape r out
+    unfolding readItem readString readEntry
+    while-reading (structure order) a w out r (no-room x n) = structure-next w x n
+    while-reading (structure order) a w out r (root-name d) = promise.root-name w (d .tested) (d .differs)
+    while-reading (structure order) a w out r (unwrapped-ill-formed u e) = not-ill-formed w e
+    while-reading (structure order) a w out r (ill-formed x e) = not-ill-formed w e
+    while-reading (structure order) a w out r (groups-full x e f) = groups-no-room w (x .begun .flag) (x .attributesRead) (x .childrenRead) f
+    while-reading list a w out r (item-no-room {entry = entry} (item x h) n) = promise.no-room entry w (of-item x) n (λ lent. rw h)
+    while-reading list a w out r (list-ill-formed x e) = not-ill-formed w e
+    while-reading strings a w out r (string-no-room {entry = entry} (string x h e) n) = promise.no-room entry w (of-string x) n (λ lent. rw (h, e))
+    while-reading strings a w out r (string-no-text {c = c} x h e) = six strings a w c (reached-in x, h) (children-met toks (a .opened .root) (root sheet strings a w) c (reached-in x)) e
+    while-reading strings a w out r (strings-ill-formed x e) = not-ill-formed w e
+    while-reading map a w out r (entry-no-room {entry = entry} (text-entry x f i p j q) n) = promise.no-room entry w (of-entry (x .reached)) n (λ lent. rw (x .wanted, f .read, f .key, f .value))
+    while-reading map a w out r (entry-no-room {entry = entry} (piece-entry x f i p j) n) = promise.no-room entry w (of-entry (x .reached)) n (λ lent. rw (x .wanted, f .read, f .key, f .value))
+    while-reading map a w out r (field-no-text {c = c} {field = field} x q i t e) =
+        let entry = entries-met (entryName settings (a .sheet)) (a .opened .root) (root sheet map a w) c (reached-in (x .reached)) in
+        six map a w field (c, reached-in (x .reached), x .wanted, i, t) (children-met toks c entry field i) e
+    while-reading map a w out r (map-ill-formed x e) = not-ill-formed w e
+
+    keeps : (shape : Shape) → Promised body table final sheet settings depth room shape (read shape body table final sheet settings depth room)
+    keeps shape = go (reads body table final sheet settings depth room shape)
+      where
+        ended : {a : Asked (SheetOf shape)} {x : Reading} → ReadOf body table final sheet shape a → Ended (Stops body settings depth room shape a) x → AllHanded body table sheet (output x)
+            → Promised body table final sheet settings depth room shape x
+        ended w done h = finishes h
+        ended {a} w (stopped {out = out} {r = r} s) h = promise.refuses (while-reading shape a w out r s) h
+
+        go : {x : Reading} → Reads body table final sheet settings depth room shape x → Promised body table final sheet settings depth room shape x
+        go (before r) = promise.refuses (before-reading shape r) (none-handed body table sheet)
+        go (while {a = a} w t) =
+            let is = read-of shape a w in
+            ended is (run-ended t) (run-carried (handed-kept body table sheet room) (write-source settings depth room shape a (met-sources sheet shape a is) (shape-sources sheet shape a is)) t)
 
 -- THE THEOREM, demand 3: of a body and table that passed, each reading, with any sheet, settings, depth, room and order of groups, keeps its promise
 pub demand-3 : {body table : List ℕ} {final : ℕ} → Passed body table final → (shape : Shape) (sheet : List ℕ) (settings : Settings) (depth : ShapeDepth) (room : Room)
-    → Promised (Condition shape body table final sheet settings depth room) body table sheet (read shape body table final sheet settings depth room)
-demand-3 {body} {table} {final} p (structure order) sheet settings depth room =
-    with-condition (λ r out. structure-refusal body table final sheet settings depth room order r out .0)
-    (structure-keeps body table sheet final (drained-passes-is body table final .1 p) settings depth room order)
-demand-3 {body} {table} {final} p list sheet settings depth room =
-    with-condition (λ r out. list-refusal body table final sheet settings depth room r out .0)
-    (list-keeps body table sheet final (drained-passes-is body table final .1 p) settings depth room)
-demand-3 {body} {table} {final} p map sheet settings depth room =
-    with-condition (λ r out. map-refusal body table final sheet settings depth room r out .0)
-    (map-keeps body table sheet final (drained-passes-is body table final .1 p) settings depth room)
-demand-3 {body} {table} {final} p strings sheet settings depth room =
-    with-condition (λ r out. string-list-refusal body table final sheet settings depth room r out .0)
-    (strings-keep body table sheet final (drained-passes-is body table final .1 p) settings depth room)
+    → Promised body table final sheet settings depth room shape (read shape body table final sheet settings depth room)
+demand-3 {body} {table} {final} p shape sheet settings depth room = keeps body table final (drained-passes-is body table final .1 p) sheet settings depth room shape
+
+-- of what was written, however the reading ended
+pub promised-output : {body table : List ℕ} {final : ℕ} {sheet : List ℕ} {settings : Settings} {depth : ShapeDepth} {room : Room} {shape : Shape} {r : Reading}
+    → Promised body table final sheet settings depth room shape r → AllHanded body table sheet (output r)
+promised-output (finishes a) = a
+promised-output (promise.refuses m a) = a
 
 -- of its pieces alone: each entry of kind 2 that such a reading hands out, finished or refused, is an element of the table that passes the drain again
 pub each-piece : {body table : List ℕ} {final : ℕ} → Passed body table final → (shape : Shape) (sheet : List ℕ) (settings : Settings) (depth : ShapeDepth) (room : Room)

@@ -12,7 +12,7 @@ use Rattle.table.specs.Row.{rowsOf, toksOf}
 use Rattle.document.specs.Scope.{Child, rootOf, childrenOf}
 use Rattle.sheet.specs.Sheet.{Structure, structureOf}
 use Rattle.readings.specs.Structure.{inGroup}
-use Rattle.readings.specs.Demand.Promise.{structure}
+use Rattle.readings.specs.Shape.{structure}
 use Rattle.readings.specs.Examples.Asking.{reading, ask, answer, case, Answered, plain, settings, lenient, strict, rootNames, room, enough, named, scalarA, scalarsAB, unwrappedA}
 use Rattle.readings.specs.Examples.Tables.{empty, bare, one, two, four, nested, nested-text, nested-empty, two-unclosed, behind-comment, comment, prefixed, prefixed-one, prefixed-end, attribute, attribute-empty, attribute-child, attributes-two, attributes-prefixed, attribute-second, one-text4, element-text, second-error, blank}
 use Rattle.readings.specs.All.{computed}

@@ -9,7 +9,7 @@ use Rattle.lists.specs.Bytes.{ascii}
 use Rattle.sheet.specs.declared.ShapeDepth.{ShapeDepth}
 use Rattle.sheet.specs.Settings.{Settings}
 use Rattle.readings.specs.Output.{Room, Told, told}
-use Rattle.readings.specs.Demand.Promise.{Shape, read}
+use Rattle.readings.specs.Shape.{Shape, read}
 
 -- ---- settings, shape depth and room
 -- the maximum depth, validate_document, validate_root_name and strict_collection_element_names

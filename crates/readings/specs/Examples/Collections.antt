@@ -2,7 +2,7 @@
 -- no Rust reference.
 use mathlib.Core.Path.{refl}
 use mathlib.Core.List.{[], _∷_, _++_}
-use Rattle.readings.specs.Demand.Promise.{list, map, strings}
+use Rattle.readings.specs.Shape.{list, map, strings}
 use Rattle.readings.specs.Examples.Asking.{reading, ask, answer, case, Answered, lenient, strict, itemNames, room, enough, named, keyed}
 use Rattle.readings.specs.Examples.Tables.{empty, one, two, nested, nested-text, nested-empty, two-unclosed, comment, prefixed-item, attribute-second, second-error, entry1, entry1-closed, entry1-names, entry1-prefixed, entry1-fields, entry1-empty, entry1-nested, entry1-error, entry2, entry2-prefixed, entry2-nested, entry2-open, entry2-field-attribute, entry2-attribute, early}
 use Rattle.readings.specs.All.{computed}

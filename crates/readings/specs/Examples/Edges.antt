@@ -16,7 +16,7 @@ use Rattle.xml.specs.declared.Cause.{Cause}
 use Rattle.xml.specs.declared.Drained.{Drained}
 use Rattle.xml.specs.Drain.{drained}
 use Rattle.readings.specs.Output.{Told}
-use Rattle.readings.specs.Demand.Promise.{Shape, structure}
+use Rattle.readings.specs.Shape.{Shape, structure}
 use Rattle.readings.specs.Scalar.{integerOf}
 use Rattle.readings.specs.Examples.Asking.{reading, ask, answer, case, Answered, plain, lenient, strict, enough, named, scalarsAB}
 use Rattle.readings.specs.Examples.Tables.{empty, one, one-text, two, unclosed, attributes-two, attribute-first}

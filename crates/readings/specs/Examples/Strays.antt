@@ -2,7 +2,7 @@
 -- among the bodies at the edges; the root and list items stand with the answers.)
 use mathlib.Core.Path.{refl}
 use mathlib.Core.List.{[], _∷_, _++_}
-use Rattle.readings.specs.Demand.Promise.{structure, map}
+use Rattle.readings.specs.Shape.{structure, map}
 use Rattle.readings.specs.Examples.Asking.{reading, ask, answer, case, Answered, plain, lenient, strict, enough, named, keyed}
 use Rattle.readings.specs.Examples.Tables.{two, prefixed-one, attribute-type, attribute-child, entry1-fields, entry1-nested}
 use Rattle.readings.specs.All.{computed}

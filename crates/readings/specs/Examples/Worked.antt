@@ -18,8 +18,9 @@ use Rattle.readings.specs.Output.{textEntry, pieceEntry, groupEntry, key
 use Rattle.readings.specs.Opening.{asked}
 use Rattle.readings.specs.Structure.{structureReading}
 use Rattle.readings.specs.Collection.{listReading, mapReading}
-use Rattle.readings.specs.Demand.Promise.{structure, AllHanded, promised-output}
-use Rattle.readings.specs.Demand.Theorem.{demand-3}
+use Rattle.readings.specs.Shape.{structure}
+use Rattle.readings.specs.Demand.Promise.{AllHanded}
+use Rattle.readings.specs.Demand.Theorem.{demand-3, promised-output}
 use Rattle.readings.specs.Laws.Order.{hasGroup, grouped, orderIn}
 use Rattle.readings.specs.Examples.Asking.{settings, shape, enough}
 use Rattle.readings.specs.All.{computed}

@@ -16,27 +16,30 @@ use Rattle.document.specs.Names.{nameMatches}
 use Rattle.document.specs.Reader.{Attribute}
 use Rattle.document.specs.Scope.{childrenOf, dropping}
 use Rattle.document.specs.Laws.Fuel.{dropping-shortens}
+use Rattle.document.specs.Laws.Placed.{Placed}
 use Rattle.document.specs.Laws.Inside.{piece-inside}
 use Rattle.document.specs.Laws.Short.{ShortValue, values-short, ShortAttribute, root-attributes-short, ShortText, short-text, no-text, text-short, few-inside}
 use Rattle.sheet.specs.declared.ShapeDepth.{ShapeDepth}
 use Rattle.sheet.specs.Settings.{Settings}
-use Rattle.sheet.specs.Sheet.{Member, structureOf, listOf, mapOf}
+use Rattle.sheet.specs.Sheet.{mostMembers, Member, Structure, structureOf}
 use Rattle.sheet.specs.Names.{indexed, entryName}
 use Rattle.sheet.specs.Limits.{few-members}
 use Rattle.readings.specs.Output.{Entry, Room, Output, nothing, output}
-use Rattle.readings.specs.Opening.{Opened}
-use Rattle.readings.specs.Structure.{attributeOf, readOpened, structureReading}
-use Rattle.readings.specs.Collection.{readItems, listReading, readStrings, stringListReading, afterEntry, entriesOf, readEntries, mapReading}
-use Rattle.readings.specs.Conditions.Opening.{OpenedAs, given-refused, gives-same}
-use Rattle.readings.specs.Demand.Promise.{Shape, structure, list, map, strings, read}
+use Rattle.readings.specs.Opening.{Opened, Asked}
+use Rattle.readings.specs.Structure.{attributeOf}
+use Rattle.readings.specs.Collection.{afterEntry, entriesOf}
+use Rattle.readings.specs.Conditions.Answers.{given-refused, gives-same}
+use Rattle.readings.specs.Conditions.Opening.{OpenedAs, AskedAs}
+use Rattle.readings.specs.Shape.{Shape, structure, list, map, strings, SheetOf, sheetOf, read}
 use Rattle.readings.specs.Laws.Fuel.{after-entry-shortens}
 use Rattle.readings.specs.Laws.Few.{index-below, FewGroups}
 use Rattle.readings.specs.Laws.Siblings.{group-short}
 use Rattle.readings.specs.Laws.Inside.{root-piece-inside}
-use Rattle.readings.specs.Laws.Carried.Keeps.{OpenedIn, opened-in, asked-carried, Sources}
-use Rattle.readings.specs.Laws.Carried.Structure.{structureSteps, structure-carried}
-use Rattle.readings.specs.Laws.Carried.Collection.{items-carried, strings-carried, entries-carried}
 use Rattle.readings.specs.Laws.Fits.{EntryFits, Fits, FewBytes, PieceFits, fits-kept}
+use Rattle.readings.specs.Runs.Next.{most}
+use Rattle.readings.specs.Runs.Readings.{output-carried}
+use Rattle.readings.specs.Runs.Carried.{Anything, run-carried, Sources, StructureSources, ShapeSources, write-source}
+use Rattle.readings.specs.Runs.Placed.{OpenedIn, opened-in, placed-sources}
 
 -- ---- what there is to be written
 every-dropped : {A : Type 0} {P : A → Type 0} (k : ℕ) {l : List A} → Every P l → Every P (drop k l)
@@ -67,15 +70,11 @@ module _ {body table : List ℕ} {final : ℕ} {strict : Bool} {o : Opened} (w :
   values : Every (ShortValue (length body)) (toksOf body (o .seen .rows))
   values = values-short body (o .seen .rows)
 
-  fits-sources : Sources (FewBytes mostBytes) (FewBytes (mostBytes + 17)) (PieceFits body) body o
+  fits-sources : Sources (Placed (toksOf body (o .seen .rows))) (FewBytes mostBytes) Anything (PieceFits body) body o
   fits-sources =
-      record {
-        attribute = λ key v e. omega (arith, few-bytes, attribute-short (root-attributes-short (length body) (toksOf body (o .seen .rows)) values (o .root) (w .root)) key v e);
-        text = λ c h b e. omega (arith, few-bytes, given-short (text-short (length body) (o .seen .failure) c (rw (h .inner .at) at (every-dropped (c .inner .row) values))) b e);
-        piece = λ c h. piece-inside (seen .view) c h .within;
-        root = root-piece-inside seen .within;
-        group = λ s i. omega (arith, few-bytes, group-short (seen .view) s i (o .root) (seen .root));
-      }
+      placed-sources seen
+      (λ c h b e. omega (arith, few-bytes, given-short (text-short (length body) (o .seen .failure) c (rw (h .inner .at) at (every-dropped (c .inner .row) values))) b e))
+      (λ c h r e. tt {0}) (λ c h. piece-inside (seen .view) c h .within)
 
   -- the rows bound the children
   few-rows : length (o .root .inner .rest) ≤ mostRows
@@ -87,6 +86,17 @@ module _ {body table : List ℕ} {final : ℕ} {strict : Bool} {o : Opened} (w :
   few-kids : length (childrenOf (o .root)) ≤ mostRows
   unfolding childrenOf
   few-kids = omega (arith, few-inside dropping dropping-shortens (o .root), few-rows)
+
+  fits-structure : (sheet : List ℕ) {s : Structure} {order : List ℕ} → structureOf sheet ≡ some s → FewGroups order
+      → StructureSources (λ (i : ℕ). i < mostMembers) (FewBytes mostBytes) (λ (i : ℕ). FewBytes (mostBytes + 17)) (PieceFits body) body s o order
+  fits-structure sheet {s} says g =
+      record {
+        member = λ m i. omega (arith, index-below zero (s .members) m i, few-members sheet s says);
+        ordered = g .each;
+        attribute = λ key v e. omega (arith, few-bytes, attribute-short (root-attributes-short (length body) (toksOf body (o .seen .rows)) values (o .root) (w .root)) key v e);
+        group = λ i. omega (arith, few-bytes, group-short (seen .view) s i (o .root) (seen .root));
+        root = root-piece-inside seen .within;
+      }
 
   few-entries : (name : Option (List ℕ)) → length (entriesOf name (o .root)) ≤ mostRows
   unfolding entriesOf
@@ -148,28 +158,25 @@ FewIn list = Unit {0}
 FewIn map = Unit {0}
 FewIn strings = Unit {0}
 
+module _ (body table : List ℕ) (final : ℕ) (sheet : List ℕ) (settings : Settings) (depth : ShapeDepth) where
+  -- so many entries at most, of a body that is opened
+  few-writes : (room : Room) (shape : Shape) → FewIn shape → (a : Asked (SheetOf shape)) → AskedAs body table final (sheetOf shape sheet) settings depth a
+      → most body settings depth room shape a ≤ 8321
+  few-writes room (structure order) g a w = omega (arith, few-members sheet (a .sheet) (w .says), length-indexed zero (a .sheet .members), few-kids (w .begun), g .few)
+  few-writes room list g a w = omega (arith, few-kids (w .begun))
+  few-writes room map g a w = omega (arith, few-entries (w .begun) (entryName settings (a .sheet)))
+  few-writes room strings g a w = omega (arith, few-kids (w .begun))
+
+  fits-shape : (shape : Shape) → FewIn shape → (a : Asked (SheetOf shape)) → AskedAs body table final (sheetOf shape sheet) settings depth a
+      → ShapeSources (λ (i : ℕ). i < mostMembers) (FewBytes mostBytes) (λ (i : ℕ). FewBytes (mostBytes + 17)) (PieceFits body) body shape a
+  fits-shape (structure order) g a w = fits-structure (w .begun) sheet (w .says) g
+  fits-shape list g a w = omega arith
+  fits-shape map g a w = omega arith
+  fits-shape strings g a w = omega arith
+
 pub reading-small : (shape : Shape) → FewIn shape → (body table : List ℕ) (final : ℕ) (sheet : List ℕ) (settings : Settings) (depth : ShapeDepth) (room : Room)
     → Small body (output (read shape body table final sheet settings depth room))
-unfolding structureReading listReading mapReading stringListReading
-reading-small (structure order) g body table final sheet settings depth room =
-    asked-carried (Small body) (none-small body) body table final (structureOf sheet) settings depth (readOpened body settings depth room order)
-    (λ a w.
-    let s = a .sheet in
-    let few = few-members sheet s (w .says) in
-    steps-small body (structureSteps s (a .opened) order) _ (few-bytes (w .begun)) (omega (arith, few, length-indexed zero (s .members), few-kids (w .begun), g .few))
-    (structure-carried (fits-kept body room) (fits-sources (w .begun)) (seen (w .begun) .root) settings depth s
-    (λ m i. omega (arith, index-below zero (s .members) m i, few)) order (g .each)))
-reading-small list g body table final sheet settings depth room =
-    asked-carried (Small body) (none-small body) body table final (listOf sheet) settings depth (readItems body settings room)
-    (λ a w. steps-small body (0 + length (childrenOf (a .opened .root))) _ (few-bytes (w .begun)) (omega (arith, few-kids (w .begun)))
-    (items-carried (fits-kept body room) (fits-sources (w .begun)) (seen (w .begun) .root) settings (a .sheet)))
-reading-small map g body table final sheet settings depth room =
-    asked-carried (Small body) (none-small body) body table final (mapOf sheet) settings depth (readEntries body settings room)
-    (λ a w.
-    let name = entryName settings (a .sheet) in
-    steps-small body (0 + length (entriesOf name (a .opened .root))) _ (few-bytes (w .begun)) (omega (arith, few-entries (w .begun) name))
-    (entries-carried (fits-kept body room) (fits-sources (w .begun)) (seen (w .begun) .root) settings (a .sheet)))
-reading-small strings g body table final sheet settings depth room =
-    asked-carried (Small body) (none-small body) body table final (listOf sheet) settings depth (readStrings settings room)
-    (λ a w. steps-small body (0 + length (childrenOf (a .opened .root))) _ (few-bytes (w .begun)) (omega (arith, few-kids (w .begun)))
-    (strings-carried (fits-kept body room) (fits-sources (w .begun)) (seen (w .begun) .root) settings (a .sheet)))
+reading-small shape g body table final sheet settings depth room =
+    output-carried body table final sheet settings depth room shape (Small body) (none-small body) (λ a w x t.
+    steps-small body (most body settings depth room shape a) (output x) (few-bytes (w .begun)) (few-writes body table final sheet settings depth room shape g a w)
+    (run-carried (fits-kept body room) (write-source settings depth room shape a (fits-sources (w .begun)) (fits-shape body table final sheet settings depth shape g a w)) t))

@@ -19,7 +19,7 @@ use Rattle.document.specs.Laws.Placed.{Placed, children-placed, root-placed}
 use Rattle.document.specs.Laws.Inside.{ViewIn, view-in, piece-inside}
 use Rattle.readings.specs.Opening.{withTable, present}
 use Rattle.readings.specs.Find.{hasLocal, firstChild, wholeBody, findIn, find, partOf}
-use Rattle.readings.specs.Conditions.Opening.{given-refused, gives-same}
+use Rattle.readings.specs.Conditions.Answers.{given-refused, gives-same}
 use Rattle.readings.specs.Conditions.Find.{FindRefused, find-refusal}
 
 -- a filled part of the body

@@ -11,8 +11,8 @@ use Rattle.refusal.specs.Numbers.{number}
 use Rattle.table.specs.Rules.{mostBytes}
 use Rattle.document.specs.Scope.{Piece}
 use Rattle.sheet.specs.Sheet.{mostMembers}
-use Rattle.readings.specs.Output.{Entry, textKind, pieceKind, groupKind, failedKind, Room, Output}
-use Rattle.readings.specs.Laws.Carried.Keeps.{Keeps}
+use Rattle.readings.specs.Output.{Entry, textKind, pieceKind, groupKind, failedKind, Room, Output, written}
+use Rattle.readings.specs.Runs.Carried.{Source, of-text, of-failed, of-piece, of-group, of-key-text, of-key-piece, Anything, Keeps}
 
 -- ---- what is said of an output after n steps
 -- the spans of an entry, where there are so many text bytes
@@ -78,33 +78,39 @@ module _ (body : List ℕ) where
       }
 
   -- an entry of each kind
-  of-text : {t : ℕ} (e : Entry) → e .kind ≡ textKind → e .member < mostMembers → e .keyStart + e .keyLen ≤ t → e .start + e .len ≤ t → EntryFits body t e
-  of-text e k m key h =
+  text-fits : {t : ℕ} (e : Entry) → e .kind ≡ textKind → e .member < mostMembers → e .keyStart + e .keyLen ≤ t → e .start + e .len ≤ t → EntryFits body t e
+  text-fits e k m key h =
       record { kind = (omega (arith, k), omega (arith, k)); member = m; key = key; text = λ q. h; piece = λ q. absurd (omega (arith, k, q)); group = λ q. h; failed = λ q. absurd (omega (arith, k, q)) }
 
-  of-piece : {t : ℕ} (e : Entry) → e .kind ≡ pieceKind → e .member < mostMembers → e .keyStart + e .keyLen ≤ t → e .start + e .len ≤ length body → EntryFits body t e
-  of-piece e k m key h =
+  piece-fits : {t : ℕ} (e : Entry) → e .kind ≡ pieceKind → e .member < mostMembers → e .keyStart + e .keyLen ≤ t → e .start + e .len ≤ length body → EntryFits body t e
+  piece-fits e k m key h =
       record { kind = (omega (arith, k), omega (arith, k)); member = m; key = key; text = λ q. absurd (omega (arith, k, q)); piece = λ q. h; group = λ q. absurd (omega (arith, k, q)); failed = λ q. absurd (omega (arith, k, q)) }
 
-  of-group : {t : ℕ} (e : Entry) → e .kind ≡ groupKind → e .member < mostMembers → e .keyStart + e .keyLen ≤ t → e .start + e .len ≤ t → EntryFits body t e
-  of-group e k m key h =
+  group-fits : {t : ℕ} (e : Entry) → e .kind ≡ groupKind → e .member < mostMembers → e .keyStart + e .keyLen ≤ t → e .start + e .len ≤ t → EntryFits body t e
+  group-fits e k m key h =
       record { kind = (omega (arith, k), omega (arith, k)); member = m; key = key; text = λ q. h; piece = λ q. absurd (omega (arith, k, q)); group = λ q. h; failed = λ q. absurd (omega (arith, k, q)) }
 
-  of-failed : {t : ℕ} (e : Entry) → e .kind ≡ failedKind → e .member < mostMembers → e .keyStart + e .keyLen ≤ t → (e .start ≤ 13) × (e .len ≡ 0) → EntryFits body t e
-  of-failed e k m key h =
+  failed-fits : {t : ℕ} (e : Entry) → e .kind ≡ failedKind → e .member < mostMembers → e .keyStart + e .keyLen ≤ t → (e .start ≤ 13) × (e .len ≡ 0) → EntryFits body t e
+  failed-fits e k m key h =
       record { kind = (omega (arith, k), omega (arith, k)); member = m; key = key; text = λ q. absurd (omega (arith, k, q)); piece = λ q. absurd (omega (arith, k, q)); group = λ q. absurd (omega (arith, k, q)); failed = λ q. h }
 
-  pub fits-kept : (room : Room) → Keeps room (Fits body) (λ (i : ℕ). i < mostMembers) (FewBytes mostBytes) (FewBytes (mostBytes + 17)) (PieceFits body)
+  -- members of a sheet, texts and pieces of the body, and groups
+  abbrev pub FitSource : (ℕ → Entry) → List ℕ → Type 0
+  FitSource = Source (λ (i : ℕ). i < mostMembers) (FewBytes mostBytes) Anything (λ (i : ℕ). FewBytes (mostBytes + 17)) (PieceFits body)
+
+  write-fits : (n : ℕ) (out : Output) {entry : ℕ → Entry} {bytes : List ℕ} → FitSource entry bytes → Fits body n out → Fits body (suc n) (written entry bytes out)
+  write-fits n out (of-text {b = b} m t) w = more n out b _ w (omega (arith, t)) (text-fits _ refl m (omega arith) (omega arith))
+  write-fits n out (of-piece m h) w = more n out [] _ w (omega arith) (piece-fits _ refl m (omega arith) h)
+  write-fits n out (of-group {b = b} m t) w = more n out b _ w (omega (arith, t)) (group-fits _ refl m (omega arith) (omega arith))
+  write-fits n out (of-failed {r = r} m h) w = more n out [] _ w (omega arith) (failed-fits _ refl m (omega arith) (refusal-small r, refl))
+  write-fits n out (of-key-text {k = y} {b = b} s t) w =
+      more n out (y ++ b) _ w (omega (arith, s, t, length-append y b)) (text-fits _ refl (omega arith) (omega (arith, length-append y b)) (omega (arith, length-append y b)))
+  write-fits n out (of-key-piece {k = y} s h) w = more n out y _ w (omega (arith, s)) (piece-fits _ refl (omega arith) (omega arith) h)
+
+  pub fits-kept : (room : Room) → Keeps room FitSource (Fits body)
   fits-kept room =
       record {
         start = record { texts = omega arith; each = none };
-        item = omega arith;
         idle = λ n m out h w. record { texts = omega (arith, w .texts, h); each = w .each };
-        text = λ n i b out m t f w. more n out b _ w (omega (arith, t)) (of-text _ refl m (omega arith) (omega arith));
-        piece = λ n i p out m h f w. more n out [] _ w (omega arith) (of-piece _ refl m (omega arith) h);
-        group = λ n i b out m t f w. more n out b _ w (omega (arith, t)) (of-group _ refl m (omega arith) (omega arith));
-        failed = λ n i r out m f w. more n out [] _ w (omega arith) (of-failed _ refl m (omega arith) (refusal-small r, refl));
-        keyText = λ n y b out s t f w.
-            more n out (y ++ b) _ w (omega (arith, s, t, length-append y b)) (of-text _ refl (omega arith) (omega (arith, length-append y b)) (omega (arith, length-append y b)));
-        keyPiece = λ n y p out s h f w. more n out y _ w (omega (arith, s)) (of-piece _ refl (omega arith) (omega arith) h);
+        write = λ n out entry bytes s f w. write-fits n out s w;
       }

@@ -2,30 +2,29 @@
 -- table breaks the rules nothing is written.
 use Prim.Native.Nat.{ℕ, _≤_}
 use mathlib.Core.Path.{_≡_}
-use mathlib.Core.List.{List, [], _∷_, _++_}
+use mathlib.Core.List.{List}
 use mathlib.Core.Option.{none}
 use native.Mathlib.Omega.{arith}
 use lib.Dec.{eqb}
 use lib.ListN.{length, take, drop}
 use Rattle.lists.specs.Every.{Every, none, every-snoc}
 use Rattle.lists.specs.Tests.{pick, pick-all}
-use Rattle.table.specs.Row.{Row}
+use Rattle.table.specs.Row.{Row, toksOf}
 use Rattle.table.specs.Rules.{lastPosition}
 use Rattle.table.specs.Piece.{openCount, closing, isClosed}
 use Rattle.table.specs.Moved.{last-taken}
 use Rattle.table.specs.Element.{each-take, last-drop}
+use Rattle.document.specs.Laws.Placed.{Placed}
 use Rattle.document.specs.Laws.Inside.{StartRow, start-row, view-end-in, PieceIn, piece-to-in, piece-inside}
 use Rattle.sheet.specs.declared.ShapeDepth.{ShapeDepth}
 use Rattle.sheet.specs.Settings.{Settings}
-use Rattle.sheet.specs.Sheet.{structureOf, listOf, mapOf}
 use Rattle.readings.specs.Output.{Entry, pieceKind, Output, nothing, output, Room}
-use Rattle.readings.specs.Opening.{Opened}
-use Rattle.readings.specs.Structure.{rootPiece, readOpened, structureReading}
-use Rattle.readings.specs.Collection.{readItems, listReading, readStrings, stringListReading, readEntries, mapReading}
-use Rattle.readings.specs.Demand.Promise.{Shape, structure, list, map, strings, read}
-use Rattle.readings.specs.Laws.Carried.Keeps.{asked-carried, OpenedIn, opened-in, Keeps, Anything, Sources}
-use Rattle.readings.specs.Laws.Carried.Structure.{structure-carried}
-use Rattle.readings.specs.Laws.Carried.Collection.{items-carried, strings-carried, entries-carried}
+use Rattle.readings.specs.Opening.{Opened, Asked}
+use Rattle.readings.specs.Structure.{rootPiece}
+use Rattle.readings.specs.Shape.{Shape, structure, list, map, strings, SheetOf, read}
+use Rattle.readings.specs.Runs.Readings.{output-carried}
+use Rattle.readings.specs.Runs.Carried.{Source, of-text, of-failed, of-piece, of-group, of-key-text, of-key-piece, Anything, Keeps, run-carried, Sources, ShapeSources, write-source}
+use Rattle.readings.specs.Runs.Placed.{OpenedIn, opened-in, placed-sources}
 
 -- ---- the root's piece
 abbrev rootRows : Opened → List Row
@@ -61,48 +60,35 @@ pub record AllIn (body : List ℕ) (out : Output) : Type 0 where
 none-in : (body : List ℕ) → AllIn body nothing
 none-in body = record { each = none }
 
-module _ (body : List ℕ) where
-  more-in : {e : Entry} {texts : List ℕ} (out : Output) → AllIn body out → EntryIn body e → AllIn body (record { entries = out .entries ++ e ∷ []; texts = texts })
-  more-in out q h = record { each = every-snoc (q .each) h }
+-- nothing is said of members, texts and groups
+abbrev InSource : List ℕ → (ℕ → Entry) → List ℕ → Type 0
+InSource body = Source Anything Anything Anything (λ (i : ℕ). Anything) (PieceIn body)
 
-  -- nothing is said of members, texts and groups
-  in-keeps : (room : Room) → Keeps room (λ (n : ℕ) (out : Output). AllIn body out) Anything Anything Anything (PieceIn body)
-  in-keeps room =
-      record {
-        start = none-in body;
-        item = tt {0};
-        idle = λ n m out h q. q;
-        text = λ n i b out m t f q. more-in out q (record { piece = λ e. absurd (omega (arith, e)) });
-        piece = λ n i p out m h f q. more-in out q (record { piece = λ e. h });
-        group = λ n i b out m t f q. more-in out q (record { piece = λ e. absurd (omega (arith, e)) });
-        failed = λ n i r out m f q. more-in out q (record { piece = λ e. absurd (omega (arith, e)) });
-        keyText = λ n y b out s t f q. more-in out q (record { piece = λ e. absurd (omega (arith, e)) });
-        keyPiece = λ n y p out t h f q. more-in out q (record { piece = λ e. h });
-      }
+entry-in : {body : List ℕ} {entry : ℕ → Entry} {bytes : List ℕ} → InSource body entry bytes → (at : ℕ) → EntryIn body (entry at)
+entry-in (of-text m t) at = record { piece = λ e. absurd (omega (arith, e)) }
+entry-in (of-failed m r) at = record { piece = λ e. absurd (omega (arith, e)) }
+entry-in (of-piece m h) at = record { piece = λ e. h }
+entry-in (of-group m g) at = record { piece = λ e. absurd (omega (arith, e)) }
+entry-in (of-key-text k t) at = record { piece = λ e. absurd (omega (arith, e)) }
+entry-in (of-key-piece k h) at = record { piece = λ e. h }
 
-  in-sources : {table : List ℕ} {final : ℕ} {o : Opened} → OpenedIn body table final o → Sources Anything Anything (PieceIn body) body o
-  in-sources w =
-      record {
-        attribute = λ key v e. tt {0};
-        text = λ c h b e. tt {0};
-        piece = λ c h. piece-inside (w .view) c h;
-        root = root-piece-inside w;
-        group = λ s i. tt {0};
-      }
+in-keeps : (body : List ℕ) (room : Room) → Keeps room (InSource body) (λ (n : ℕ). AllIn body)
+in-keeps body room =
+    record { start = none-in body; idle = λ n m out h q. q; write = λ n out entry bytes s f q. record { each = every-snoc (q .each) (entry-in s (length (out .texts))) } }
+
+in-sources : {body table : List ℕ} {final : ℕ} {o : Opened} → OpenedIn body table final o → Sources (Placed (toksOf body (o .seen .rows))) Anything Anything (PieceIn body) body o
+in-sources w = placed-sources w (λ c h b e. tt {0}) (λ c h r e. tt {0}) (piece-inside (w .view))
+
+in-shape : {body : List ℕ} (shape : Shape) (a : Asked (SheetOf shape)) → PieceIn body (rootPiece body (a .opened)) → ShapeSources Anything Anything (λ (i : ℕ). Anything) (PieceIn body) body shape a
+in-shape (structure order) a h = record { member = λ m i. tt {0}; ordered = λ i j. tt {0}; attribute = λ name v e. tt {0}; group = λ i. tt {0}; root = h }
+in-shape list a h = tt {0}
+in-shape map a h = tt {0}
+in-shape strings a h = tt {0}
 
 -- ---- THE LAW: for every input and each reading
 pub entries-inside : (shape : Shape) (body table : List ℕ) (final : ℕ) (sheet : List ℕ) (settings : Settings) (depth : ShapeDepth) (room : Room)
     → AllIn body (output (read shape body table final sheet settings depth room))
-unfolding structureReading listReading mapReading stringListReading
-entries-inside (structure order) body table final sheet settings depth room =
-    asked-carried (AllIn body) (none-in body) body table final (structureOf sheet) settings depth (readOpened body settings depth room order)
-    (λ a w. let o = opened-in (w .begun) in structure-carried (in-keeps body room) (in-sources body o) (o .root) settings depth (a .sheet) (λ m i. tt {0}) order (λ i m. tt {0}))
-entries-inside list body table final sheet settings depth room =
-    asked-carried (AllIn body) (none-in body) body table final (listOf sheet) settings depth (readItems body settings room)
-    (λ a w. let o = opened-in (w .begun) in items-carried (in-keeps body room) (in-sources body o) (o .root) settings (a .sheet))
-entries-inside map body table final sheet settings depth room =
-    asked-carried (AllIn body) (none-in body) body table final (mapOf sheet) settings depth (readEntries body settings room)
-    (λ a w. let o = opened-in (w .begun) in entries-carried (in-keeps body room) (in-sources body o) (o .root) settings (a .sheet))
-entries-inside strings body table final sheet settings depth room =
-    asked-carried (AllIn body) (none-in body) body table final (listOf sheet) settings depth (readStrings settings room)
-    (λ a w. let o = opened-in (w .begun) in strings-carried (in-keeps body room) (in-sources body o) (o .root) settings (a .sheet))
+entries-inside shape body table final sheet settings depth room =
+    output-carried body table final sheet settings depth room shape (AllIn body) (none-in body) (λ a w x t.
+    let o = opened-in (w .begun) in
+    run-carried (in-keeps body room) (write-source settings depth room shape a (in-sources o) (in-shape shape a (root-piece-inside o))) t)

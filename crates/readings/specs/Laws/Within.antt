@@ -1,70 +1,53 @@
 -- No reading writes more than there is room for, on any input: "An entry and its text are written only if both fit".
-use Prim.Native.Nat.{ℕ}
-use mathlib.Core.List.{List, [], _++_}
-use Rattle.document.specs.Scope.{Child}
+use Prim.Native.Nat.{ℕ, _+_, _≤_}
+use mathlib.Core.Path.{_≡_, refl}
+use mathlib.Core.Bool.{Bool, true, false}
+use mathlib.Core.List.{List, [], _∷_}
+use native.Mathlib.Omega.{arith}
+use borrow.Author.Tests.{ltb-true, leb-true}
+use lib.Dec.{ltb, leb}
+use lib.ListN.{length, length-append}
+use Rattle.lists.specs.Tests.{pick, false-true}
+use Rattle.refusal.specs.declared.Refusal.{Refusal}
 use Rattle.sheet.specs.declared.ShapeDepth.{ShapeDepth}
 use Rattle.sheet.specs.Settings.{Settings}
-use Rattle.sheet.specs.Sheet.{Structure, structureOf, listOf, mapOf}
-use Rattle.sheet.specs.Names.{membersOf}
-use Rattle.readings.specs.Output.{textEntry, pieceEntry, groupEntry, failedEntry, keyTextEntry, keyPieceEntry, Room, Output, nothing, Reading, output, each}
-use Rattle.readings.specs.Opening.{Opened}
-use Rattle.readings.specs.Structure.{readAttribute, readChild, readOpened, structureReading}
-use Rattle.readings.specs.Collection.{readItems, listReading, readStrings, stringListReading, readEntries, mapReading}
-use Rattle.readings.specs.Laws.Fold.{Within, nothing-within, written-within}
-use Rattle.readings.specs.Laws.Carried.Keeps.{opened-in, asked-carried, Keeps, Anything, Sources, steps}
-use Rattle.readings.specs.Laws.Carried.Structure.{attribute-step, child-step, structure-carried}
-use Rattle.readings.specs.Laws.Carried.Collection.{items-carried, strings-carried, entries-carried}
+use Rattle.readings.specs.Output.{Entry, Room, Output, nothing, Reading, output, fits, written}
+use Rattle.readings.specs.Shape.{Shape, read}
+use Rattle.readings.specs.Runs.Run.{Run}
+use Rattle.readings.specs.Runs.Readings.{output-carried}
+use Rattle.readings.specs.Runs.Carried.{Keeps, run-carried}
 
-module _ (room : Room) where
-  -- what a reading has written is within the room
-  abbrev pub WithinRoom : Reading → Type 0
-  WithinRoom r = Within room (output r)
+pub record Within (room : Room) (out : Output) : Type 0 where
+  pub entries : length (out .entries) ≤ room .entries
+  pub texts : length (out .texts) ≤ room .bytes
 
-  -- whatever is written
-  within-keeps : Keeps room (λ (n : ℕ). Within room) Anything Anything Anything Anything
-  within-keeps =
-      record {
-        start = nothing-within room;
-        item = tt {0};
-        idle = λ n m out h q. q;
-        text = λ n i b out m t f q. written-within room (textEntry i b) b out f;
-        piece = λ n i p out m h f q. written-within room (pieceEntry i p) [] out f;
-        group = λ n i b out m t f q. written-within room (groupEntry i b) b out f;
-        failed = λ n i r out m f q. written-within room (failedEntry i r) [] out f;
-        keyText = λ n y b out s t f q. written-within room (keyTextEntry y b) (y ++ b) out f;
-        keyPiece = λ n y p out s h f q. written-within room (keyPieceEntry y p) y out f;
-      }
+-- what the test of room says
+fits-is : (room : Room) (bytes : List ℕ) (out : Output) → fits room bytes out ≡ true →
+    (length (out .entries) + 1 ≤ room .entries) × (length (out .texts) + length bytes ≤ room .bytes)
+fits-is room bytes out e = go (ltb (length (out .entries)) (room .entries)) refl e
+  where
+    go : (t : Bool) → ltb (length (out .entries)) (room .entries) ≡ t → pick t (leb (length (out .texts) + length bytes) (room .bytes)) false ≡ true →
+        (length (out .entries) + 1 ≤ room .entries) × (length (out .texts) + length bytes ≤ room .bytes)
+    go true p e = (omega (arith, ltb-true (length (out .entries)) (room .entries) p), leb-true _ _ e)
+    go false p e = false-true e
 
-  anything : (body : List ℕ) (o : Opened) → Sources Anything Anything Anything body o
-  anything body o = record { attribute = λ key v e. tt {0}; text = λ c h b e. tt {0}; piece = λ c h. tt {0}; root = tt {0}; group = λ s i. tt {0} }
+pub written-within : (room : Room) (entry : ℕ → Entry) (bytes : List ℕ) (out : Output) → fits room bytes out ≡ true → Within room (written entry bytes out)
+written-within room entry bytes out e =
+    let f = fits-is room bytes out e in
+    record {
+      entries = omega (arith, f .0, length-append (out .entries) (entry (length (out .texts)) ∷ []));
+      texts = omega (arith, f .1, length-append (out .texts) bytes);
+    }
 
-  pub attributes-within : (o : Opened) (s : Structure) → WithinRoom (each (readAttribute room (o .root .start .attributes)) (membersOf s) nothing)
-  attributes-within o s = steps within-keeps _ (membersOf s) (λ m i. attribute-step within-keeps (o .root .start .attributes) (λ key v e. tt {0}) m (tt {0})) 0 nothing (nothing-within room)
+-- whatever is written
+within-keeps : (room : Room) → Keeps room (λ (entry : ℕ → Entry) (bytes : List ℕ). Unit {0}) (λ (n : ℕ). Within room)
+within-keeps room =
+    record { start = record { entries = omega arith; texts = omega arith }; idle = λ n m out h q. q; write = λ n out entry bytes s f q. written-within room entry bytes out f }
 
-  pub children-within : (body : List ℕ) (o : Opened) (s : Structure) (kids : List Child) (out : Output) → Within room out → WithinRoom (each (readChild body (o .seen) s room) kids out)
-  children-within body o s kids = steps within-keeps _ kids (λ c i. child-step within-keeps body (o .seen) c (λ b e. tt {0}) (tt {0}) s (λ m i. tt {0})) 0
+pub run-within : {room : Room} {Writes : Output → (ℕ → Entry) → List ℕ → Type 0} {Stops : Output → Refusal → Type 0} {n : ℕ} {x : Reading} → Run room Writes Stops n nothing x → Within room (output x)
+run-within {room} t = run-carried (within-keeps room) (λ out entry bytes n. tt {0}) t
 
-  module _ (body table : List ℕ) (final : ℕ) (sheet : List ℕ) (settings : Settings) (depth : ShapeDepth) where
-    pub list-within : WithinRoom (listReading body table final sheet settings depth room)
-    unfolding listReading
-    list-within =
-        asked-carried (Within room) (nothing-within room) body table final (listOf sheet) settings depth (readItems body settings room)
-        (λ a w. items-carried within-keeps (anything body (a .opened)) (opened-in (w .begun) .root) settings (a .sheet))
-
-    pub string-list-within : WithinRoom (stringListReading body table final sheet settings depth room)
-    unfolding stringListReading
-    string-list-within =
-        asked-carried (Within room) (nothing-within room) body table final (listOf sheet) settings depth (readStrings settings room)
-        (λ a w. strings-carried within-keeps (anything body (a .opened)) (opened-in (w .begun) .root) settings (a .sheet))
-
-    pub map-within : WithinRoom (mapReading body table final sheet settings depth room)
-    unfolding mapReading
-    map-within =
-        asked-carried (Within room) (nothing-within room) body table final (mapOf sheet) settings depth (readEntries body settings room)
-        (λ a w. entries-carried within-keeps (anything body (a .opened)) (opened-in (w .begun) .root) settings (a .sheet))
-
-    pub structure-within : (order : List ℕ) → WithinRoom (structureReading body table final sheet settings depth room order)
-    unfolding structureReading
-    structure-within order =
-        asked-carried (Within room) (nothing-within room) body table final (structureOf sheet) settings depth (readOpened body settings depth room order)
-        (λ a w. structure-carried within-keeps (anything body (a .opened)) (opened-in (w .begun) .root) settings depth (a .sheet) (λ m i. tt {0}) order (λ i m. tt {0}))
+pub reading-within : (shape : Shape) (body table : List ℕ) (final : ℕ) (sheet : List ℕ) (settings : Settings) (depth : ShapeDepth) (room : Room)
+    → Within room (output (read shape body table final sheet settings depth room))
+reading-within shape body table final sheet settings depth room =
+    output-carried body table final sheet settings depth room shape (Within room) (within-keeps room .start) (λ a w x t. run-within t)

@@ -1,30 +1,37 @@
 -- 01, "Structure": "if all groups together do not fit, 10 and none is written". They are refused exactly where their entries together, or their bytes
 -- together, exceed the room that is left: sums over the groups, whatever comes first.
 use Prim.Native.Nat.{ℕ, _+_, _<_}
-use mathlib.Core.Path.{_≡_, refl, sym, _∙_, ap, subst}
+use mathlib.Core.Path.{_≡_, refl, sym, _∙_, ap, subst₂}
 use mathlib.Core.Logic.{_↔_}
 use mathlib.Core.Bool.{Bool, true, false}
 use mathlib.Core.List.{List, [], _∷_}
 use native.Mathlib.Omega.{arith}
 use lib.ListN.{length, length-append}
-use Rattle.lists.specs.Tests.{pick}
+use Rattle.lists.specs.Tests.{pick, false-true}
 use Rattle.refusal.specs.declared.Refusal.{Refusal}
 use Rattle.document.specs.View.{View}
 use Rattle.document.specs.Scope.{Child}
 use Rattle.sheet.specs.Sheet.{Structure}
 use Rattle.readings.specs.Output.{groupEntry, written, Room, Output, Reading, finished, refused, output, andThen, each, fits, writeGroup}
 use Rattle.readings.specs.Structure.{groupOf, allOrNone, readGroups}
-use Rattle.readings.specs.Laws.Fold.{not-both, refused-same, Within, write-within}
-use Rattle.readings.specs.Conditions.Room.{NoRoomFor, entries-full, bytes-full, no-room-is}
+use Rattle.readings.specs.Notions.{NoRoomFor, entries-full, bytes-full, together, GroupsFull, too-many, too-long}
+use Rattle.readings.specs.Laws.Within.{Within, written-within}
+use Rattle.readings.specs.Runs.Run.{no-room-for}
 
--- how many bytes the groups have together
-unfoldable pub together : (ℕ → List ℕ) → List ℕ → ℕ
-together group [] = 0
-together group (i ∷ order) = length (group i) + together group order
+-- no reading is both finished and refused
+abbrev isFinished : Reading → Bool
+isFinished (finished out) = true
+isFinished (refused r out) = false
 
-pub data GroupsFull (room : Room) (group : ℕ → List ℕ) (order : List ℕ) (out : Output) : Type 0 where
-  too-many : room .entries < length (out .entries) + length order → GroupsFull room group order out
-  too-long : room .bytes < length (out .texts) + together group order → GroupsFull room group order out
+abbrev refusalIn : Refusal → Reading → Refusal
+refusalIn other (finished out) = other
+refusalIn other (refused r out) = r
+
+not-both : {A : Type 0} {a b : Output} {r : Refusal} → finished a ≡ refused r b → A
+not-both e = false-true (sym (ap isFinished e))
+
+refused-same : (P : Refusal → Output → Type 0) {r s : Refusal} {a b : Output} → refused r a ≡ refused s b → P r a → P s b
+refused-same P {r = r} e p = subst₂ P (ap (refusalIn r) e) (ap output e) p
 
 module _ (room : Room) (group : ℕ → List ℕ) where
   abbrev one : ℕ → Output → Reading
@@ -60,7 +67,7 @@ module _ (room : Room) (group : ℕ → List ℕ) where
           (each one order (written (groupEntry i (group i)) (group i) out) ≡ refused r kept → (r ≡ Refusal.NoRoom) × GroupsFull room group order (written (groupEntry i (group i)) (group i) out)) →
           (r ≡ Refusal.NoRoom) × GroupsFull room group (i ∷ order) out
       go true p e ih = let w = ih e in (w .0, after-one i order out .0 (w .1))
-      go false p e ih = (refused-same (λ (n : Refusal) (o : Output). n ≡ Refusal.NoRoom) e refl, full (no-room-is room (group i) out .0 p))
+      go false p e ih = (refused-same (λ (n : Refusal) (o : Output). n ≡ Refusal.NoRoom) e refl, full (no-room-for room (group i) out p))
 
   full-groups : (order : List ℕ) (out : Output) → Within room out → GroupsFull room group order out → (kept : Output) × (each one order out ≡ refused Refusal.NoRoom kept)
   unfolding each together
@@ -72,7 +79,7 @@ module _ (room : Room) (group : ℕ → List ℕ) where
           (Within room (written (groupEntry i (group i)) (group i) out) → GroupsFull room group order (written (groupEntry i (group i)) (group i) out) →
           (kept : Output) × (each one order (written (groupEntry i (group i)) (group i) out) ≡ refused Refusal.NoRoom kept)) →
           (kept : Output) × (andThen (pick t (finished (written (groupEntry i (group i)) (group i) out)) (refused Refusal.NoRoom out)) (each one order) ≡ refused Refusal.NoRoom kept)
-      go true p ih = ih (subst (λ (b : Bool). Within room (output (pick b (finished (written (groupEntry i (group i)) (group i) out)) (refused Refusal.NoRoom out)))) p (write-within room (groupEntry i (group i)) (group i) out w)) (after-one i order out .1 h)
+      go true p ih = ih (written-within room (groupEntry i (group i)) (group i) out p) (after-one i order out .1 h)
       go false p ih = (out, refl)
 
 -- the groups are refused with 10, and they keep what was written before them

@@ -1,0 +1,3 @@
+-- Laws of plans.
+pub mod Made
+pub mod Exact
