@@ -15,8 +15,8 @@ use Rattle.sheet.specs.Settings.{Settings}
 use Rattle.readings.specs.Output.{Entry, Output, Room, Reading, output, outcome, sixNumbers, numbersOf}
 use Rattle.readings.specs.Shape as readings
 use Rattle.readings.specs.Shape.{read}
-use Rattle.readings.specs.Demand.Promise.{Handed, Promised, finishes, refuses}
-use Rattle.readings.specs.Demand.Theorem.{demand-3, promised-output}
+use Rattle.readings.specs.Demand.{Handed, Promised, finishes, refuses}
+use Rattle.readings.proofs.Demand.Theorem.{demand-3, promised-output}
 use Rattle.output.specs.Held.{roomOf}
 use Rattle.output.specs.Call.{ReadingCall}
 use Rattle.deserializer.specs.declared.Shape.{Shape}

@@ -43,7 +43,7 @@ use Rattle.list.specs.StringList.{stringOf, StringsWholeIs}
 use Rattle.codec.specs.Structure.{saidBy, StructureSaid, StructureRead}
 use Rattle.readings.specs.Opening.{asked}
 use Rattle.readings.specs.Structure.{structureReading}
-use Rattle.readings.specs.Laws.Order.{orderIn, an-order}
+use Rattle.readings.proofs.Laws.Order.{orderIn, an-order}
 use Rattle.structure.specs.Steps.{openedAt}
 use Rattle.structure.specs.Structure.{structureStep, StructureIs}
 use Rattle.structure.proofs.Called.{structure-early, structure-is}

@@ -13,7 +13,7 @@ use Rattle.sheet.specs.Settings.{Settings}
 use Rattle.readings.specs.Output.{pieceKind, Room, Output}
 use Rattle.readings.specs.Shape as readings
 use Rattle.readings.specs.Shape.{read}
-use Rattle.readings.specs.Demand.Promise.{MayRefuse, Promised}
+use Rattle.readings.specs.Demand.{MayRefuse, Promised}
 use Rattle.output.specs.Held.{roomOf}
 use Rattle.deserializer.specs.declared.Shape.{Shape}
 

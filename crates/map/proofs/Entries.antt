@@ -15,7 +15,7 @@ use Rattle.sheet.specs.Sheet.{MapSheet}
 use Rattle.sheet.specs.Names.{entryName}
 use Rattle.readings.specs.Output.{Room, Output, nothing, Reading, each}
 use Rattle.readings.specs.Collection.{afterEntry, entriesOf, readEntries, mapReading}
-use Rattle.readings.specs.Laws.Fuel.{after-entry-shortens}
+use Rattle.readings.proofs.Laws.Fuel.{after-entry-shortens}
 use Rattle.codec.specs.declared.collection.MapSheet as codec
 use Rattle.codec.specs.declared.settings.Settings.{Settings}
 use Rattle.codec.specs.Settings.{settingsOf}

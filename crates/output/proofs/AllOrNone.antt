@@ -11,9 +11,9 @@ use Rattle.document.specs.Scope.{Child}
 use Rattle.sheet.specs.Sheet.{Structure}
 use Rattle.readings.specs.Output.{Output, numbersOf, each}
 use Rattle.readings.specs.Structure.{groupOf, allOrNone, readGroups}
-use Rattle.readings.specs.Laws.Within.{Within}
+use Rattle.readings.proofs.Laws.Within.{Within}
 use Rattle.readings.specs.Notions.{together, GroupsFull, too-many, too-long}
-use Rattle.readings.specs.Laws.Groups.{GroupsRefused, groups-no-room, groups-refusal}
+use Rattle.readings.proofs.Laws.Groups.{GroupsRefused, groups-no-room, groups-refusal}
 use Rattle.output.specs.declared.Written.{Written}
 use Rattle.output.specs.declared.Step.{Step}
 use Rattle.output.specs.Steps.{group, groups, groupSteps, eachOf}

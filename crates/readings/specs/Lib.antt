@@ -5,12 +5,6 @@ pub mod Collection
 pub mod Scalar
 pub mod Find
 pub mod Shape
-pub mod Notions
 pub mod Plan
-pub mod PlanLaws
-pub mod All
-pub mod Runs
-pub mod Laws
-pub mod Conditions
+pub mod Notions
 pub mod Demand
-pub mod Examples

@@ -46,14 +46,6 @@ readAsked list body settings depth room = readItems body settings room
 readAsked map body settings depth room = readEntries body settings room
 readAsked strings body settings depth room = readStrings settings room
 
-pub read-is : (shape : Shape) (body table : List ℕ) (final : ℕ) (sheet : List ℕ) (settings : Settings) (depth : ShapeDepth) (room : Room)
-    → read shape body table final sheet settings depth room ≡ reading (asked body table final (sheetOf shape sheet) settings depth) (readAsked shape body settings depth room)
-unfolding structureReading listReading mapReading stringListReading
-read-is (structure order) body table final sheet settings depth room = refl
-read-is list body table final sheet settings depth room = refl
-read-is map body table final sheet settings depth room = refl
-read-is strings body table final sheet settings depth room = refl
-
 -- ---- the steps in which they read
 module _ (body : List ℕ) (settings : Settings) (room : Room) where
   abbrev pub attributeStep : Asked Structure → Indexed → Output → Reading

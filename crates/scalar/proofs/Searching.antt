@@ -21,7 +21,7 @@ use Rattle.document.specs.Scope.{Child, children, childrenOf, pieceOf, rootOf}
 use Rattle.document.specs.Scope as scope
 use Rattle.readings.specs.Opening.{Opened, withTable, present, opened}
 use Rattle.readings.specs.Find.{firstChild, findIn, find, partOf, refusalOf}
-use Rattle.readings.specs.Laws.Find.{part-within}
+use Rattle.readings.proofs.Laws.Find.{part-within}
 use Rattle.decode.specs.declared.reader.ScopeRow.{ScopeRow}
 use Rattle.decode.specs.declared.reader.Cursor.{Cursor}
 use Rattle.decode.specs.declared.reader.Past.{Past}

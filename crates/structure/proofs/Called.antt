@@ -17,7 +17,7 @@ use Rattle.sheet.specs.Names.{rootName}
 use Rattle.readings.specs.Output.{Room, nothing, Reading, refused}
 use Rattle.readings.specs.Opening.{Opened, asked}
 use Rattle.readings.specs.Structure.{withRootName, readMembers, readUnwrapped, readOpened, structureReading}
-use Rattle.readings.specs.Laws.Order.{memberOrder, orderIn}
+use Rattle.readings.proofs.Laws.Order.{memberOrder, orderIn}
 use Rattle.output.specs.Steps.{eachOf, tested, groups}
 use Rattle.structure.specs.Attributes.{attributeStep}
 use Rattle.structure.specs.Children.{childStep}

@@ -20,7 +20,7 @@ use Rattle.sheet.specs.Names.{indexed}
 use Rattle.readings.specs.Output.{Room, Output}
 use Rattle.readings.specs.Structure.{groupOf}
 use Rattle.readings.specs.Notions.{together}
-use Rattle.readings.specs.Laws.Order.{grouped, memberOrder}
+use Rattle.readings.proofs.Laws.Order.{grouped, memberOrder}
 use Rattle.output.specs.declared.Written.{Written}
 use Rattle.output.specs.declared.Step.{Step}
 use Rattle.output.specs.Steps.{group, groups, groupSteps, eachOf}

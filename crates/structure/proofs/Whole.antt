@@ -17,7 +17,7 @@ use Rattle.document.specs.Scope.{Child, childrenOf}
 use Rattle.sheet.specs.Sheet.{Structure}
 use Rattle.sheet.specs.Names.{rootName}
 use Rattle.readings.specs.Output.{Room, Output, Reading}
-use Rattle.readings.specs.Laws.Order.{memberOrder}
+use Rattle.readings.proofs.Laws.Order.{memberOrder}
 use Rattle.decode.specs.Rows.{InTable, nameAt}
 use Rattle.decode.specs.declared.reader.StartRow.{StartRow}
 use Rattle.decode.specs.declared.reader.Cursor.{Cursor}

@@ -10,7 +10,7 @@ use Rattle.sheet.specs.Sheet.{Structure}
 use Rattle.readings.specs.Output.{Room, Output, Reading}
 use Rattle.readings.specs.Structure.{groupOf}
 use Rattle.readings.specs.Notions.{together}
-use Rattle.readings.specs.Laws.Order.{hasGroup, memberOrder}
+use Rattle.readings.proofs.Laws.Order.{hasGroup, memberOrder}
 use Rattle.output.specs.declared.Written.{Written}
 use Rattle.output.specs.declared.Step.{Step}
 use Rattle.output.specs.Steps.{group, groups}

@@ -11,7 +11,7 @@ use Rattle.sheet.specs.Sheet.{Structure}
 use Rattle.sheet.specs.Names.{membersOf, rootName}
 use Rattle.readings.specs.Output.{Room, Output, Reading, refused, andThen}
 use Rattle.readings.specs.Opening.{Opened}
-use Rattle.readings.specs.Laws.Order.{memberOrder}
+use Rattle.readings.proofs.Laws.Order.{memberOrder}
 use Rattle.decode.specs.declared.reader.StartRow.{StartRow}
 use Rattle.decode.specs.declared.reader.Cursor.{Cursor}
 use Rattle.decode.specs.declared.view.View.{View}

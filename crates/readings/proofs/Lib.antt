@@ -1,0 +1,9 @@
+pub mod All
+pub mod Shape
+pub mod Plan
+pub mod Runs
+pub mod PlanLaws
+pub mod Laws
+pub mod Conditions
+pub mod Demand
+pub mod Examples
