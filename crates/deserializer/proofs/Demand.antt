@@ -79,7 +79,7 @@ module _ {body table : List ℕ} {final : ℕ} {sheet : List ℕ} {settings : Se
       holds : drained body table final ≡ Drained.Passes → (order : List ℕ)
           → Promised body table final sheet settings depth (roomOf e t) (shapeAt shape order)
           (read (shapeAt shape order) body table final sheet settings depth (roomOf e t))
-      holds p order = demand-3 (drained-passes-is body table final .0 p) (shapeAt shape order) sheet settings depth (roomOf e t)
+      holds p order = demand-3 body table final (drained-passes-is body table final .0 p) (shapeAt shape order) sheet settings depth (roomOf e t)
 
   pub demanded : {shape : Shape} → SheetCall shape body table final sheet settings depth e t e′ t′ n m r → Demanded shape body table final sheet settings depth e t e′ n r
   demanded {shape} c = go shape (c .is)

@@ -21,8 +21,9 @@ use Rattle.codec.specs.declared.collection.ListSheet.{ListSheet}
 use Rattle.codec.specs.declared.collection.MapSheet.{MapSheet}
 use Rattle.codec.specs.Settings.{settingsOf}
 use Rattle.codec.specs.Collection.{listSaid, ListSaid, ListRead, mapSaid, MapSaid, MapRead}
-use Rattle.readings.specs.Output.{Room, Output, nothing, Reading, refused}
-use Rattle.readings.specs.Collection.{readItems, readStrings, entriesOf, listReading, mapReading, stringListReading}
+use Rattle.readings.specs.Output.{Room, nothing, Reading, refused}
+use Rattle.readings.specs.Plan.{Plan, stop, perform, Whole, withoutGroups, performed}
+use Rattle.readings.specs.Collection.{itemsPlan, listPlan, listReading, stringsPlan, stringListPlan, stringListReading, mapPlan, mapReading}
 use Rattle.decode.specs.declared.reader.StartRow.{StartRow}
 use Rattle.decode.specs.declared.reader.Cursor.{Cursor}
 use Rattle.decode.specs.declared.view.View.{View}
@@ -30,24 +31,24 @@ use Rattle.decode.specs.Reader.{childAt}
 use Rattle.decode.specs.View.{viewAt}
 use Rattle.output.specs.declared.Written.{Written}
 use Rattle.output.specs.declared.Step.{Step}
-use Rattle.output.specs.Held.{roomOf, writtenOf, Does}
-use Rattle.output.specs.Steps.{eachOf, tested}
+use Rattle.output.specs.Held.{roomOf, writtenOf, Ends}
 use Rattle.output.specs.Call.{ReadingCall}
-use Rattle.output.proofs.Called.{call-early, call-done, call-refused}
+use Rattle.output.proofs.Then.{ends-as}
+use Rattle.output.proofs.Called.{holds-nothing, call-early, call-done, call-refused}
 use Rattle.opening.specs.declared.Opening.{Opening}
 use Rattle.opening.specs.Opening.{AskedIs, RootAt}
 use Rattle.opening.proofs.Asked.{asked-ok, asked-root, asked-early, asked-found}
 use Rattle.opening.specs.Level.{none-written, collected}
-use Rattle.list.specs.List.{itemOf, WholeIs}
-use Rattle.list.specs.StringList.{stringOf, StringsWholeIs}
+use Rattle.list.specs.List.{WholeIs}
+use Rattle.list.specs.StringList.{StringsWholeIs}
 use Rattle.codec.specs.Structure.{saidBy, StructureSaid, StructureRead}
 use Rattle.readings.specs.Opening.{asked}
-use Rattle.readings.specs.Structure.{structureReading}
+use Rattle.readings.specs.Structure.{structurePlan, structureReading}
 use Rattle.readings.proofs.Laws.Order.{orderIn, an-order}
 use Rattle.structure.specs.Steps.{openedAt}
-use Rattle.structure.specs.Structure.{structureStep, StructureIs}
+use Rattle.structure.specs.Structure.{StructureIs}
 use Rattle.structure.proofs.Called.{structure-early, structure-is}
-use Rattle.map.specs.Map.{MapIs, mapEntry}
+use Rattle.map.specs.Map.{MapIs}
 use Rattle.map.proofs.Entries.{map-found}
 use Rattle.deserializer.specs.declared.Shape.{Shape}
 use Rattle.deserializer.specs.Call.{numberOf, EnteredRead, EnteredCall, SetBy, Tells, ToldCall, SheetCall, settingsBy, shapeOf}
@@ -59,14 +60,11 @@ not-entered : {entered : Bool} (b : Bool) → entered ≡ not b → not entered 
 not-entered true e = ap not e
 not-entered false e = ap not e
 
--- what a step did, called with nothing written, told as a call
-told : (reading : Room → Reading) (step : Room → Output → Reading) {e t e′ t′ : List ℕ} {r : Step} → reading (roomOf e t) ≡ step (roomOf e t) nothing
-    → Does step e t none-written e′ t′ r → ReadingCall reading e t e′ t′ (writtenOf r .count) (writtenOf r .used) (numberOf r)
-told reading step {e} {t} {e′} {t′} {r} p d = go r d
-  where
-    go : (r : Step) → Does step e t none-written e′ t′ r → ReadingCall reading e t e′ t′ (writtenOf r .count) (writtenOf r .used) (numberOf r)
-    go (Step.Done w) d = call-done reading step p d refl
-    go (Step.Refused why w) d = call-refused reading step p d refl refl
+-- what is left in the buffers, told as a call
+told : (reading : Room → Reading) {e t e′ t′ : List ℕ} (r : Step) → Ends (reading (roomOf e t)) e t e′ t′ r
+    → ReadingCall reading e t e′ t′ (writtenOf r .count) (writtenOf r .used) (numberOf r)
+told reading (Step.Done w) y = call-done reading y refl
+told reading (Step.Refused why w) y = call-refused reading y refl refl
 
 -- ---- lists and string lists
 pub list-said : {body t : List ℕ} {final : ℕ} {sheet : List ℕ} {said : ListSheet} {deep strict : Bool} {r : Opening} {v : View} {s : StartRow} {c : Cursor} → ListRead sheet said
@@ -80,7 +78,7 @@ module _ (body t : List ℕ) (final : ℕ) (sheet : List ℕ) {said : ListSheet}
 
   pub list-refused : (e tx : List ℕ) {why : Refusal} → r ≡ Opening.Refused why
       → EnteredRead Shape.List body t final sheet settings depth entered e tx e tx (Step.Refused why none-written)
-  unfolding listReading
+  unfolding listReading listPlan perform
   list-refused e tx {why} q =
       record {
         read = λ g. record {
@@ -93,21 +91,20 @@ module _ (body t : List ℕ) (final : ℕ) (sheet : List ℕ) {said : ListSheet}
 
   pub list-found : {v : View} {s : StartRow} {c : Cursor} {e e′ : List ℕ} (tx : List ℕ) {got : Step} → r ≡ Opening.Found v s c
       → WholeIs body t v (itemName settings (listSaid sheet)) s c e e′ got → EnteredRead Shape.List body t final sheet settings depth entered e tx e′ tx got
-  unfolding listReading readItems collected eachOf tested itemOf
-  list-found {v} {s} {c} tx q x =
+  unfolding listReading listPlan itemsPlan collected
+  list-found {e = e} tx {got} q x =
       record {
         read = λ g. record {
           call = record {
-            is = told (listReading body t final sheet settings depth)
-                (collected (itemOf body (viewAt t v) (itemName settings (listSaid sheet))) (childrenOf (childAt body t (v .count) s c)) (v .«ill_formed»))
-                (rw (asked-found a settings depth (too-deep g) i (λ o. p .there o .said) q)) (x .enters .is tx);
+            is = told (listReading body t final sheet settings depth) got
+                (rw (asked-found a settings depth (too-deep g) i (λ o. p .there o .said) q) (x .enters .is tx .is (holds-nothing e tx)));
           };
         };
       }
 
   pub strings-refused : (e tx : List ℕ) {why : Refusal} → r ≡ Opening.Refused why
       → EnteredRead Shape.StringList body t final sheet settings depth entered e tx e tx (Step.Refused why none-written)
-  unfolding stringListReading
+  unfolding stringListReading stringListPlan perform
   strings-refused e tx {why} q =
       record {
         read = λ g. record {
@@ -121,14 +118,13 @@ module _ (body t : List ℕ) (final : ℕ) (sheet : List ℕ) {said : ListSheet}
   pub strings-found : {v : View} {s : StartRow} {c : Cursor} {e tx e′ tx′ : List ℕ} {got : Step} → r ≡ Opening.Found v s c
       → StringsWholeIs body t v (itemName settings (listSaid sheet)) s c e tx e′ tx′ got
       → EnteredRead Shape.StringList body t final sheet settings depth entered e tx e′ tx′ got
-  unfolding stringListReading readStrings collected eachOf tested stringOf
-  strings-found {v} {s} {c} q x =
+  unfolding stringListReading stringListPlan stringsPlan collected
+  strings-found {e = e} {tx = tx} {got = got} q x =
       record {
         read = λ g. record {
           call = record {
-            is = told (stringListReading body t final sheet settings depth)
-                (collected (stringOf (viewAt t v) (itemName settings (listSaid sheet))) (childrenOf (childAt body t (v .count) s c)) (v .«ill_formed»))
-                (rw (asked-found a settings depth (too-deep g) i (λ o. p .there o .said) q)) (x .does);
+            is = told (stringListReading body t final sheet settings depth) got
+                (rw (asked-found a settings depth (too-deep g) i (λ o. p .there o .said) q) (x .does .is (holds-nothing e tx)));
           };
         };
       }
@@ -149,6 +145,7 @@ module _ (body t : List ℕ) (final : ℕ) (sheet : List ℕ) {parsed : Structur
 
   pub struct-refused : (e tx : List ℕ) {why : Refusal} → r ≡ Opening.Refused why
       → EnteredRead Shape.Struct body t final sheet settings depth entered e tx e tx (Step.Refused why none-written)
+  unfolding structureReading performed perform
   struct-refused e tx {why} q =
       record {
         read = λ g. record {
@@ -157,7 +154,7 @@ module _ (body t : List ℕ) (final : ℕ) (sheet : List ℕ) {parsed : Structur
               order = rising;
               ordered = an-order body t final sheet settings depth;
               call = call-early (λ (room : Room). structureReading body t final sheet settings depth room rising) {why = why}
-                  (structure-early body t final sheet settings depth rising (asked-early a settings depth (deep-struct g) i (λ o. p .there o .said) (p .broken) q) (roomOf e tx)) refl;
+                  (ap (performed (roomOf e tx)) (structure-early body t final sheet settings depth rising (asked-early a settings depth (deep-struct g) i (λ o. p .there o .said) (p .broken) q))) refl;
             };
           };
         };
@@ -166,16 +163,17 @@ module _ (body t : List ℕ) (final : ℕ) (sheet : List ℕ) {parsed : Structur
   pub struct-read : {v : View} {s : StartRow} {c : Cursor} {e tx e′ tx′ : List ℕ} {tests : Bool} {got : Step} → r ≡ Opening.Found v s c
       → StructureIs body t v (saidBy sheet) tests s c e tx e′ tx′ got → tests ≡ testsRootName settings depth
       → EnteredRead Shape.Struct body t final sheet settings depth entered e tx e′ tx′ got
-  struct-read {v} {s} {c} {e} {tx} {tests = tests} q x k =
+  unfolding structureReading performed
+  struct-read {v} {s} {c} {e} {tx} {tests = tests} {got} q x k =
       record {
         read = λ g. record {
           call = record {
             is = record {
               order = rising;
               ordered = an-order body t final sheet settings depth;
-              call = told (λ (room : Room). structureReading body t final sheet settings depth room rising) (structureStep body (saidBy sheet) tests (openedAt body t v s c))
-                  (rw k (structure-is body t final sheet settings depth (saidBy sheet) (openedAt body t v s c) (asked-found a settings depth (deep-struct g) i (λ o. p .there o .said) q) (roomOf e tx)))
-                  (x .does);
+              call = told (λ (room : Room). structureReading body t final sheet settings depth room rising) got
+                  (ends-as (ap (performed (roomOf e tx)) (structure-is body t final sheet settings depth (saidBy sheet) (openedAt body t v s c)
+                  (asked-found a settings depth (deep-struct g) i (λ o. p .there o .said) q))) (rw k at (x .does) .is (holds-nothing e tx)));
             };
           };
         };
@@ -195,7 +193,7 @@ module _ (body t : List ℕ) (final : ℕ) (sheet : List ℕ) {said : MapSheet} 
 
   pub map-refused : (e tx : List ℕ) {why : Refusal} → r ≡ Opening.Refused why
       → EnteredRead Shape.Map body t final sheet (settingsOf settings) depth entered e tx e tx (Step.Refused why none-written)
-  unfolding mapReading
+  unfolding mapReading mapPlan perform
   map-refused e tx {why} q =
       record {
         read = λ g. record {
@@ -209,14 +207,13 @@ module _ (body t : List ℕ) (final : ℕ) (sheet : List ℕ) {said : MapSheet} 
   pub map-read : {v : View} {s : StartRow} {c : Cursor} {e tx e′ tx′ : List ℕ} {got : Step} → r ≡ Opening.Found v s c
       → MapIs body t v (mapSaid sheet) (entryName (settingsOf settings) (mapSaid sheet)) s c e tx e′ tx′ got
       → EnteredRead Shape.Map body t final sheet (settingsOf settings) depth entered e tx e′ tx′ got
-  map-read {v} {s} {c} {e} {tx} q x =
-      let nm = entryName (settingsOf settings) (mapSaid sheet) in
+  unfolding mapReading
+  map-read {e = e} {tx = tx} {got = got} q x =
       record {
         read = λ g. record {
           call = record {
-            is = told (mapReading body t final sheet (settingsOf settings) depth)
-                (collected (mapEntry body (viewAt t v) (mapSaid sheet) nm) (entriesOf nm (childAt body t (v .count) s c)) (v .«ill_formed»))
-                (map-found settings depth p a (deep-map g) i q (roomOf e tx)) (x .does);
+            is = told (mapReading body t final sheet (settingsOf settings) depth) got
+                (ends-as (ap (λ (z : Plan). perform (roomOf e tx) z nothing) (map-found settings depth p a (deep-map g) i q)) (x .does .is (holds-nothing e tx)));
           };
         };
       }

@@ -1,10 +1,9 @@
--- 01, "What each operation may refuse": each number exactly where its condition holds.
+-- 01, "What each operation may refuse": no number where its condition does not hold.
 pub mod Answers
 pub mod Opening
 pub mod View
 pub mod Text
 pub mod Readings
-pub mod Exact
 pub mod Values
 pub mod Scalar
 pub mod Find

@@ -1,8 +1,5 @@
 pub mod All
-pub mod Shape
-pub mod Plan
-pub mod Runs
-pub mod PlanLaws
+pub mod Plans
 pub mod Laws
 pub mod Conditions
 pub mod Demand

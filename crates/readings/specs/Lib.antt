@@ -1,10 +1,9 @@
 pub mod Output
+pub mod Plan
 pub mod Opening
 pub mod Structure
 pub mod Collection
 pub mod Scalar
 pub mod Find
 pub mod Shape
-pub mod Plan
-pub mod Notions
 pub mod Demand

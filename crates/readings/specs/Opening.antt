@@ -11,7 +11,6 @@ use Rattle.document.specs.View.{View, view}
 use Rattle.document.specs.Scope.{Child, rootOf}
 use Rattle.sheet.specs.declared.ShapeDepth.{ShapeDepth}
 use Rattle.sheet.specs.Settings.{Settings, isStrict, tooDeep}
-use Rattle.readings.specs.Output.{Output, nothing, Reading, finished, refused, andThen, each}
 
 -- "1 table", by a decision of the rules
 abbrev pub withTable : {A P : Type 0} → Dec P → Answer A → Answer A
@@ -56,16 +55,7 @@ asked {S} body table final sheet settings depth =
     withDepth (tooDeep settings depth)
     (onward (rooted body (view (isStrict settings depth) body (rowsOf table) final)) (λ (o : Opened). gives (record { sheet = s; opened = o })))))
 
--- a reading that goes on with what it asked; a refusal so early has written nothing
-abbrev pub reading : {A : Type 0} → Answer A → (A → Reading) → Reading
-reading (gives a) f = f a
-reading (refuses r) f = refused r nothing
-
--- "9 after the children", "9 last": a strict reading of an ill-formed body is refused
-abbrev pub endTest : Bool → Output → Reading
-endTest true out = refused Refusal.IllFormed out
-endTest false out = finished out
-
--- a collection: its children one after another, and "9 last"
-abbrev pub readAll : {A : Type 0} → View → (A → Output → Reading) → List A → Reading
-readAll v read l = andThen (each read l nothing) (endTest (v .illFormed))
+-- what is planned with what was asked, or with the refusal
+abbrev pub asking : {A B : Type 0} → Answer A → (A → B) → (Refusal → B) → B
+asking (gives a) f g = f a
+asking (refuses r) f g = g r

@@ -22,8 +22,7 @@ use Rattle.readings.specs.Find.{find}
 use Rattle.readings.proofs.Conditions.Opening.{broken-table, no-root, by-table, by-sheet, by-depth, by-root, AskedAs}
 use Rattle.readings.proofs.Conditions.View.{Stopped, at-drain, at-error}
 use Rattle.readings.proofs.Conditions.Text.{NoText, element-inside, bad-reference, rows-end, passed, opened-text-refusal}
-use Rattle.readings.proofs.Conditions.Readings.{Ends, refused-before, refused-while, reading-ends}
-use Rattle.readings.proofs.Runs.Next.{Stops, no-room, root-name, unwrapped-ill-formed, ill-formed, groups-full, item-no-room, list-ill-formed, string-no-room, string-no-text, strings-ill-formed, entry-no-room, field-no-text, map-ill-formed}
+use Rattle.readings.proofs.Conditions.Readings.{Stops, root-differs, no-text, ill-formed, Refused, early, stops, full, groups-full, reading-refused}
 use Rattle.readings.proofs.Conditions.Values.{NotABoolean, not-boolean, NotAnInteger, not-integer, StringTooLong, too-long}
 use Rattle.readings.proofs.Conditions.Scalar.{not-opened, no-text, after-the-rest, Unread, not-read, wrong, boolean-refusal, integer-refusal, string-refusal}
 use Rattle.readings.proofs.Conditions.Find.{FindRefused, find-table, find-no-root, find-none, find-refusal}
@@ -75,31 +74,33 @@ text-among eight = refl
 text-among nine = refl
 
 module _ (body table : List ℕ) (final : ℕ) (sheet : List ℕ) (settings : Settings) (depth : ShapeDepth) (room : Room) where
-  while-among : (shape : Shape) (a : Asked (SheetOf shape)) → AskedAs body table final (sheetOf shape sheet) settings depth a → (out : Output) (r : Refusal)
-      → Stops body settings depth room shape a out r → Only (1 ∷ 2 ∷ 3 ∷ 4 ∷ later shape) r
-  while-among (structure order) a w out r (no-room x n) = refl
-  while-among (structure order) a w out r (root-name d) = refl
-  while-among (structure order) a w out r (unwrapped-ill-formed u e) = refl
-  while-among (structure order) a w out r (ill-formed x e) = refl
-  while-among (structure order) a w out r (groups-full x e f) = refl
-  while-among list a w out r (item-no-room x n) = refl
-  while-among list a w out r (list-ill-formed x e) = refl
-  while-among map a w out r (entry-no-room x n) = refl
-  while-among map a w out r (field-no-text {field = c} x e i t f) = text-among (text-number (opened-text-refusal body table final (w .begun) c r .0 f .inside))
-  while-among map a w out r (map-ill-formed x e) = refl
-  while-among strings a w out r (string-no-room x n) = refl
-  while-among strings a w out r (string-no-text {c = c} x h f) = text-among (text-number (opened-text-refusal body table final (w .begun) c r .0 f .inside))
-  while-among strings a w out r (strings-ill-formed x e) = refl
+  stops-among : (shape : Shape) (a : Asked (SheetOf shape)) → AskedAs body table final (sheetOf shape sheet) settings depth a → {r : Refusal}
+      → Stops settings depth shape a r → Only (1 ∷ 2 ∷ 3 ∷ 4 ∷ later shape) r
+  stops-among (structure order) a w (root-differs d) = refl
+  stops-among (structure order) a w (ill-formed e) = refl
+  stops-among list a w (ill-formed e) = refl
+  stops-among map a w (no-text c {r = r} t e) = text-among (text-number (opened-text-refusal body table final (w .begun) c r .0 e .inside))
+  stops-among map a w (ill-formed e) = refl
+  stops-among strings a w (no-text c {r = r} t e) = text-among (text-number (opened-text-refusal body table final (w .begun) c r .0 e .inside))
+  stops-among strings a w (ill-formed e) = refl
+
+  full-among : (shape : Shape) → Only (1 ∷ 2 ∷ 3 ∷ 4 ∷ later shape) Refusal.NoRoom
+  full-among (structure order) = refl
+  full-among list = refl
+  full-among map = refl
+  full-among strings = refl
 
   pub reading-numbers : (shape : Shape) {r : Refusal} {out : Output} → read shape body table final sheet settings depth room ≡ refused r out → Only (1 ∷ 2 ∷ 3 ∷ 4 ∷ later shape) r
-  reading-numbers shape {r} {out} e = go (subst (Ends body table final sheet settings depth room shape) e (reading-ends body table final sheet settings depth room shape))
+  reading-numbers shape {r} {out} e = go (reading-refused body table final sheet settings depth room shape e)
     where
-      go : {q : Refusal} {o : Output} → Ends body table final sheet settings depth room shape (refused q o) → Only (1 ∷ 2 ∷ 3 ∷ 4 ∷ later shape) q
-      go (refused-before (by-table n)) = refl
-      go (refused-before (by-sheet t n)) = refl
-      go (refused-before (by-depth t s n)) = refl
-      go (refused-before (by-root t s h n)) = refl
-      go (refused-while {a = a} {out = o} {r = q} w x) = while-among shape a w o q x
+      go : {q : Refusal} {o : Output} → Refused body table final sheet settings depth room shape q o → Only (1 ∷ 2 ∷ 3 ∷ 4 ∷ later shape) q
+      go (early (by-table n)) = refl
+      go (early (by-sheet t n)) = refl
+      go (early (by-depth t s n)) = refl
+      go (early (by-root t s h n)) = refl
+      go (stops {a = a} w x) = stops-among shape a w x
+      go (full t f) = full-among shape
+      go (groups-full t u f) = full-among shape
 
 -- ---- scalars: 1, 4, 6 to 9, and then one of their own
 module _ (body table : List ℕ) (final : ℕ) (settings : Settings) (depth : ShapeDepth) where

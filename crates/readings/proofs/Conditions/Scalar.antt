@@ -11,7 +11,7 @@ use Rattle.sheet.specs.declared.ShapeDepth.{ShapeDepth}
 use Rattle.sheet.specs.Settings.{Settings, isStrict}
 use Rattle.readings.specs.Opening.{Opened}
 use Rattle.readings.specs.Scalar.{booleanOf, integerOf, stringIn, unlessIllFormed, scalarText, booleanReading, integerReading, stringReading}
-use Rattle.readings.proofs.Runs.Carried.{Anything}
+use Rattle.readings.proofs.Plans.Sources.{Anything}
 use Rattle.readings.proofs.Conditions.Answers.{Is, is-given, is-refused, refused-is, also, onward-is, itself}
 use Rattle.readings.proofs.Conditions.Opening.{OpenedRefused, OpenedAs, opened-is, refused-opened, given-opened}
 use Rattle.readings.proofs.Conditions.View.{DrainFails, Stopped, opened-fails}

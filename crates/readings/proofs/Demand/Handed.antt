@@ -12,7 +12,8 @@ use Rattle.table.specs.Row.{cut}
 use Rattle.xml.specs.Piece.{ElementPiece}
 use Rattle.document.specs.Scope.{Piece}
 use Rattle.readings.specs.Output.{Entry, textKind, pieceKind, Room, nothing, groupEntry}
-use Rattle.readings.proofs.Runs.Carried.{Source, of-text, of-failed, of-piece, of-group, of-key-text, of-key-piece, Anything, Keeps}
+use Rattle.readings.proofs.Plans.Made.{Keeps}
+use Rattle.readings.proofs.Plans.Sources.{Source, of-text, of-failed, of-piece, of-group, of-key-text, of-key-piece, Anything}
 use Rattle.readings.specs.Demand.{GroupBytes, Handed, AllHanded}
 
 -- a span of a text is the same once more is written after it

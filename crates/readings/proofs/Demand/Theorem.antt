@@ -27,21 +27,19 @@ use Rattle.sheet.specs.declared.ShapeDepth.{ShapeDepth}
 use Rattle.sheet.specs.Settings.{Settings, isStrict}
 use Rattle.sheet.specs.Sheet.{Structure}
 use Rattle.sheet.specs.Names.{entryName}
-use Rattle.readings.specs.Output.{Entry, pieceKind, Room, Output, nothing, Reading, refused, output}
+use Rattle.readings.specs.Output.{Entry, pieceKind, Room, Output, nothing, Reading, finished, refused, output}
 use Rattle.readings.specs.Opening.{Asked}
-use Rattle.readings.specs.Structure.{readAttribute, readChild, inGroup, siblings, groupOf, rootPiece}
-use Rattle.readings.specs.Collection.{isWanted, readItem, readString, readEntry, afterEntry, entriesOf}
+use Rattle.readings.specs.Structure.{inGroup, siblings, groupOf, rootPiece}
+use Rattle.readings.specs.Collection.{isWanted, afterEntry, entriesOf}
 use Rattle.readings.specs.Shape.{Shape, structure, list, map, strings, SheetOf, sheetOf, read}
+use Rattle.readings.specs.Demand.{Siblings, no-child, sibling, stranger, GroupBytes, AllHanded, TextWanted, ReadOf, MayRefuse, broken-sheet, depth-limit, element-in-text, groups-no-room, Promised, finishes, Demand3}
+use Rattle.readings.specs.Demand as promise
 use Rattle.readings.proofs.Conditions.Answers.{given-refused, refuses-same}
 use Rattle.readings.proofs.Conditions.Opening.{AskedRefused, by-table, by-sheet, by-depth, by-root, AskedAs}
-use Rattle.readings.specs.Notions.{NoRoomFor}
-use Rattle.readings.proofs.Runs.Run.{reached-in, Ended, done, stopped, run-ended}
-use Rattle.readings.proofs.Runs.Next.{StructureNext, attribute, child-text, child-failed, child-piece, item, string, text-entry, piece-entry, Stops, no-room, root-name, unwrapped-ill-formed, ill-formed, groups-full, item-no-room, list-ill-formed, string-no-room, string-no-text, strings-ill-formed, entry-no-room, field-no-text, map-ill-formed}
-use Rattle.readings.proofs.Runs.Next as next
-use Rattle.readings.proofs.Runs.Readings.{Reads, before, while, reads}
-use Rattle.readings.proofs.Runs.Carried.{Anything, run-carried, Sources, ShapeSources, write-source}
-use Rattle.readings.specs.Demand.{Siblings, no-child, sibling, stranger, GroupBytes, AllHanded, TextWanted, ReadOf, MayRefuse, broken-sheet, depth-limit, element-in-text, of-root, of-attribute, of-child, of-item, of-string, of-entry, groups-no-room, Promised, finishes}
-use Rattle.readings.specs.Demand as promise
+use Rattle.readings.proofs.Conditions.Readings.{Stops, root-differs, no-text, ill-formed, Refused, early, stops, full, groups-full, reading-refused}
+use Rattle.readings.proofs.Plans.Made.{made-kept}
+use Rattle.readings.proofs.Plans.Sources.{Anything, Sources, ShapeSources}
+use Rattle.readings.proofs.Plans.Readings.{output-carried, may-stop, plan-made}
 use Rattle.readings.proofs.Demand.Handed.{IsElement, none-handed, handed-kept}
 
 module _ (body table : List ℕ) (final : ℕ) (passes : drained body table final ≡ Drained.Passes) where
@@ -166,56 +164,42 @@ module _ (body table : List ℕ) (final : ℕ) (passes : drained body table fina
     six shape a w c wanted m {out} {r} e =
         let first : textOf none c ≡ refuses r = rw (w .seen) at e in
         let q = only-six c m r first in
-        rw q (element-in-text c w wanted (rw q at first))
+        rw q (element-in-text a c w wanted (rw q at first))
 
-    -- what comes next is written in the next step
-    structure-next : {order : List ℕ} {a : Asked Structure} → ReadOf body table final sheet (structure order) a → {entry : ℕ → Entry} {bytes : List ℕ} {out : Output}
-        → StructureNext body settings depth room (a .sheet) (a .opened) out entry bytes → NoRoomFor room bytes out → MayRefuse body table final sheet settings depth room (structure order) Refusal.NoRoom out
-    unfolding readAttribute readChild
-    structure-next w {entry} (attribute u x h e) n = promise.no-room entry w (of-attribute (u .flag) x) n (λ lent. rw (h, e))
-    structure-next w {entry} (child-text x p h e) n = promise.no-room entry w (of-child (x .begun .flag) (x .read) (x .reached)) n (λ lent. rw (p, h, e))
-    structure-next w {entry} (child-failed x p h e) n = promise.no-room entry w (of-child (x .begun .flag) (x .read) (x .reached)) n (λ lent. rw (p, h, e))
-    structure-next w {entry} (child-piece x p h f) n = promise.no-room entry w (of-child (x .begun .flag) (x .read) (x .reached)) n (λ lent. rw (p, h, f))
-    structure-next w {entry} (next.root u h p) n = promise.no-room entry w (of-root (u .flag)) n (λ lent. rw p)
+    -- a child of which a text is wanted is met
+    wanted-met : (shape : Shape) (a : Asked (SheetOf shape)) → ReadOf body table final sheet shape a → (c : Child) → TextWanted settings shape a c → Met toks c
+    wanted-met strings a w c t = children-met toks (a .opened .root) (root sheet strings a w) c (t .0)
+    wanted-met map a w c (entry, i, h, j, t) = children-met toks entry (entries-met (entryName settings (a .sheet)) (a .opened .root) (root sheet map a w) entry i) c j
 
-    while-reading : (shape : Shape) (a : Asked (SheetOf shape)) → ReadOf body table final sheet shape a → (out : Output) (r : Refusal) → Stops body settings depth room shape a out r
+    -- where the plan stops
+    stopped : (shape : Shape) (a : Asked (SheetOf shape)) → ReadOf body table final sheet shape a → {r : Refusal} {out : Output} → Stops settings depth shape a r
         → MayRefuse body table final sheet settings depth room shape r out
-    unfolding readItem readString readEntry
-    while-reading (structure order) a w out r (no-room x n) = structure-next w x n
-    while-reading (structure order) a w out r (root-name d) = promise.root-name w (d .tested) (d .differs)
-    while-reading (structure order) a w out r (unwrapped-ill-formed u e) = not-ill-formed w e
-    while-reading (structure order) a w out r (ill-formed x e) = not-ill-formed w e
-    while-reading (structure order) a w out r (groups-full x e f) = groups-no-room w (x .begun .flag) (x .attributesRead) (x .childrenRead) f
-    while-reading list a w out r (item-no-room {entry = entry} (item x h) n) = promise.no-room entry w (of-item x) n (λ lent. rw h)
-    while-reading list a w out r (list-ill-formed x e) = not-ill-formed w e
-    while-reading strings a w out r (string-no-room {entry = entry} (string x h e) n) = promise.no-room entry w (of-string x) n (λ lent. rw (h, e))
-    while-reading strings a w out r (string-no-text {c = c} x h e) = six strings a w c (reached-in x, h) (children-met toks (a .opened .root) (root sheet strings a w) c (reached-in x)) e
-    while-reading strings a w out r (strings-ill-formed x e) = not-ill-formed w e
-    while-reading map a w out r (entry-no-room {entry = entry} (text-entry x f i p j q) n) = promise.no-room entry w (of-entry (x .reached)) n (λ lent. rw (x .wanted, f .read, f .key, f .value))
-    while-reading map a w out r (entry-no-room {entry = entry} (piece-entry x f i p j) n) = promise.no-room entry w (of-entry (x .reached)) n (λ lent. rw (x .wanted, f .read, f .key, f .value))
-    while-reading map a w out r (field-no-text {c = c} {field = field} x q i t e) =
-        let entry = entries-met (entryName settings (a .sheet)) (a .opened .root) (root sheet map a w) c (reached-in (x .reached)) in
-        six map a w field (c, reached-in (x .reached), x .wanted, i, t) (children-met toks c entry field i) e
-    while-reading map a w out r (map-ill-formed x e) = not-ill-formed w e
+    stopped shape a w (root-differs d) = promise.root-name a w d
+    stopped shape a w (ill-formed e) = not-ill-formed w e
+    stopped shape a w (no-text c t e) = six shape a w c t (wanted-met shape a w c t) e
+
+    may-refuse : (shape : Shape) {r : Refusal} {out : Output} → Refused body table final sheet settings depth room shape r out → MayRefuse body table final sheet settings depth room shape r out
+    may-refuse shape (early x) = before-reading shape x
+    may-refuse shape (stops {a = a} w x) = stopped shape a (read-of shape a w) x
+    may-refuse shape (full t f) = promise.no-room t f
+    may-refuse shape (groups-full t u f) = groups-no-room t u f
+
+    all-handed : (shape : Shape) → AllHanded body table sheet (output (read shape body table final sheet settings depth room))
+    all-handed shape =
+        output-carried body table final sheet settings depth room shape (AllHanded body table sheet) (none-handed body table sheet) (λ a w.
+        let is = read-of shape a w in
+        made-kept (handed-kept body table sheet room) (plan-made settings depth shape a (met-sources sheet shape a is) (shape-sources sheet shape a is) (may-stop settings depth shape a)))
 
     keeps : (shape : Shape) → Promised body table final sheet settings depth room shape (read shape body table final sheet settings depth room)
-    keeps shape = go (reads body table final sheet settings depth room shape)
+    keeps shape = go (read shape body table final sheet settings depth room) refl (all-handed shape)
       where
-        ended : {a : Asked (SheetOf shape)} {x : Reading} → ReadOf body table final sheet shape a → Ended (Stops body settings depth room shape a) x → AllHanded body table sheet (output x)
-            → Promised body table final sheet settings depth room shape x
-        ended w done h = finishes h
-        ended {a} w (stopped {out = out} {r = r} s) h = promise.refuses (while-reading shape a w out r s) h
-
-        go : {x : Reading} → Reads body table final sheet settings depth room shape x → Promised body table final sheet settings depth room shape x
-        go (before r) = promise.refuses (before-reading shape r) (none-handed body table sheet)
-        go (while {a = a} w t) =
-            let is = read-of shape a w in
-            ended is (run-ended t) (run-carried (handed-kept body table sheet room) (write-source settings depth room shape a (met-sources sheet shape a is) (shape-sources sheet shape a is)) t)
+        go : (x : Reading) → read shape body table final sheet settings depth room ≡ x → AllHanded body table sheet (output x) → Promised body table final sheet settings depth room shape x
+        go (finished out) e h = finishes h
+        go (refused r out) e h = promise.refuses (may-refuse shape (reading-refused body table final sheet settings depth room shape e)) h
 
 -- THE THEOREM, demand 3: of a body and table that passed, each reading, with any sheet, settings, depth, room and order of groups, keeps its promise
-pub demand-3 : {body table : List ℕ} {final : ℕ} → Passed body table final → (shape : Shape) (sheet : List ℕ) (settings : Settings) (depth : ShapeDepth) (room : Room)
-    → Promised body table final sheet settings depth room shape (read shape body table final sheet settings depth room)
-demand-3 {body} {table} {final} p shape sheet settings depth room = keeps body table final (drained-passes-is body table final .1 p) sheet settings depth room shape
+pub demand-3 : Demand3
+demand-3 body table final p shape sheet settings depth room = keeps body table final (drained-passes-is body table final .1 p) sheet settings depth room shape
 
 -- of what was written, however the reading ended
 pub promised-output : {body table : List ℕ} {final : ℕ} {sheet : List ℕ} {settings : Settings} {depth : ShapeDepth} {room : Room} {shape : Shape} {r : Reading}
@@ -226,4 +210,4 @@ promised-output (promise.refuses m a) = a
 -- of its pieces alone: each entry of kind 2 that such a reading hands out, finished or refused, is an element of the table that passes the drain again
 pub each-piece : {body table : List ℕ} {final : ℕ} → Passed body table final → (shape : Shape) (sheet : List ℕ) (settings : Settings) (depth : ShapeDepth) (room : Room)
     → (e : Entry) → List·Memᴰ e (output (read shape body table final sheet settings depth room) .entries) → e .kind ≡ pieceKind → ElementPiece body table (e .start) (e .len)
-each-piece p shape sheet settings depth room e i = every-in (promised-output (demand-3 p shape sheet settings depth room) .each) e i .piece
+each-piece {body} {table} {final} p shape sheet settings depth room e i = every-in (promised-output (demand-3 body table final p shape sheet settings depth room) .each) e i .piece

@@ -113,7 +113,7 @@ core-order = refl
 -- ---- the theorem, used on its pieces
 pub core-handed : AllHanded body table coreSheet core
 core-handed =
-    promised-output (rw core-is at (demand-3 (drained-passes-is body table final .0 passes) (structure (3 ∷ [])) coreSheet strictly (shape 0) enough))
+    promised-output (rw core-is at (demand-3 body table final (drained-passes-is body table final .0 passes) (structure (3 ∷ [])) coreSheet strictly (shape 0) enough))
 
 -- the samples: an element of the table, whose own rows pass the drain again
 pub samples : ElementPiece body table 49 31

@@ -25,6 +25,7 @@ use Rattle.sheet.specs.Sheet.{mostMembers, Member, Structure, structureOf}
 use Rattle.sheet.specs.Names.{indexed, entryName}
 use Rattle.sheet.specs.Limits.{few-members}
 use Rattle.readings.specs.Output.{Entry, Room, Output, nothing, output}
+use Rattle.readings.specs.Plan.{performed}
 use Rattle.readings.specs.Opening.{Opened, Asked}
 use Rattle.readings.specs.Structure.{attributeOf}
 use Rattle.readings.specs.Collection.{afterEntry, entriesOf}
@@ -36,10 +37,10 @@ use Rattle.readings.proofs.Laws.Few.{index-below, FewGroups}
 use Rattle.readings.proofs.Laws.Siblings.{group-short}
 use Rattle.readings.proofs.Laws.Inside.{root-piece-inside}
 use Rattle.readings.proofs.Laws.Fits.{EntryFits, Fits, FewBytes, PieceFits, fits-kept}
-use Rattle.readings.proofs.Runs.Next.{most}
-use Rattle.readings.proofs.Runs.Readings.{output-carried}
-use Rattle.readings.proofs.Runs.Carried.{Anything, run-carried, Sources, StructureSources, ShapeSources, write-source}
-use Rattle.readings.proofs.Runs.Placed.{OpenedIn, opened-in, placed-sources}
+use Rattle.readings.proofs.Plans.Readings.{mostMet, mostGroups, output-carried, may-stop, plan-made, askedPlan}
+use Rattle.readings.proofs.Plans.Made.{made-kept}
+use Rattle.readings.proofs.Plans.Sources.{Anything, Sources, StructureSources, ShapeSources}
+use Rattle.readings.proofs.Plans.Placed.{OpenedIn, opened-in, placed-sources}
 
 -- ---- what there is to be written
 every-dropped : {A : Type 0} {P : A → Type 0} (k : ℕ) {l : List A} → Every P l → Every P (drop k l)
@@ -161,7 +162,7 @@ FewIn strings = Unit {0}
 module _ (body table : List ℕ) (final : ℕ) (sheet : List ℕ) (settings : Settings) (depth : ShapeDepth) where
   -- so many entries at most, of a body that is opened
   few-writes : (room : Room) (shape : Shape) → FewIn shape → (a : Asked (SheetOf shape)) → AskedAs body table final (sheetOf shape sheet) settings depth a
-      → most body settings depth room shape a ≤ 8321
+      → mostMet settings shape a + mostGroups shape ≤ 8321
   few-writes room (structure order) g a w = omega (arith, few-members sheet (a .sheet) (w .says), length-indexed zero (a .sheet .members), few-kids (w .begun), g .few)
   few-writes room list g a w = omega (arith, few-kids (w .begun))
   few-writes room map g a w = omega (arith, few-entries (w .begun) (entryName settings (a .sheet)))
@@ -177,6 +178,7 @@ module _ (body table : List ℕ) (final : ℕ) (sheet : List ℕ) (settings : Se
 pub reading-small : (shape : Shape) → FewIn shape → (body table : List ℕ) (final : ℕ) (sheet : List ℕ) (settings : Settings) (depth : ShapeDepth) (room : Room)
     → Small body (output (read shape body table final sheet settings depth room))
 reading-small shape g body table final sheet settings depth room =
-    output-carried body table final sheet settings depth room shape (Small body) (none-small body) (λ a w x t.
-    steps-small body (most body settings depth room shape a) (output x) (few-bytes (w .begun)) (few-writes body table final sheet settings depth room shape g a w)
-    (run-carried (fits-kept body room) (write-source settings depth room shape a (fits-sources (w .begun)) (fits-shape body table final sheet settings depth shape g a w)) t))
+    output-carried body table final sheet settings depth room shape (Small body) (none-small body) (λ a w.
+    steps-small body (mostMet settings shape a + mostGroups shape) (output (performed room (askedPlan shape body settings depth a))) (few-bytes (w .begun))
+    (few-writes body table final sheet settings depth room shape g a w)
+    (made-kept (fits-kept body room) (plan-made settings depth shape a (fits-sources (w .begun)) (fits-shape body table final sheet settings depth shape g a w) (may-stop settings depth shape a))))

@@ -12,7 +12,8 @@ use Rattle.table.specs.Rules.{mostBytes}
 use Rattle.document.specs.Scope.{Piece}
 use Rattle.sheet.specs.Sheet.{mostMembers}
 use Rattle.readings.specs.Output.{Entry, textKind, pieceKind, groupKind, failedKind, Room, Output, written}
-use Rattle.readings.proofs.Runs.Carried.{Source, of-text, of-failed, of-piece, of-group, of-key-text, of-key-piece, Anything, Keeps}
+use Rattle.readings.proofs.Plans.Made.{Keeps}
+use Rattle.readings.proofs.Plans.Sources.{Source, of-text, of-failed, of-piece, of-group, of-key-text, of-key-piece, Anything}
 
 -- ---- what is said of an output after n steps
 -- the spans of an entry, where there are so many text bytes

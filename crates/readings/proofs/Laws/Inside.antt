@@ -22,9 +22,10 @@ use Rattle.readings.specs.Output.{Entry, pieceKind, Output, nothing, out
 use Rattle.readings.specs.Opening.{Opened, Asked}
 use Rattle.readings.specs.Structure.{rootPiece}
 use Rattle.readings.specs.Shape.{Shape, structure, list, map, strings, SheetOf, read}
-use Rattle.readings.proofs.Runs.Readings.{output-carried}
-use Rattle.readings.proofs.Runs.Carried.{Source, of-text, of-failed, of-piece, of-group, of-key-text, of-key-piece, Anything, Keeps, run-carried, Sources, ShapeSources, write-source}
-use Rattle.readings.proofs.Runs.Placed.{OpenedIn, opened-in, placed-sources}
+use Rattle.readings.proofs.Plans.Readings.{output-carried, may-stop, plan-made}
+use Rattle.readings.proofs.Plans.Made.{Keeps, made-kept}
+use Rattle.readings.proofs.Plans.Sources.{Source, of-text, of-failed, of-piece, of-group, of-key-text, of-key-piece, Anything, Sources, ShapeSources}
+use Rattle.readings.proofs.Plans.Placed.{OpenedIn, opened-in, placed-sources}
 
 -- ---- the root's piece
 abbrev rootRows : Opened → List Row
@@ -89,6 +90,6 @@ in-shape strings a h = tt {0}
 pub entries-inside : (shape : Shape) (body table : List ℕ) (final : ℕ) (sheet : List ℕ) (settings : Settings) (depth : ShapeDepth) (room : Room)
     → AllIn body (output (read shape body table final sheet settings depth room))
 entries-inside shape body table final sheet settings depth room =
-    output-carried body table final sheet settings depth room shape (AllIn body) (none-in body) (λ a w x t.
+    output-carried body table final sheet settings depth room shape (AllIn body) (none-in body) (λ a w.
     let o = opened-in (w .begun) in
-    run-carried (in-keeps body room) (write-source settings depth room shape a (in-sources o) (in-shape shape a (root-piece-inside o))) t)
+    made-kept (in-keeps body room) (plan-made settings depth shape a (in-sources o) (in-shape shape a (root-piece-inside o)) (may-stop settings depth shape a)))

@@ -18,7 +18,7 @@ use Rattle.document.specs.Laws.Inside.{ViewIn, view-in}
 use Rattle.readings.specs.Opening.{Opened}
 use Rattle.readings.specs.Collection.{isWanted, afterEntry, entriesOf}
 use Rattle.readings.proofs.Conditions.Opening.{OpenedAs}
-use Rattle.readings.proofs.Runs.Carried.{Sources}
+use Rattle.readings.proofs.Plans.Sources.{Sources}
 
 -- what is opened
 pub record OpenedIn (body table : List ℕ) (final : ℕ) (o : Opened) : Type 0 where

@@ -1,3 +1,0 @@
--- Laws of plans.
-pub mod Made
-pub mod Exact
