@@ -68,7 +68,7 @@ module _ {body table : List ℕ} {final : ℕ} {sheet : List ℕ} {settings : Se
           order = order;
           number = rw (c .number) (may-answer (holds p order));
           pieces = rw (c .entries, c .count)
-              (record { each = pieces-of (entries order) (promised-output (holds p order) .each) (drop (length (numbersOf (entries order))) e) });
+              (record { each = pieces-of (entries order) (promised-output (holds p order)) (drop (length (numbersOf (entries order))) e) });
           promised = holds p;
         };
       }

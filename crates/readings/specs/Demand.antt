@@ -19,7 +19,7 @@ use Rattle.document.specs.Scope.{Child, childrenOf, rootOf}
 use Rattle.document.specs.Text.{textOf}
 use Rattle.sheet.specs.declared.ShapeDepth.{ShapeDepth}
 use Rattle.sheet.specs.Settings.{Settings, testsRootName}
-use Rattle.sheet.specs.Sheet.{Structure, structureOf, MapSheet}
+use Rattle.sheet.specs.Sheet.{Structure, structureOf, ListSheet, MapSheet}
 use Rattle.sheet.specs.Names.{rootName, itemName, entryName, keyName, valueName, valueAggregate}
 use Rattle.readings.specs.Output.{Entry, textKind, pieceKind, groupKind, failedKind, Room, Output, nothing, Reading, finished, refused, written}
 use Rattle.readings.specs.Plan.{Plan, put, end}
@@ -36,27 +36,22 @@ pub record ReadOf (body table : List ℕ) (final : ℕ) (sheet : List ℕ) (shap
   pub root : rootOf (toksOf body (rowsOf table)) ≡ some (a .opened .root)
 
 -- "the root's name": of a structure it is tested, and does not match
-abbrev pub RootDiffers : Settings → ShapeDepth → (shape : Shape) → Asked (SheetOf shape) → Type 0
-RootDiffers settings depth (structure order) a =
-    (testsRootName settings depth ≡ true) × (nameMatches (a .opened .root .start .name) (rootName (a .sheet)) ≡ false)
-RootDiffers settings depth list a = ⊥
-RootDiffers settings depth map a = ⊥
-RootDiffers settings depth strings a = ⊥
+pub data RootDiffers (settings : Settings) (depth : ShapeDepth) : (shape : Shape) → Asked (SheetOf shape) → Type 0 where
+  differs : {order : List ℕ} (a : Asked Structure) → testsRootName settings depth ≡ true
+      → nameMatches (a .opened .root .start .name) (rootName (a .sheet)) ≡ false → RootDiffers settings depth (structure order) a
 
--- "where text is wanted": of a field of a map entry, if it is a key, or a value that is not aggregate; "a child named as both .. is a key"
+-- "where text is wanted": of a field that is a key ("a child named as both .. is a key"), or a value that is not aggregate
 pub data TextField (m : MapSheet) (c : Child) : Type 0 where
   is-key : sameb (c .start .name .local) (keyName m) ≡ true → TextField m c
   is-value : sameb (c .start .name .local) (keyName m) ≡ false → sameb (c .start .name .local) (valueName m) ≡ true
       → valueAggregate m ≡ false → TextField m c
 
--- of a string list's item; of such a field of an entry. A structure's scalar that fails is an entry of kind 4, and no refusal.
-abbrev pub TextWanted : Settings → (shape : Shape) → Asked (SheetOf shape) → Child → Type 0
-TextWanted settings (structure order) a c = ⊥
-TextWanted settings list a c = ⊥
-TextWanted settings strings a c = List·Memᴰ c (childrenOf (a .opened .root)) × (isWanted (itemName settings (a .sheet)) c ≡ true)
-TextWanted settings map a c =
-    let name = entryName settings (a .sheet) in
-    (e : Child) × List·Memᴰ e (entriesOf name (a .opened .root)) × (isWanted name e ≡ true) × List·Memᴰ c (childrenOf e) × TextField (a .sheet) c
+-- of a string list's item, and of such a field of a map entry; a structure's scalar that fails is an entry of kind 4, and no refusal
+pub data TextWanted (settings : Settings) : (shape : Shape) → Asked (SheetOf shape) → Child → Type 0 where
+  of-item : (a : Asked ListSheet) {c : Child} → List·Memᴰ c (childrenOf (a .opened .root)) → isWanted (itemName settings (a .sheet)) c ≡ true
+      → TextWanted settings strings a c
+  of-field : (a : Asked MapSheet) {e c : Child} → List·Memᴰ e (entriesOf (entryName settings (a .sheet)) (a .opened .root))
+      → isWanted (entryName settings (a .sheet)) e ≡ true → List·Memᴰ c (childrenOf e) → TextField (a .sheet) c → TextWanted settings map a c
 
 -- "no room": a plan, whatever the room, writes from one output to another, and there another plan is left of it
 pub data Reaches : Plan → Output → Plan → Output → Type 0 where
@@ -116,15 +111,15 @@ pub record Handed (body table sheet texts : List ℕ) (e : Entry) : Type 0 where
   -- a text that failed has an element inside, and nothing else is wrong with it
   pub failed : e .kind ≡ failedKind → (e .start ≡ number Refusal.ElementInText) × (e .len ≡ 0)
 
-pub record AllHanded (body table sheet : List ℕ) (out : Output) : Type 0 where
-  pub each : Every (Handed body table sheet (out .texts)) (out .entries)
-
 -- ---- "finished or refused"; "strict or lenient, with any sheet, settings, depth and buffers", and any order of groups
-pub data Promised (body table : List ℕ) (final : ℕ) (sheet : List ℕ) (settings : Settings) (depth : ShapeDepth) (room : Room) (shape : Shape) : Reading → Type 0 where
-  finishes : {out : Output} → AllHanded body table sheet out → Promised body table final sheet settings depth room shape (finished out)
-  refuses : {r : Refusal} {out : Output} → MayRefuse body table final sheet settings depth room shape r out → AllHanded body table sheet out
-      → Promised body table final sheet settings depth room shape (refused r out)
+pub data Promised (body table : List ℕ) (final : ℕ) (sheet : List ℕ) (settings : Settings) (depth : ShapeDepth) (room : Room) (shape : Shape)
+    : Reading → Type 0 where
+  finishes : {out : Output} → Every (Handed body table sheet (out .texts)) (out .entries)
+      → Promised body table final sheet settings depth room shape (finished out)
+  refuses : {r : Refusal} {out : Output} → MayRefuse body table final sheet settings depth room shape r out
+      → Every (Handed body table sheet (out .texts)) (out .entries) → Promised body table final sheet settings depth room shape (refused r out)
 
 abbrev pub Demand3 : Type 0
-Demand3 = (body table : List ℕ) (final : ℕ) → Passed body table final → (shape : Shape) (sheet : List ℕ) (settings : Settings) (depth : ShapeDepth)
-    (room : Room) → Promised body table final sheet settings depth room shape (read shape body table final sheet settings depth room)
+Demand3 = (body table : List ℕ) (final : ℕ) → Passed body table final → (shape : Shape) (sheet : List ℕ) (settings : Settings)
+    (depth : ShapeDepth) (room : Room)
+    → Promised body table final sheet settings depth room shape (read shape body table final sheet settings depth room)

@@ -5,16 +5,16 @@ use mathlib.Core.List.{List, _++_}
 use native.Mathlib.Omega.{arith}
 use lib.ListN.{length, drop, length-append, length-drop}
 use lib.Seq.{take-append-le, drop-append-le, drop-append-seam, take-length}
-use Rattle.lists.specs.Every.{none, every-snoc, every-map}
+use Rattle.lists.specs.Every.{Every, none, every-snoc, every-map}
 use Rattle.refusal.specs.declared.Refusal.{Refusal}
 use Rattle.refusal.specs.Numbers.{number}
 use Rattle.table.specs.Row.{cut}
 use Rattle.xml.specs.Piece.{ElementPiece}
 use Rattle.document.specs.Scope.{Piece}
-use Rattle.readings.specs.Output.{Entry, textKind, pieceKind, Room, nothing, groupEntry}
+use Rattle.readings.specs.Output.{Entry, textKind, pieceKind, Room, Output, nothing, groupEntry}
 use Rattle.readings.proofs.Plans.Made.{Keeps}
 use Rattle.readings.proofs.Plans.Sources.{Source, of-text, of-failed, of-piece, of-group, of-key-text, of-key-piece, Anything}
-use Rattle.readings.specs.Demand.{GroupBytes, Handed, AllHanded}
+use Rattle.readings.specs.Demand.{GroupBytes, Handed}
 
 -- a span of a text is the same once more is written after it
 cut-longer : (texts more : List ℕ) (start len : ℕ) → start + len ≤ length texts → cut (texts ++ more) start len ≡ cut texts start len
@@ -80,10 +80,14 @@ module _ (body table sheet : List ℕ) where
       text-handed _ refl (omega (arith, long, both)) (omega (arith, long, both))
   source-handed texts (of-key-piece {k = k} s x) = piece-handed _ refl (omega (arith, length-append texts k)) x
 
-  pub none-handed : AllHanded body table sheet nothing
+  -- each entry of an output
+  pub record AllHanded (out : Output) : Type 0 where
+    pub each : Every (Handed body table sheet (out .texts)) (out .entries)
+
+  pub none-handed : AllHanded nothing
   none-handed = record { each = none }
 
-  pub handed-kept : (room : Room) → Keeps room HandedSource (λ (n : ℕ). AllHanded body table sheet)
+  pub handed-kept : (room : Room) → Keeps room HandedSource (λ (n : ℕ). AllHanded)
   handed-kept room =
       record {
         start = none-handed;

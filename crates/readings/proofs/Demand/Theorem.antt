@@ -6,7 +6,7 @@ use mathlib.Core.Bool.{Bool, true, false}
 use mathlib.Core.List.{List, [], _∷_, _++_, List·Memᴰ, List·Memᴰ·head, List·Memᴰ·tail}
 use mathlib.Core.Option.{Option, none, some, Option·none-ne-some, Option·some-injective}
 use Rattle.lists.specs.Tests.{pick, false-true}
-use Rattle.lists.specs.Every.{every-in}
+use Rattle.lists.specs.Every.{Every, every-in}
 use Rattle.refusal.specs.declared.Refusal.{Refusal}
 use Rattle.refusal.specs.Answer.{Answer, refuses}
 use Rattle.table.specs.Row.{Tok, cut, rowsOf, toksOf}
@@ -32,7 +32,7 @@ use Rattle.readings.specs.Opening.{Asked}
 use Rattle.readings.specs.Structure.{inGroup, siblings, groupOf, rootPiece}
 use Rattle.readings.specs.Collection.{isWanted, afterEntry, entriesOf}
 use Rattle.readings.specs.Shape.{Shape, structure, list, map, strings, SheetOf, sheetOf, read}
-use Rattle.readings.specs.Demand.{Siblings, no-child, sibling, stranger, GroupBytes, AllHanded, TextWanted, ReadOf, MayRefuse, broken-sheet, depth-limit, element-in-text, groups-no-room, Promised, finishes, Demand3}
+use Rattle.readings.specs.Demand.{Siblings, no-child, sibling, stranger, GroupBytes, Handed, TextWanted, of-item, of-field, ReadOf, MayRefuse, broken-sheet, depth-limit, element-in-text, groups-no-room, Promised, finishes, Demand3}
 use Rattle.readings.specs.Demand as promise
 use Rattle.readings.proofs.Conditions.Answers.{given-refused, refuses-same}
 use Rattle.readings.proofs.Conditions.Opening.{AskedRefused, by-table, by-sheet, by-depth, by-root, AskedAs}
@@ -40,7 +40,7 @@ use Rattle.readings.proofs.Conditions.Readings.{Stops, root-differs, no
 use Rattle.readings.proofs.Plans.Made.{made-kept}
 use Rattle.readings.proofs.Plans.Sources.{Anything, Sources, ShapeSources}
 use Rattle.readings.proofs.Plans.Readings.{output-carried, may-stop, plan-made}
-use Rattle.readings.proofs.Demand.Handed.{IsElement, none-handed, handed-kept}
+use Rattle.readings.proofs.Demand.Handed.{IsElement, AllHanded, none-handed, handed-kept}
 
 module _ (body table : List ℕ) (final : ℕ) (passes : drained body table final ≡ Drained.Passes) where
   toks : List Tok
@@ -168,8 +168,8 @@ module _ (body table : List ℕ) (final : ℕ) (passes : drained body table fina
 
     -- a child of which a text is wanted is met
     wanted-met : (shape : Shape) (a : Asked (SheetOf shape)) → ReadOf body table final sheet shape a → (c : Child) → TextWanted settings shape a c → Met toks c
-    wanted-met strings a w c t = children-met toks (a .opened .root) (root sheet strings a w) c (t .0)
-    wanted-met map a w c (entry, i, h, j, t) = children-met toks entry (entries-met (entryName settings (a .sheet)) (a .opened .root) (root sheet map a w) entry i) c j
+    wanted-met strings a w c (of-item b i e) = children-met toks (a .opened .root) (root sheet strings a w) c i
+    wanted-met map a w c (of-field b {e = entry} i h j t) = children-met toks entry (entries-met (entryName settings (a .sheet)) (a .opened .root) (root sheet map a w) entry i) c j
 
     -- where the plan stops
     stopped : (shape : Shape) (a : Asked (SheetOf shape)) → ReadOf body table final sheet shape a → {r : Refusal} {out : Output} → Stops settings depth shape a r
@@ -194,8 +194,8 @@ module _ (body table : List ℕ) (final : ℕ) (passes : drained body table fina
     keeps shape = go (read shape body table final sheet settings depth room) refl (all-handed shape)
       where
         go : (x : Reading) → read shape body table final sheet settings depth room ≡ x → AllHanded body table sheet (output x) → Promised body table final sheet settings depth room shape x
-        go (finished out) e h = finishes h
-        go (refused r out) e h = promise.refuses (may-refuse shape (reading-refused body table final sheet settings depth room shape e)) h
+        go (finished out) e h = finishes (h .each)
+        go (refused r out) e h = promise.refuses (may-refuse shape (reading-refused body table final sheet settings depth room shape e)) (h .each)
 
 -- THE THEOREM, demand 3: of a body and table that passed, each reading, with any sheet, settings, depth, room and order of groups, keeps its promise
 pub demand-3 : Demand3
@@ -203,11 +203,11 @@ demand-3 body table final p shape sheet settings depth room = keeps body table f
 
 -- of what was written, however the reading ended
 pub promised-output : {body table : List ℕ} {final : ℕ} {sheet : List ℕ} {settings : Settings} {depth : ShapeDepth} {room : Room} {shape : Shape} {r : Reading}
-    → Promised body table final sheet settings depth room shape r → AllHanded body table sheet (output r)
+    → Promised body table final sheet settings depth room shape r → Every (Handed body table sheet (output r .texts)) (output r .entries)
 promised-output (finishes a) = a
 promised-output (promise.refuses m a) = a
 
 -- of its pieces alone: each entry of kind 2 that such a reading hands out, finished or refused, is an element of the table that passes the drain again
 pub each-piece : {body table : List ℕ} {final : ℕ} → Passed body table final → (shape : Shape) (sheet : List ℕ) (settings : Settings) (depth : ShapeDepth) (room : Room)
     → (e : Entry) → List·Memᴰ e (output (read shape body table final sheet settings depth room) .entries) → e .kind ≡ pieceKind → ElementPiece body table (e .start) (e .len)
-each-piece {body} {table} {final} p shape sheet settings depth room e i = every-in (promised-output (demand-3 body table final p shape sheet settings depth room) .each) e i .piece
+each-piece {body} {table} {final} p shape sheet settings depth room e i = every-in (promised-output (demand-3 body table final p shape sheet settings depth room)) e i .piece

@@ -5,7 +5,7 @@ use mathlib.Core.Path.{_≡_, refl}
 use mathlib.Core.Bool.{true, false}
 use mathlib.Core.List.{List, [], _∷_, _++_, List·Memᴰ·head, List·Memᴰ·tail}
 use Rattle.lists.specs.Bytes.{ascii}
-use Rattle.lists.specs.Every.{every-in}
+use Rattle.lists.specs.Every.{Every, every-in}
 use Rattle.table.specs.Row.{cut, rowsOf, tableOf}
 use Rattle.table.specs.Piece.{elementRows, pieceRows}
 use Rattle.xml.specs.declared.Drained.{Drained}
@@ -19,7 +19,7 @@ use Rattle.readings.specs.Opening.{asked}
 use Rattle.readings.specs.Structure.{structureReading}
 use Rattle.readings.specs.Collection.{listReading, mapReading}
 use Rattle.readings.specs.Shape.{structure}
-use Rattle.readings.specs.Demand.{AllHanded}
+use Rattle.readings.specs.Demand.{Handed}
 use Rattle.readings.proofs.Demand.Theorem.{demand-3, promised-output}
 use Rattle.readings.proofs.Laws.Order.{hasGroup, grouped, orderIn}
 use Rattle.readings.proofs.Examples.Asking.{settings, shape, enough}
@@ -111,16 +111,16 @@ unfolding computed hasGroup grouped
 core-order = refl
 
 -- ---- the theorem, used on its pieces
-pub core-handed : AllHanded body table coreSheet core
+pub core-handed : Every (Handed body table coreSheet (core .texts)) (core .entries)
 core-handed =
     promised-output (rw core-is at (demand-3 body table final (drained-passes-is body table final .0 passes) (structure (3 ∷ [])) coreSheet strictly (shape 0) enough))
 
 -- the samples: an element of the table, whose own rows pass the drain again
 pub samples : ElementPiece body table 49 31
-samples = every-in (core-handed .each) _ (List·Memᴰ·tail (List·Memᴰ·tail (List·Memᴰ·head refl))) .piece refl
+samples = every-in core-handed _ (List·Memᴰ·tail (List·Memᴰ·tail (List·Memᴰ·head refl))) .piece refl
 
 pub notes : ElementPiece body table 108 60
-notes = every-in (core-handed .each) _ (List·Memᴰ·tail (List·Memᴰ·tail (List·Memᴰ·tail (List·Memᴰ·head refl)))) .piece refl
+notes = every-in core-handed _ (List·Memᴰ·tail (List·Memᴰ·tail (List·Memᴰ·tail (List·Memᴰ·head refl)))) .piece refl
 
 -- ---- the next level: the rows of each piece, counted from its first byte, are what the tokenizer makes of the piece alone
 abbrev pub samplesTable : List ℕ

@@ -21,7 +21,7 @@ use Rattle.readings.specs.Opening.{Opened, Asked, asking}
 use Rattle.readings.specs.Structure.{attributeOf, foundPlan, attributePlan, scalarPlan, memberPlan, childPlan, groupPlan, membersPlan, rootPiece, rootPlan, unwrappedPlan, withRootName, openedPlan, structurePlan, structureReading}
 use Rattle.readings.specs.Collection.{isWanted, itemPlan, itemsPlan, listPlan, listReading, textPlan, stringPlan, stringsPlan, stringListPlan, stringListReading, MapValue, Fields, noFields, readFields, fieldsPlan, readPlan, entryPlan, entriesOf, entriesPlan, mapPlan, mapReading}
 use Rattle.readings.specs.Shape.{Shape, structure, list, map, strings, SheetOf, sheetOf, planOf, read}
-use Rattle.readings.specs.Demand.{RootDiffers, TextField, TextWanted}
+use Rattle.readings.specs.Demand.{RootDiffers, differs, TextWanted, of-item, of-field}
 use Rattle.readings.proofs.Laws.Order.{named-in}
 use Rattle.readings.proofs.Conditions.Answers.{Is, is-given, is-refused}
 use Rattle.readings.proofs.Conditions.Opening.{AskedRefused, AskedAs, asked-is}
@@ -146,7 +146,7 @@ module _ {Here : Child → Type 0} {M : ℕ → Type 0} {T : List ℕ → Type 0
   entry-made : {settings : Settings} {depth : ShapeDepth} {a : Asked (SheetOf map)} → Sources Here T F P body (a .opened) → MayStop settings depth Here S map a → (c : Child) → Here c
       → List·Memᴰ c (entriesOf (entryName settings (a .sheet)) (a .opened .root)) → isWanted (entryName settings (a .sheet)) c ≡ true
       → {f : Answer Fields} → FieldsFrom body (a .opened .seen) (a .sheet) (childrenOf c) f → Made (Source M T F G P) S 1 (readPlan f)
-  entry-made x st c h j wanted (no-text {c = d} {r = r} i w e) = made-stop (st .text d (x .children c h d i) (c, j, wanted, i, w) r e)
+  entry-made {a = a} x st c h j wanted (no-text {c = d} {r = r} i w e) = made-stop (st .text d (x .children c h d i) (of-field a j wanted i w) r e)
   entry-made {a = a} x st c h j wanted (fields k v) = go k v
     where
       go : {k : Option (List ℕ)} {v : Option MapValue} → KeyFrom body (a .opened .seen) (a .sheet) (childrenOf c) k
@@ -171,7 +171,7 @@ module _ {Here : Child → Type 0} {M : ℕ → Type 0} {T : List ℕ → Type 0
       let kids = childrenOf (a .opened .root) in
       record {
         asMet = made-more _ (omega arith) (made-followed (made-each _ kids (λ c i. pick-cases (Made (Source M T F G P) S 1) (isWanted (itemName settings (a .sheet)) c) _ _
-            (λ e. let h = x .children (a .opened .root) (x .root) c i in text-made x y c h (st .text c h (i, e))) (λ e. made-end)))
+            (λ e. let h = x .children (a .opened .root) (x .root) c i in text-made x y c h (st .text c h (of-item a i e))) (λ e. made-end)))
             (made-last {n = 0} (a .opened .seen .illFormed) (st .illFormed)));
         groups = made-end;
       }
@@ -228,4 +228,4 @@ module _ {Here : Child → Type 0} {M : ℕ → Type 0} {T : List ℕ → Type 0
           (withRootName tests matches (pick (a .sheet .unwrapped) (withoutGroups (unwrappedPlan body (a .sheet) o)) (membersPlan body (a .sheet) order o)))
       named false matches p q = either
       named true true p q = either
-      named true false p q = record { asMet = made-stop (st .rootName (p, q)); groups = made-end }
+      named true false p q = record { asMet = made-stop (st .rootName (differs a p q)); groups = made-end }
