@@ -13,6 +13,7 @@ use Rattle.sheet.specs.declared.ShapeDepth.{ShapeDepth}
 use Rattle.sheet.specs.Settings.{isStrict, tooDeep}
 use Rattle.sheet.specs.Sheet.{MapSheet}
 use Rattle.sheet.specs.Names.{entryName}
+use Rattle.readings.specs.Call.{uploaded, calling}
 use Rattle.readings.specs.Plan.{Plan, perform}
 use Rattle.readings.specs.Collection.{entryPlan, afterEntry, entriesOf, entriesPlan, mapPlan}
 use Rattle.readings.proofs.Laws.Fuel.{after-entry-shortens}
@@ -153,7 +154,7 @@ module _ {body t : List ℕ} {final : ℕ} {deep strict : Bool} {r : Opening} (s
     (p : MapRead sheet said) (a : AskedIs body t final (said .ok) deep strict r) (d : deep ≡ tooDeep (settingsOf settings) depth)
     (i : strict ≡ isStrict (settingsOf settings) depth) where
   pub map-found : {v : View} {s : StartRow} {c : Cursor} → r ≡ Opening.Found v s c
-      → mapPlan body t final sheet (settingsOf settings) depth
+      → mapPlan (uploaded body t final) (calling sheet (settingsOf settings) depth)
       ≡ collected (entryPlan body (viewAt t v) (mapSaid sheet) (entryName (settingsOf settings) (mapSaid sheet)))
       (entriesOf (entryName (settingsOf settings) (mapSaid sheet)) (childAt body t (v .count) s c)) (v .«ill_formed»)
   unfolding mapPlan entriesPlan collected

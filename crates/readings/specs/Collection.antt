@@ -11,10 +11,10 @@ use Rattle.document.specs.View.{View}
 use Rattle.document.specs.Reader.{Reader, skip}
 use Rattle.document.specs.Scope.{Child, level, levelIn, children, childrenOf, dropping, afterChildren, Piece, pieceOf}
 use Rattle.document.specs.Text.{textOf}
-use Rattle.sheet.specs.declared.ShapeDepth.{ShapeDepth}
 use Rattle.sheet.specs.Settings.{Settings}
 use Rattle.sheet.specs.Sheet.{ListSheet, listOf, MapSheet, mapOf}
 use Rattle.sheet.specs.Names.{itemName, entryName, keyName, valueName, valueAggregate}
+use Rattle.readings.specs.Call.{Upload, Call}
 use Rattle.readings.specs.Output.{Room, nothing, Reading, textEntry, pieceEntry, keyTextEntry, keyPieceEntry}
 use Rattle.readings.specs.Plan.{Plan, end, stop, perform, one, followedBy, oneByOne, endTest}
 use Rattle.readings.specs.Opening.{Asked, asked, asking}
@@ -37,13 +37,13 @@ itemsPlan body settings a =
     followedBy items (endTest (a .opened .seen .illFormed))
 
 -- "List. 1, 2, 3, 4; 10 as met; 9 last."
-unfoldable pub listPlan : List ℕ → List ℕ → ℕ → List ℕ → Settings → ShapeDepth → Plan
+unfoldable pub listPlan : Upload → Call → Plan
 unfolding asked listOf itemsPlan
-listPlan body table final sheet settings depth = asking (asked body table final (listOf sheet) settings depth) (itemsPlan body settings) stop
+listPlan u call = asking (asked u (listOf (call .sheet)) (call .settings) (call .depth)) (itemsPlan (u .body) (call .settings)) stop
 
-unfoldable pub listReading : List ℕ → List ℕ → ℕ → List ℕ → Settings → ShapeDepth → Room → Reading
+unfoldable pub listReading : Upload → Call → Room → Reading
 unfolding perform listPlan
-listReading body table final sheet settings depth room = perform room (listPlan body table final sheet settings depth) nothing
+listReading u call room = perform room (listPlan u call) nothing
 
 -- ---- string list: each item a text
 -- "with 6 to 9 as met"
@@ -62,14 +62,13 @@ stringsPlan settings a =
     followedBy items (endTest (a .opened .seen .illFormed))
 
 -- "String list. As list, with 6 to 9 as met."
-unfoldable pub stringListPlan : List ℕ → List ℕ → ℕ → List ℕ → Settings → ShapeDepth → Plan
+unfoldable pub stringListPlan : Upload → Call → Plan
 unfolding asked listOf stringsPlan
-stringListPlan body table final sheet settings depth =
-    asking (asked body table final (listOf sheet) settings depth) (stringsPlan settings) stop
+stringListPlan u call = asking (asked u (listOf (call .sheet)) (call .settings) (call .depth)) (stringsPlan (call .settings)) stop
 
-unfoldable pub stringListReading : List ℕ → List ℕ → ℕ → List ℕ → Settings → ShapeDepth → Room → Reading
+unfoldable pub stringListReading : Upload → Call → Room → Reading
 unfolding perform stringListPlan
-stringListReading body table final sheet settings depth room = perform room (stringListPlan body table final sheet settings depth) nothing
+stringListReading u call room = perform room (stringListPlan u call) nothing
 
 -- ---- map
 -- what a map entry has come to: of several keys or values the last wins
@@ -138,10 +137,10 @@ entriesPlan body settings a =
     followedBy entries (endTest (a .opened .seen .illFormed))
 
 -- "Map. The same, with 6, 7, 8, 9 as met in a key or value"
-unfoldable pub mapPlan : List ℕ → List ℕ → ℕ → List ℕ → Settings → ShapeDepth → Plan
+unfoldable pub mapPlan : Upload → Call → Plan
 unfolding asked mapOf entriesPlan
-mapPlan body table final sheet settings depth = asking (asked body table final (mapOf sheet) settings depth) (entriesPlan body settings) stop
+mapPlan u call = asking (asked u (mapOf (call .sheet)) (call .settings) (call .depth)) (entriesPlan (u .body) (call .settings)) stop
 
-unfoldable pub mapReading : List ℕ → List ℕ → ℕ → List ℕ → Settings → ShapeDepth → Room → Reading
+unfoldable pub mapReading : Upload → Call → Room → Reading
 unfolding perform mapPlan
-mapReading body table final sheet settings depth room = perform room (mapPlan body table final sheet settings depth) nothing
+mapReading u call room = perform room (mapPlan u call) nothing

@@ -21,6 +21,7 @@ use Rattle.sheet.specs.declared.ShapeDepth.{ShapeDepth}
 use Rattle.sheet.specs.Settings.{Settings, testsRootName}
 use Rattle.sheet.specs.Sheet.{Structure, structureOf, ListSheet, MapSheet}
 use Rattle.sheet.specs.Names.{rootName, itemName, entryName, keyName, valueName, valueAggregate}
+use Rattle.readings.specs.Call.{Upload, Call}
 use Rattle.readings.specs.Output.{Entry, textKind, pieceKind, groupKind, failedKind, Room, Output, nothing, Reading, finished, refused, written}
 use Rattle.readings.specs.Plan.{Plan, put, end}
 use Rattle.readings.specs.Opening.{Asked}
@@ -30,10 +31,10 @@ use Rattle.readings.specs.Shape.{Shape, structure, list, map, strings, S
 
 -- ---- "For every body and table that the strict drain passes, a later structure, list or map reading .. is refused only for"
 -- what is read of such a table: the sheet that its bytes say, all the rows, and the root
-pub record ReadOf (body table : List ℕ) (final : ℕ) (sheet : List ℕ) (shape : Shape) (a : Asked (SheetOf shape)) : Type 0 where
+pub record ReadOf (u : Upload) (sheet : List ℕ) (shape : Shape) (a : Asked (SheetOf shape)) : Type 0 where
   pub says : sheetOf shape sheet ≡ some (a .sheet)
-  pub seen : a .opened .seen ≡ whole (rowsOf table) final
-  pub root : rootOf (toksOf body (rowsOf table)) ≡ some (a .opened .root)
+  pub seen : a .opened .seen ≡ whole (rowsOf (u .rows)) (u .end)
+  pub root : rootOf (toksOf (u .body) (rowsOf (u .rows))) ≡ some (a .opened .root)
 
 -- "the root's name": of a structure it is tested, and does not match
 pub data RootDiffers (settings : Settings) (depth : ShapeDepth) : (shape : Shape) → Asked (SheetOf shape) → Type 0 where
@@ -63,63 +64,58 @@ pub data Exceeds (room : Room) (out : Output) : Type 0 where
   too-many : room .entries < length (out .entries) → Exceeds room out
   too-long : room .bytes < length (out .texts) → Exceeds room out
 
-module _ (body table : List ℕ) (final : ℕ) (sheet : List ℕ) (settings : Settings) (depth : ShapeDepth) (room : Room) (shape : Shape) where
-  -- "a broken sheet, the depth limit, no root, the root's name, an element where text is wanted, or no room": the numbers 2, 3, 4, 5, 6
-  -- and 10, "each where its condition holds" (01, "Agreement")
-  pub data MayRefuse : Refusal → Output → Type 0 where
-    broken-sheet : {out : Output} → sheetOf shape sheet ≡ none → MayRefuse Refusal.Sheet out
-    depth-limit : {out : Output} → settings .maxDepth ≤ depth .0 → MayRefuse Refusal.Depth out
-    no-root : {out : Output} → rootOf (toksOf body (rowsOf table)) ≡ none → MayRefuse Refusal.NoRoot out
-    root-name : {out : Output} (a : Asked (SheetOf shape)) → ReadOf body table final sheet shape a → RootDiffers settings depth shape a
-        → MayRefuse Refusal.RootName out
-    element-in-text : {out : Output} (a : Asked (SheetOf shape)) (c : Child) → ReadOf body table final sheet shape a
-        → TextWanted settings shape a c → textOf none c ≡ answer.refuses Refusal.ElementInText → MayRefuse Refusal.ElementInText out
-    -- with the next entry and its text, what is kept would exceed the room; so would it with a group and those before it
-    no-room : {entry : ℕ → Entry} {bytes : List ℕ} {more : Plan} {out : Output}
-        → Reaches (planOf shape body table final sheet settings depth .asMet) nothing (put entry bytes more) out
-        → Exceeds room (written entry bytes out) → MayRefuse Refusal.NoRoom out
-    groups-no-room : {entry : ℕ → Entry} {bytes : List ℕ} {more : Plan} {out last : Output}
-        → Reaches (planOf shape body table final sheet settings depth .asMet) nothing end out
-        → Reaches (planOf shape body table final sheet settings depth .groups) out (put entry bytes more) last
-        → Exceeds room (written entry bytes last) → MayRefuse Refusal.NoRoom out
+-- "a broken sheet, the depth limit, no root, the root's name, an element where text is wanted, or no room": the numbers 2, 3, 4, 5, 6
+-- and 10, "each where its condition holds" (01, "Agreement")
+pub data MayRefuse (u : Upload) (call : Call) (room : Room) (shape : Shape) : Refusal → Output → Type 0 where
+  broken-sheet : {out : Output} → sheetOf shape (call .sheet) ≡ none → MayRefuse u call room shape Refusal.Sheet out
+  depth-limit : {out : Output} → call .settings .maxDepth ≤ call .depth .0 → MayRefuse u call room shape Refusal.Depth out
+  no-root : {out : Output} → rootOf (toksOf (u .body) (rowsOf (u .rows))) ≡ none → MayRefuse u call room shape Refusal.NoRoot out
+  root-name : {out : Output} (a : Asked (SheetOf shape)) → ReadOf u (call .sheet) shape a → RootDiffers (call .settings) (call .depth) shape a
+      → MayRefuse u call room shape Refusal.RootName out
+  element-in-text : {out : Output} (a : Asked (SheetOf shape)) (c : Child) → ReadOf u (call .sheet) shape a
+      → TextWanted (call .settings) shape a c → textOf none c ≡ answer.refuses Refusal.ElementInText
+      → MayRefuse u call room shape Refusal.ElementInText out
+  -- with the next entry and its text, what is kept would exceed the room; so would it with a group and those before it
+  no-room : {entry : ℕ → Entry} {bytes : List ℕ} {more : Plan} {out : Output}
+      → Reaches (planOf shape u call .asMet) nothing (put entry bytes more) out
+      → Exceeds room (written entry bytes out) → MayRefuse u call room shape Refusal.NoRoom out
+  groups-no-room : {entry : ℕ → Entry} {bytes : List ℕ} {more : Plan} {out last : Output} → Reaches (planOf shape u call .asMet) nothing end out
+      → Reaches (planOf shape u call .groups) out (put entry bytes more) last
+      → Exceeds room (written entry bytes last) → MayRefuse u call room shape Refusal.NoRoom out
 
 -- ---- "Each piece it hands out, finished or refused, is exactly its element's bytes from `<` to the end of its end tag or `/>`, and that
 -- element's rows, counted from the piece's first byte, obey the table rules and pass the drain again": `ElementPiece`. In a group are the
 -- pieces, so said, of the children that its member is resolved from.
-pub data Siblings (body table : List ℕ) (s : Structure) (i : ℕ) : List Child → List ℕ → Type 0 where
-  no-child : Siblings body table s i [] []
-  sibling : {c : Child} {l : List Child} {from len : ℕ} {rest : List ℕ} → inGroup s i c ≡ true → PieceAt body table (c .start .row) from len
-      → Siblings body table s i l rest → Siblings body table s i (c ∷ l) (cut body from len ++ rest)
-  stranger : {c : Child} {l : List Child} {rest : List ℕ} → inGroup s i c ≡ false → Siblings body table s i l rest
-      → Siblings body table s i (c ∷ l) rest
+pub data Siblings (u : Upload) (s : Structure) (i : ℕ) : List Child → List ℕ → Type 0 where
+  no-child : Siblings u s i [] []
+  sibling : {c : Child} {l : List Child} {from len : ℕ} {rest : List ℕ} → inGroup s i c ≡ true
+      → PieceAt (u .body) (u .rows) (c .start .row) from len → Siblings u s i l rest → Siblings u s i (c ∷ l) (cut (u .body) from len ++ rest)
+  stranger : {c : Child} {l : List Child} {rest : List ℕ} → inGroup s i c ≡ false → Siblings u s i l rest → Siblings u s i (c ∷ l) rest
 
-pub record GroupBytes (body table sheet : List ℕ) (member : ℕ) (bytes : List ℕ) : Type 0 where
+pub record GroupBytes (u : Upload) (sheet : List ℕ) (member : ℕ) (bytes : List ℕ) : Type 0 where
   pub structure : Structure
   pub says : structureOf sheet ≡ some structure
   pub root : Child
-  pub isRoot : rootOf (toksOf body (rowsOf table)) ≡ some root
+  pub isRoot : rootOf (toksOf (u .body) (rowsOf (u .rows))) ≡ some root
   pub gathered : List ℕ
-  pub siblings : Siblings body table structure member (childrenOf root) gathered
+  pub siblings : Siblings u structure member (childrenOf root) gathered
   pub are : bytes ≡ ascii "<__flat>" ++ (gathered ++ ascii "</__flat>")
 
-pub record Handed (body table sheet texts : List ℕ) (e : Entry) : Type 0 where
+pub record Handed (u : Upload) (sheet texts : List ℕ) (e : Entry) : Type 0 where
   pub kinds : (textKind ≤ e .kind) × (e .kind ≤ failedKind)
   pub key : e .keyStart + e .keyLen ≤ length texts
   pub text : e .kind ≡ textKind → e .start + e .len ≤ length texts
-  pub piece : e .kind ≡ pieceKind → ElementPiece body table (e .start) (e .len)
-  pub group : e .kind ≡ groupKind → (e .start + e .len ≤ length texts) × GroupBytes body table sheet (e .member) (cut texts (e .start) (e .len))
+  pub piece : e .kind ≡ pieceKind → ElementPiece (u .body) (u .rows) (e .start) (e .len)
+  pub group : e .kind ≡ groupKind → (e .start + e .len ≤ length texts) × GroupBytes u sheet (e .member) (cut texts (e .start) (e .len))
   -- a text that failed has an element inside, and nothing else is wrong with it
   pub failed : e .kind ≡ failedKind → (e .start ≡ number Refusal.ElementInText) × (e .len ≡ 0)
 
 -- ---- "finished or refused"; "strict or lenient, with any sheet, settings, depth and buffers", and any order of groups
-pub data Promised (body table : List ℕ) (final : ℕ) (sheet : List ℕ) (settings : Settings) (depth : ShapeDepth) (room : Room) (shape : Shape)
-    : Reading → Type 0 where
-  finishes : {out : Output} → Every (Handed body table sheet (out .texts)) (out .entries)
-      → Promised body table final sheet settings depth room shape (finished out)
-  refuses : {r : Refusal} {out : Output} → MayRefuse body table final sheet settings depth room shape r out
-      → Every (Handed body table sheet (out .texts)) (out .entries) → Promised body table final sheet settings depth room shape (refused r out)
+pub data Promised (u : Upload) (call : Call) (room : Room) (shape : Shape) : Reading → Type 0 where
+  finishes : {out : Output} → Every (Handed u (call .sheet) (out .texts)) (out .entries) → Promised u call room shape (finished out)
+  refuses : {r : Refusal} {out : Output} → MayRefuse u call room shape r out → Every (Handed u (call .sheet) (out .texts)) (out .entries)
+      → Promised u call room shape (refused r out)
 
 abbrev pub Demand3 : Type 0
-Demand3 = (body table : List ℕ) (final : ℕ) → Passed body table final → (shape : Shape) (sheet : List ℕ) (settings : Settings)
-    (depth : ShapeDepth) (room : Room)
-    → Promised body table final sheet settings depth room shape (read shape body table final sheet settings depth room)
+Demand3 = (u : Upload) → Passed (u .body) (u .rows) (u .end) → (shape : Shape) (call : Call) (room : Room)
+    → Promised u call room shape (read shape u call room)

@@ -1,3 +1,4 @@
+pub mod Call
 pub mod Output
 pub mod Plan
 pub mod Opening

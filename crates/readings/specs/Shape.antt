@@ -2,9 +2,8 @@
 use Prim.Native.Nat.{ℕ}
 use mathlib.Core.List.{List}
 use mathlib.Core.Option.{Option}
-use Rattle.sheet.specs.declared.ShapeDepth.{ShapeDepth}
-use Rattle.sheet.specs.Settings.{Settings}
 use Rattle.sheet.specs.Sheet.{Structure, structureOf, ListSheet, listOf, MapSheet, mapOf}
+use Rattle.readings.specs.Call.{Upload, Call}
 use Rattle.readings.specs.Output.{Room, Reading}
 use Rattle.readings.specs.Plan.{Whole, withoutGroups}
 use Rattle.readings.specs.Structure.{structurePlan, structureReading}
@@ -31,14 +30,14 @@ sheetOf map = mapOf
 sheetOf strings = listOf
 
 -- its plan
-abbrev pub planOf : Shape → List ℕ → List ℕ → ℕ → List ℕ → Settings → ShapeDepth → Whole
-planOf (structure order) body table final sheet settings depth = structurePlan body table final sheet settings depth order
-planOf list body table final sheet settings depth = withoutGroups (listPlan body table final sheet settings depth)
-planOf map body table final sheet settings depth = withoutGroups (mapPlan body table final sheet settings depth)
-planOf strings body table final sheet settings depth = withoutGroups (stringListPlan body table final sheet settings depth)
+abbrev pub planOf : Shape → Upload → Call → Whole
+planOf (structure order) u call = structurePlan u call order
+planOf list u call = withoutGroups (listPlan u call)
+planOf map u call = withoutGroups (mapPlan u call)
+planOf strings u call = withoutGroups (stringListPlan u call)
 
-abbrev pub read : Shape → List ℕ → List ℕ → ℕ → List ℕ → Settings → ShapeDepth → Room → Reading
-read (structure order) body table final sheet settings depth room = structureReading body table final sheet settings depth room order
-read list body table final sheet settings depth room = listReading body table final sheet settings depth room
-read map body table final sheet settings depth room = mapReading body table final sheet settings depth room
-read strings body table final sheet settings depth room = stringListReading body table final sheet settings depth room
+abbrev pub read : Shape → Upload → Call → Room → Reading
+read (structure order) u call = structureReading u call order
+read list u call = listReading u call
+read map u call = mapReading u call
+read strings u call = stringListReading u call

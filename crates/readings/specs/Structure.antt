@@ -23,6 +23,7 @@ use Rattle.sheet.specs.declared.ShapeDepth.{ShapeDepth}
 use Rattle.sheet.specs.Settings.{Settings, testsRootName}
 use Rattle.sheet.specs.Sheet.{Structure, structureOf}
 use Rattle.sheet.specs.Names.{rootName, attributeName, Indexed, indexed, firstNamed, membersOf, resolve}
+use Rattle.readings.specs.Call.{Upload, Call}
 use Rattle.readings.specs.Output.{Room, Reading, textEntry, pieceEntry, groupEntry, failedEntry}
 use Rattle.readings.specs.Plan.{Plan, end, stop, one, followedBy, oneByOne, endTest, Whole, withoutGroups, performed}
 use Rattle.readings.specs.Opening.{Opened, Asked, asked, asking}
@@ -149,17 +150,18 @@ openedPlan body settings depth order a =
     (pick (s .unwrapped) unwrapped wrapped)
 
 -- "Structure. 1, 2, 3, 4, 5, then as met: 10, and 9 after the children."
-unfoldable pub structurePlan : List ℕ → List ℕ → ℕ → List ℕ → Settings → ShapeDepth → List ℕ → Whole
+unfoldable pub structurePlan : Upload → Call → List ℕ → Whole
 unfolding asked structureOf openedPlan
-structurePlan body table final sheet settings depth order =
-    asking (asked body table final (structureOf sheet) settings depth) (openedPlan body settings depth order)
+structurePlan u call order =
+    asking (asked u (structureOf (call .sheet)) (call .settings) (call .depth)) (openedPlan (u .body) (call .settings) (call .depth) order)
     (λ (r : Refusal). withoutGroups (stop r))
 
-unfoldable pub structureReading : List ℕ → List ℕ → ℕ → List ℕ → Settings → ShapeDepth → Room → List ℕ → Reading
+unfoldable pub structureReading : Upload → Call → List ℕ → Room → Reading
 unfolding performed structurePlan
-structureReading body table final sheet settings depth room order = performed room (structurePlan body table final sheet settings depth order)
+structureReading u call order room = performed room (structurePlan u call order)
 
--- what the order must be that a program chooses: of the groups of the sheet that is read and of the root's children, where the reading comes so far
-pub record OrderFor (body table : List ℕ) (final : ℕ) (sheet : List ℕ) (settings : Settings) (depth : ShapeDepth) (order : List ℕ) : Type 0 where
-  pub is : (a : Asked Structure) → asked body table final (structureOf sheet) settings depth ≡ gives a
+-- what the order must be that a program chooses: of the groups of the sheet that is read and of the root's children, where the reading
+-- comes so far
+pub record OrderFor (u : Upload) (call : Call) (order : List ℕ) : Type 0 where
+  pub is : (a : Asked Structure) → asked u (structureOf (call .sheet)) (call .settings) (call .depth) ≡ gives a
       → GroupOrder (a .sheet) (childrenOf (a .opened .root)) order

@@ -14,6 +14,7 @@ use Rattle.sheet.specs.declared.ShapeDepth.{ShapeDepth}
 use Rattle.sheet.specs.Settings.{Settings, testsRootName}
 use Rattle.sheet.specs.Sheet.{Structure, structureOf}
 use Rattle.sheet.specs.Names.{rootName}
+use Rattle.readings.specs.Call.{uploaded, calling}
 use Rattle.readings.specs.Plan.{stop, Whole, withoutGroups}
 use Rattle.readings.specs.Opening.{Opened, asked}
 use Rattle.readings.specs.Structure.{withRootName, openedPlan, structurePlan}
@@ -27,13 +28,13 @@ with-name true false w = refl
 
 module _ (body t : List ℕ) (final : ℕ) (sheet : List ℕ) (settings : Settings) (depth : ShapeDepth) where
   -- 1, 2, 3 or 4, whatever the order
-  pub structure-early : (order : List ℕ) {why : Refusal} → asked body t final (structureOf sheet) settings depth ≡ refuses why
-      → structurePlan body t final sheet settings depth order ≡ withoutGroups (stop why)
+  pub structure-early : (order : List ℕ) {why : Refusal} → asked (uploaded body t final) (structureOf sheet) settings depth ≡ refuses why
+      → structurePlan (uploaded body t final) (calling sheet settings depth) order ≡ withoutGroups (stop why)
   unfolding structurePlan
   structure-early order q = rw q
 
-  pub structure-is : (st : Structure) (o : Opened) → asked body t final (structureOf sheet) settings depth ≡ gives (record { sheet = st; opened = o })
-      → structurePlan body t final sheet settings depth (orderIn (asked body t final (structureOf sheet) settings depth))
+  pub structure-is : (st : Structure) (o : Opened) → asked (uploaded body t final) (structureOf sheet) settings depth ≡ gives (record { sheet = st; opened = o })
+      → structurePlan (uploaded body t final) (calling sheet settings depth) (orderIn (asked (uploaded body t final) (structureOf sheet) settings depth))
       ≡ rootedPlan body st (testsRootName settings depth) o
   unfolding structurePlan openedPlan rootedPlan
   structure-is st o q = rw q (with-name (testsRootName settings depth) (nameMatches (o .root .start .name) (rootName st)) _)

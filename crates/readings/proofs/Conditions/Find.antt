@@ -14,6 +14,7 @@ use Rattle.table.specs.Rules.{TableRules}
 use Rattle.table.specs.Test.{decTable}
 use Rattle.document.specs.View.{View, view}
 use Rattle.document.specs.Scope.{Child, rootOf, childrenOf, Piece, pieceOf}
+use Rattle.readings.specs.Call.{uploaded}
 use Rattle.readings.specs.Opening.{withTable, present}
 use Rattle.readings.specs.Find.{hasLocal, firstChild, wholeBody, findIn, find}
 use Rattle.readings.proofs.Conditions.Answers.{given-refused, refuses-same}
@@ -83,7 +84,7 @@ module _ (body table : List ℕ) (final : ℕ) (name : List ℕ) where
           pick b (gives (wholeBody body)) (onward (present Refusal.NoSuchElement o) (λ (c : Child). gives (pieceOf body seen c))) ≡ refuses Refusal.NoSuchElement
       go b o p q = rw (p, q)
 
-  pub find-refusal : (r : Refusal) → (find body table final name ≡ refuses r) ↔ FindRefused r
+  pub find-refusal : (r : Refusal) → (find (uploaded body table final) name ≡ refuses r) ↔ FindRefused r
   unfolding find
   find-refusal r = (onTable (decTable body table final), back)
     where

@@ -14,6 +14,7 @@ use Rattle.document.specs.Reader.{Scope}
 use Rattle.document.specs.View.{failureOf}
 use Rattle.sheet.specs.declared.ShapeDepth.{ShapeDepth}
 use Rattle.sheet.specs.Settings.{Settings}
+use Rattle.readings.specs.Call.{uploaded, calling}
 use Rattle.readings.specs.Output.{Room, Output, refused}
 use Rattle.readings.specs.Opening.{Asked}
 use Rattle.readings.specs.Shape.{Shape, structure, list, map, strings, SheetOf, sheetOf, read}
@@ -90,7 +91,7 @@ module _ (body table : List ℕ) (final : ℕ) (sheet : List ℕ) (settings : Se
   full-among map = refl
   full-among strings = refl
 
-  pub reading-numbers : (shape : Shape) {r : Refusal} {out : Output} → read shape body table final sheet settings depth room ≡ refused r out → Only (1 ∷ 2 ∷ 3 ∷ 4 ∷ later shape) r
+  pub reading-numbers : (shape : Shape) {r : Refusal} {out : Output} → read shape (uploaded body table final) (calling sheet settings depth) room ≡ refused r out → Only (1 ∷ 2 ∷ 3 ∷ 4 ∷ later shape) r
   reading-numbers shape {r} {out} e = go (reading-refused body table final sheet settings depth room shape e)
     where
       go : {q : Refusal} {o : Output} → Refused body table final sheet settings depth room shape q o → Only (1 ∷ 2 ∷ 3 ∷ 4 ∷ later shape) q
@@ -130,17 +131,17 @@ module _ (body table : List ℕ) (final : ℕ) (settings : Settings) (depth : Sh
   string-among : (room : ℕ) (t : List ℕ) (q : Refusal) → StringTooLong room t q → Only (1 ∷ 4 ∷ 6 ∷ 7 ∷ 8 ∷ 9 ∷ 10 ∷ []) q
   string-among room t q (too-long h) = refl
 
-  pub boolean-numbers : (r : Refusal) → booleanReading body table final settings depth ≡ refuses r → Only (1 ∷ 4 ∷ 6 ∷ 7 ∷ 8 ∷ 9 ∷ 11 ∷ []) r
+  pub boolean-numbers : (r : Refusal) → booleanReading (uploaded body table final) settings depth ≡ refuses r → Only (1 ∷ 4 ∷ 6 ∷ 7 ∷ 8 ∷ 9 ∷ 11 ∷ []) r
   boolean-numbers r e = unread-among 11 boolean-among r (boolean-refusal body table final settings depth r .0 e)
 
-  pub integer-numbers : (r : Refusal) → integerReading body table final settings depth ≡ refuses r → Only (1 ∷ 4 ∷ 6 ∷ 7 ∷ 8 ∷ 9 ∷ 12 ∷ []) r
+  pub integer-numbers : (r : Refusal) → integerReading (uploaded body table final) settings depth ≡ refuses r → Only (1 ∷ 4 ∷ 6 ∷ 7 ∷ 8 ∷ 9 ∷ 12 ∷ []) r
   integer-numbers r e = unread-among 12 integer-among r (integer-refusal body table final settings depth r .0 e)
 
-  pub string-numbers : (room : ℕ) (r : Refusal) → stringReading body table final settings depth room ≡ refuses r → Only (1 ∷ 4 ∷ 6 ∷ 7 ∷ 8 ∷ 9 ∷ 10 ∷ []) r
+  pub string-numbers : (room : ℕ) (r : Refusal) → stringReading (uploaded body table final) settings depth room ≡ refuses r → Only (1 ∷ 4 ∷ 6 ∷ 7 ∷ 8 ∷ 9 ∷ 10 ∷ []) r
   string-numbers room r e = unread-among 10 (string-among room) r (string-refusal body table final settings depth room r .0 e)
 
 -- ---- find, and whole text
-pub find-numbers : (body table : List ℕ) (final : ℕ) (name : List ℕ) {r : Refusal} → find body table final name ≡ refuses r → Only (1 ∷ 13 ∷ []) r
+pub find-numbers : (body table : List ℕ) (final : ℕ) (name : List ℕ) {r : Refusal} → find (uploaded body table final) name ≡ refuses r → Only (1 ∷ 13 ∷ []) r
 find-numbers body table final name {r} e = go (find-refusal body table final name r .0 e)
   where
     go : {q : Refusal} → FindRefused body table final name q → Only (1 ∷ 13 ∷ []) q
@@ -148,7 +149,7 @@ find-numbers body table final name {r} e = go (find-refusal body table final nam
     go (find-no-root t n) = refl
     go (find-none t p n) = refl
 
-pub whole-text-numbers : (body table : List ℕ) (final room : ℕ) {r : Refusal} → wholeText body table final room ≡ refuses r → Only (1 ∷ 4 ∷ 6 ∷ 9 ∷ 10 ∷ []) r
+pub whole-text-numbers : (body table : List ℕ) (final room : ℕ) {r : Refusal} → wholeText (uploaded body table final) room ≡ refuses r → Only (1 ∷ 4 ∷ 6 ∷ 9 ∷ 10 ∷ []) r
 whole-text-numbers body table final room {r} e = go (whole-text-refusal body table final room r .0 e)
   where
     go : {q : Refusal} → WholeRefused body table final room q → Only (1 ∷ 4 ∷ 6 ∷ 9 ∷ 10 ∷ []) q

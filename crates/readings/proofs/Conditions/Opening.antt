@@ -15,6 +15,7 @@ use Rattle.document.specs.View.{view}
 use Rattle.document.specs.Scope.{Child, rootOf}
 use Rattle.sheet.specs.declared.ShapeDepth.{ShapeDepth}
 use Rattle.sheet.specs.Settings.{Settings, isStrict, tooDeep}
+use Rattle.readings.specs.Call.{uploaded}
 use Rattle.readings.specs.Opening.{withTable, present, withDepth, Opened, rooted, opened, Asked, asked}
 use Rattle.readings.proofs.Conditions.Answers.{Is, is-given, is-refused, onward-is}
 
@@ -59,7 +60,7 @@ module _ (body table : List ℕ) (final : ℕ) where
       go none e = is-refused (no-root t e)
       go (some c) e = is-given (record { rules = t; seen = refl; root = e })
 
-  pub opened-is : (strict : Bool) → Is (OpenedAs strict) (OpenedRefused strict) (opened strict body table final)
+  pub opened-is : (strict : Bool) → Is (OpenedAs strict) (OpenedRefused strict) (opened strict (uploaded body table final))
   unfolding opened
   opened-is strict = go (decTable body table final)
     where
@@ -68,12 +69,12 @@ module _ (body table : List ℕ) (final : ℕ) where
       go (no broken) = is-refused (broken-table broken)
 
   -- and where its condition holds, it is refused so
-  pub refused-opened : (strict : Bool) {r : Refusal} → OpenedRefused strict r → opened strict body table final ≡ refuses r
+  pub refused-opened : (strict : Bool) {r : Refusal} → OpenedRefused strict r → opened strict (uploaded body table final) ≡ refuses r
   unfolding opened
   refused-opened strict (broken-table n) = not-obeyed _ (decTable body table final) n
   refused-opened strict (no-root t n) = obeyed _ (decTable body table final) t ∙ rw n
 
-  pub given-opened : (strict : Bool) {o : Opened} → OpenedAs strict o → opened strict body table final ≡ gives o
+  pub given-opened : (strict : Bool) {o : Opened} → OpenedAs strict o → opened strict (uploaded body table final) ≡ gives o
   unfolding opened
   given-opened strict w = obeyed _ (decTable body table final) (w .rules) ∙ given-rooted strict w
 
@@ -101,7 +102,7 @@ module _ (body table : List ℕ) (final : ℕ) where
     abbrev withSheet : Option S → Answer (Asked S)
     withSheet o = onward (present Refusal.Sheet o) (λ (s : S). withDepth (tooDeep settings depth) (withRoot s))
 
-    pub asked-is : Is AskedAs AskedRefused (asked body table final sheet settings depth)
+    pub asked-is : Is AskedAs AskedRefused (asked (uploaded body table final) sheet settings depth)
     unfolding asked
     asked-is = onTable (decTable body table final)
       where
@@ -121,14 +122,14 @@ module _ (body table : List ℕ) (final : ℕ) where
         onTable (yes rules) = onSheet sheet refl rules
         onTable (no broken) = is-refused (by-table broken)
 
-    pub refused-asked : {r : Refusal} → AskedRefused r → asked body table final sheet settings depth ≡ refuses r
+    pub refused-asked : {r : Refusal} → AskedRefused r → asked (uploaded body table final) sheet settings depth ≡ refuses r
     unfolding asked
     refused-asked (by-table b) = not-obeyed _ (decTable body table final) b
     refused-asked (by-sheet t q) = obeyed _ (decTable body table final) t ∙ rw q
     refused-asked (by-depth t q h) = obeyed _ (decTable body table final) t ∙ rw (q, le-leb (settings .maxDepth) (depth .0) h)
     refused-asked (by-root t q h n) = obeyed _ (decTable body table final) t ∙ rw (q, lt-leb (settings .maxDepth) (depth .0) h, n)
 
-    pub given-asked : (a : Asked S) → AskedAs a → asked body table final sheet settings depth ≡ gives a
+    pub given-asked : (a : Asked S) → AskedAs a → asked (uploaded body table final) sheet settings depth ≡ gives a
     unfolding asked
     given-asked a w =
         obeyed _ (decTable body table final) (w .begun .rules)

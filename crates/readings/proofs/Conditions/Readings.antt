@@ -11,6 +11,7 @@ use Rattle.document.specs.Scope.{Child}
 use Rattle.document.specs.Text.{textOf}
 use Rattle.sheet.specs.declared.ShapeDepth.{ShapeDepth}
 use Rattle.sheet.specs.Settings.{Settings}
+use Rattle.readings.specs.Call.{uploaded, calling}
 use Rattle.readings.specs.Output.{Entry, Room, Output, nothing, Reading, refused, written}
 use Rattle.readings.specs.Plan.{Plan, put, end, stop, Whole, performed}
 use Rattle.readings.specs.Opening.{Opened, Asked}
@@ -58,10 +59,10 @@ module _ (body table : List ℕ) (final : ℕ) (sheet : List ℕ) (settings : Se
     early : {r : Refusal} → AskedRefused body table final (sheetOf shape sheet) settings depth r → Refused r nothing
     stops : {a : Asked (SheetOf shape)} {r : Refusal} {out : Output} → AskedAs body table final (sheetOf shape sheet) settings depth a
         → Stops settings depth shape a r → Refused r out
-    full : {entry : ℕ → Entry} {bytes : List ℕ} {more : Plan} {out : Output} → Reaches (planOf shape body table final sheet settings depth .asMet) nothing (put entry bytes more) out
+    full : {entry : ℕ → Entry} {bytes : List ℕ} {more : Plan} {out : Output} → Reaches (planOf shape (uploaded body table final) (calling sheet settings depth) .asMet) nothing (put entry bytes more) out
         → Exceeds room (written entry bytes out) → Refused Refusal.NoRoom out
-    groups-full : {entry : ℕ → Entry} {bytes : List ℕ} {more : Plan} {out last : Output} → Reaches (planOf shape body table final sheet settings depth .asMet) nothing end out
-        → Reaches (planOf shape body table final sheet settings depth .groups) out (put entry bytes more) last → Exceeds room (written entry bytes last) → Refused Refusal.NoRoom out
+    groups-full : {entry : ℕ → Entry} {bytes : List ℕ} {more : Plan} {out last : Output} → Reaches (planOf shape (uploaded body table final) (calling sheet settings depth) .asMet) nothing end out
+        → Reaches (planOf shape (uploaded body table final) (calling sheet settings depth) .groups) out (put entry bytes more) last → Exceeds room (written entry bytes last) → Refused Refusal.NoRoom out
 
   -- where the plan stops
   met : {w : Whole} → PlanIs body table final sheet settings depth shape w → {r : Refusal} {out : Output} → Reaches (w .asMet) nothing (stop r) out → Refused r out
@@ -71,13 +72,13 @@ module _ (body table : List ℕ) (final : ℕ) (sheet : List ℕ) (settings : Se
   grouped : {w : Whole} → PlanIs body table final sheet settings depth shape w → {r : Refusal} {out kept last : Output} → Reaches (w .groups) out (stop r) last → Refused r kept
   grouped (while {a = a} x) t = stops x (made-stops (plan-stops body settings depth shape a .groups) t)
 
-  pub reading-refused : {r : Refusal} {out : Output} → read shape body table final sheet settings depth room ≡ refused r out → Refused r out
-  reading-refused e = go (subst (EndedWhole room _) (sym (read-is shape body table final sheet settings depth room) ∙ e) (performed-ended room (planOf shape body table final sheet settings depth)))
+  pub reading-refused : {r : Refusal} {out : Output} → read shape (uploaded body table final) (calling sheet settings depth) room ≡ refused r out → Refused r out
+  reading-refused e = go (subst (EndedWhole room _) (sym (read-is shape body table final sheet settings depth room) ∙ e) (performed-ended room (planOf shape (uploaded body table final) (calling sheet settings depth))))
     where
-      is : PlanIs body table final sheet settings depth shape (planOf shape body table final sheet settings depth)
+      is : PlanIs body table final sheet settings depth shape (planOf shape (uploaded body table final) (calling sheet settings depth))
       is = plan-is body table final sheet settings depth shape
 
-      go : {r : Refusal} {out : Output} → EndedWhole room (planOf shape body table final sheet settings depth) (refused r out) → Refused r out
+      go : {r : Refusal} {out : Output} → EndedWhole room (planOf shape (uploaded body table final) (calling sheet settings depth)) (refused r out) → Refused r out
       go (as-met (at-stop t w)) = met is t
       go (as-met (no-room t w f)) = full t f
       go (in-groups m (at-stop t w)) = grouped is t

@@ -9,6 +9,7 @@ use Rattle.refusal.specs.Answer.{Answer, gives, refuses, onward}
 use Rattle.document.specs.Text.{textOf}
 use Rattle.sheet.specs.declared.ShapeDepth.{ShapeDepth}
 use Rattle.sheet.specs.Settings.{Settings, isStrict}
+use Rattle.readings.specs.Call.{uploaded}
 use Rattle.readings.specs.Opening.{Opened}
 use Rattle.readings.specs.Scalar.{booleanOf, integerOf, stringIn, unlessIllFormed, scalarText, booleanReading, integerReading, stringReading}
 use Rattle.readings.proofs.Plans.Sources.{Anything}
@@ -29,7 +30,7 @@ module _ (body table : List ℕ) (final : ℕ) (settings : Settings) (depth : Sh
     after-the-rest : {o : Opened} {text : List ℕ} → OpenedAs body table final strict o → textOf (o .seen .failure) (o .root) ≡ gives text →
         DrainFails body table final strict → ScalarRefused Refusal.IllFormed
 
-  scalar-is : Is Anything ScalarRefused (scalarText body table final settings depth)
+  scalar-is : Is Anything ScalarRefused (scalarText (uploaded body table final) settings depth)
   unfolding scalarText
   scalar-is =
       onward-is _ (opened-is body table final strict)
@@ -41,11 +42,11 @@ module _ (body table : List ℕ) (final : ℕ) (settings : Settings) (depth : Sh
       end w e true p = is-refused (after-the-rest w e (opened-fails body table final w .0 p))
       end w e false p = is-given (tt {0})
 
-  pub scalar-refusal : (r : Refusal) → (scalarText body table final settings depth ≡ refuses r) ↔ ScalarRefused r
+  pub scalar-refusal : (r : Refusal) → (scalarText (uploaded body table final) settings depth ≡ refuses r) ↔ ScalarRefused r
   unfolding scalarText
   scalar-refusal r = (refused-is scalar-is, back)
     where
-      back : {q : Refusal} → ScalarRefused q → scalarText body table final settings depth ≡ refuses q
+      back : {q : Refusal} → ScalarRefused q → scalarText (uploaded body table final) settings depth ≡ refuses q
       back (not-opened w) = rw (refused-opened body table final strict w)
       back (no-text {o = o} {r = q} w n) = rw (given-opened body table final strict w, opened-text-refusal body table final w (o .root) q .1 n)
       back (after-the-rest w p f) = rw (given-opened body table final strict w, p, opened-fails body table final w .1 f)
@@ -53,29 +54,29 @@ module _ (body table : List ℕ) (final : ℕ) (settings : Settings) (depth : Sh
   -- the text is refused, or it is there and is not what is wanted: "10 for a string; 11 or 12"
   pub data Unread (Wrong : List ℕ → Refusal → Type 0) : Refusal → Type 0 where
     not-read : {r : Refusal} → ScalarRefused r → Unread Wrong r
-    wrong : {text : List ℕ} {r : Refusal} → scalarText body table final settings depth ≡ gives text → Wrong text r → Unread Wrong r
+    wrong : {text : List ℕ} {r : Refusal} → scalarText (uploaded body table final) settings depth ≡ gives text → Wrong text r → Unread Wrong r
 
   unread : {A : Type 0} (of : List ℕ → Answer A) (Wrong : List ℕ → Refusal → Type 0) → ((text : List ℕ) (r : Refusal) → (of text ≡ refuses r) ↔ Wrong text r) →
-      (r : Refusal) → (onward (scalarText body table final settings depth) of ≡ refuses r) ↔ Unread Wrong r
+      (r : Refusal) → (onward (scalarText (uploaded body table final) settings depth) of ≡ refuses r) ↔ Unread Wrong r
   unread {A} of Wrong law r = (refused-is is, back)
     where
-      is : Is Anything (Unread Wrong) (onward (scalarText body table final settings depth) of)
+      is : Is Anything (Unread Wrong) (onward (scalarText (uploaded body table final) settings depth) of)
       is =
-          onward-is of (itself (scalarText body table final settings depth)) (λ t e. also (itself (of t)) (λ a q. tt {0}) (λ q w. wrong e (law t q .0 w)))
+          onward-is of (itself (scalarText (uploaded body table final) settings depth)) (λ t e. also (itself (of t)) (λ a q. tt {0}) (λ q w. wrong e (law t q .0 w)))
           (λ q e. not-read (scalar-refusal q .0 e))
 
-      back : {q : Refusal} → Unread Wrong q → onward (scalarText body table final settings depth) of ≡ refuses q
+      back : {q : Refusal} → Unread Wrong q → onward (scalarText (uploaded body table final) settings depth) of ≡ refuses q
       back (not-read {r = q} w) = rw (scalar-refusal q .1 w)
       back (wrong {text = t} {r = q} p w) = rw p (law t q .1 w)
 
-  pub boolean-refusal : (r : Refusal) → (booleanReading body table final settings depth ≡ refuses r) ↔ Unread NotABoolean r
+  pub boolean-refusal : (r : Refusal) → (booleanReading (uploaded body table final) settings depth ≡ refuses r) ↔ Unread NotABoolean r
   unfolding booleanReading
   boolean-refusal = unread booleanOf NotABoolean boolean-text-refusal
 
-  pub integer-refusal : (r : Refusal) → (integerReading body table final settings depth ≡ refuses r) ↔ Unread NotAnInteger r
+  pub integer-refusal : (r : Refusal) → (integerReading (uploaded body table final) settings depth ≡ refuses r) ↔ Unread NotAnInteger r
   unfolding integerReading
   integer-refusal = unread integerOf NotAnInteger integer-text-refusal
 
-  pub string-refusal : (room : ℕ) (r : Refusal) → (stringReading body table final settings depth room ≡ refuses r) ↔ Unread (StringTooLong room) r
+  pub string-refusal : (room : ℕ) (r : Refusal) → (stringReading (uploaded body table final) settings depth room ≡ refuses r) ↔ Unread (StringTooLong room) r
   unfolding stringReading
   string-refusal room = unread (stringIn room) (StringTooLong room) (string-text-refusal room)

@@ -23,6 +23,7 @@ use Rattle.document.specs.declared.Depth.{Depth}
 use Rattle.document.specs.Reader.{Reader, reader, fresh, depthAfter, Scope, document, isEnd, endsAt, StartEl, blank, Turn, goes, complete, over, turn, Next, found, gone, takeTurn, next}
 use Rattle.document.specs.Scope.{Child, scopeOf, rootOf, onRoot, nextFrom}
 use Rattle.document.specs.Text.{unescapedText, joinTurn, joined, wholeOf}
+use Rattle.readings.specs.Call.{uploaded}
 use Rattle.readings.specs.Opening.{present}
 use Rattle.readings.specs.Scalar.{stringIn, passing, wholeText}
 use Rattle.readings.proofs.Conditions.Answers.{given-refused, refuses-same}
@@ -162,7 +163,7 @@ module _ (body table : List ℕ) (final : ℕ) (room : ℕ) where
     whole-no-room : {c : Child} {text : List ℕ} → drained body table final ≡ Drained.Passes → root ≡ some c → wholeOf c ≡ gives text → room < length text →
         WholeRefused Refusal.NoRoom
 
-  pub whole-text-refusal : (r : Refusal) → (wholeText body table final room ≡ refuses r) ↔ WholeRefused r
+  pub whole-text-refusal : (r : Refusal) → (wholeText (uploaded body table final) room ≡ refuses r) ↔ WholeRefused r
   unfolding wholeText
   whole-text-refusal r = (onDrain (drained body table final) refl, back)
     where

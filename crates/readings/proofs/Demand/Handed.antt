@@ -11,6 +11,7 @@ use Rattle.refusal.specs.Numbers.{number}
 use Rattle.table.specs.Row.{cut}
 use Rattle.xml.specs.Piece.{ElementPiece}
 use Rattle.document.specs.Scope.{Piece}
+use Rattle.readings.specs.Call.{Upload}
 use Rattle.readings.specs.Output.{Entry, textKind, pieceKind, Room, Output, nothing, groupEntry}
 use Rattle.readings.proofs.Plans.Made.{Keeps}
 use Rattle.readings.proofs.Plans.Sources.{Source, of-text, of-failed, of-piece, of-group, of-key-text, of-key-piece, Anything}
@@ -23,11 +24,11 @@ cut-longer texts more start len h =
     (take-append-le len (drop start texts) more (omega (arith, h, length-drop start texts)))
 
 -- a piece is an element's
-abbrev pub IsElement : List ℕ → List ℕ → Piece → Type 0
-IsElement body table p = ElementPiece body table (p .start) (p .len)
+abbrev pub IsElement : Upload → Piece → Type 0
+IsElement u p = ElementPiece (u .body) (u .rows) (p .start) (p .len)
 
-module _ (body table sheet : List ℕ) where
-  handed-longer : {texts : List ℕ} (more : List ℕ) (e : Entry) → Handed body table sheet texts e → Handed body table sheet (texts ++ more) e
+module _ (u : Upload) (sheet : List ℕ) where
+  handed-longer : {texts : List ℕ} (more : List ℕ) (e : Entry) → Handed u sheet texts e → Handed u sheet (texts ++ more) e
   handed-longer {texts} more e h =
       record {
         kinds = h .kinds;
@@ -40,17 +41,17 @@ module _ (body table sheet : List ℕ) where
 
   -- ---- the entries of each kind
   abbrev pub HandedSource : (ℕ → Entry) → List ℕ → Type 0
-  HandedSource = Source Anything Anything (λ (r : Refusal). r ≡ Refusal.ElementInText) (GroupBytes body table sheet) (IsElement body table)
+  HandedSource = Source Anything Anything (λ (r : Refusal). r ≡ Refusal.ElementInText) (GroupBytes u sheet) (IsElement u)
 
-  text-handed : {texts : List ℕ} (e : Entry) → e .kind ≡ textKind → e .keyStart + e .keyLen ≤ length texts → e .start + e .len ≤ length texts → Handed body table sheet texts e
+  text-handed : {texts : List ℕ} (e : Entry) → e .kind ≡ textKind → e .keyStart + e .keyLen ≤ length texts → e .start + e .len ≤ length texts → Handed u sheet texts e
   text-handed e q k t =
       record { kinds = omega arith; key = k; text = λ p. t; piece = λ p. absurd (omega arith); group = λ p. absurd (omega arith); failed = λ p. absurd (omega arith) }
 
-  piece-handed : {texts : List ℕ} (e : Entry) → e .kind ≡ pieceKind → e .keyStart + e .keyLen ≤ length texts → ElementPiece body table (e .start) (e .len) → Handed body table sheet texts e
+  piece-handed : {texts : List ℕ} (e : Entry) → e .kind ≡ pieceKind → e .keyStart + e .keyLen ≤ length texts → ElementPiece (u .body) (u .rows) (e .start) (e .len) → Handed u sheet texts e
   piece-handed e q k x =
       record { kinds = omega arith; key = k; text = λ p. absurd (omega arith); piece = λ p. x; group = λ p. absurd (omega arith); failed = λ p. absurd (omega arith) }
 
-  group-handed : (texts : List ℕ) (i : ℕ) (bytes : List ℕ) → GroupBytes body table sheet i bytes → Handed body table sheet (texts ++ bytes) (groupEntry i bytes (length texts))
+  group-handed : (texts : List ℕ) (i : ℕ) (bytes : List ℕ) → GroupBytes u sheet i bytes → Handed u sheet (texts ++ bytes) (groupEntry i bytes (length texts))
   group-handed texts i bytes g =
       record {
         kinds = omega arith;
@@ -61,7 +62,7 @@ module _ (body table sheet : List ℕ) where
         failed = λ p. absurd (omega arith);
       }
 
-  source-handed : (texts : List ℕ) {entry : ℕ → Entry} {bytes : List ℕ} → HandedSource entry bytes → Handed body table sheet (texts ++ bytes) (entry (length texts))
+  source-handed : (texts : List ℕ) {entry : ℕ → Entry} {bytes : List ℕ} → HandedSource entry bytes → Handed u sheet (texts ++ bytes) (entry (length texts))
   source-handed texts (of-text {b = b} m t) = text-handed _ refl (omega arith) (omega (arith, length-append texts b))
   source-handed texts (of-failed m r) =
       record {
@@ -82,7 +83,7 @@ module _ (body table sheet : List ℕ) where
 
   -- each entry of an output
   pub record AllHanded (out : Output) : Type 0 where
-    pub each : Every (Handed body table sheet (out .texts)) (out .entries)
+    pub each : Every (Handed u sheet (out .texts)) (out .entries)
 
   pub none-handed : AllHanded nothing
   none-handed = record { each = none }

@@ -27,6 +27,7 @@ use Rattle.sheet.specs.declared.ShapeDepth.{ShapeDepth}
 use Rattle.sheet.specs.Settings.{Settings, isStrict}
 use Rattle.sheet.specs.Sheet.{Structure}
 use Rattle.sheet.specs.Names.{entryName}
+use Rattle.readings.specs.Call.{Upload, Call, uploaded, calling}
 use Rattle.readings.specs.Output.{Entry, pieceKind, Room, Output, nothing, Reading, finished, refused, output}
 use Rattle.readings.specs.Opening.{Asked}
 use Rattle.readings.specs.Structure.{inGroup, siblings, groupOf, rootPiece}
@@ -60,7 +61,7 @@ module _ (body table : List ℕ) (final : ℕ) (passes : drained body table fina
       rw (element-row e d k, element-closed body (rowsOf table) e k h, element-last body (rowsOf table) e k h) (element-piece final passes e k h)
 
   -- the siblings of a group are elements, and the others are no siblings
-  siblings-are : (s : Structure) (i : ℕ) (l : List Child) → ((c : Child) → List·Memᴰ c l → Met toks c) → Siblings body table s i l (siblings body seen s i l)
+  siblings-are : (s : Structure) (i : ℕ) (l : List Child) → ((c : Child) → List·Memᴰ c l → Met toks c) → Siblings (uploaded body table final) s i l (siblings body seen s i l)
   unfolding siblings
   siblings-are s i [] f = no-child
   siblings-are s i (c ∷ l) f = go (inGroup s i c) refl (siblings-are s i l (λ x m. f x (List·Memᴰ·tail m)))
@@ -68,8 +69,8 @@ module _ (body table : List ℕ) (final : ℕ) (passes : drained body table fina
       bytes : List ℕ
       bytes = let p = pieceOf body seen c in cut body (p .start) (p .len)
 
-      go : (t : Bool) → inGroup s i c ≡ t → Siblings body table s i l (siblings body seen s i l)
-          → Siblings body table s i (c ∷ l) (pick t (bytes ++ siblings body seen s i l) (siblings body seen s i l))
+      go : (t : Bool) → inGroup s i c ≡ t → Siblings (uploaded body table final) s i l (siblings body seen s i l)
+          → Siblings (uploaded body table final) s i (c ∷ l) (pick t (bytes ++ siblings body seen s i l) (siblings body seen s i l))
       go true q more = sibling q (piece-of c (f c (List·Memᴰ·head refl))) more
       go false q more = stranger q more
 
@@ -100,12 +101,12 @@ module _ (body table : List ℕ) (final : ℕ) (passes : drained body table fina
       go (root-met m) e = subst (Met (toksOf body (rowsOf table))) (Option·some-injective _ _ e) m
       go no-root e = absurd (Option·none-ne-some root e)
 
-  module _ (sheet : List ℕ) (shape : Shape) (a : Asked (SheetOf shape)) (w : ReadOf body table final sheet shape a) where
+  module _ (sheet : List ℕ) (shape : Shape) (a : Asked (SheetOf shape)) (w : ReadOf (uploaded body table final) sheet shape a) where
     root : Met toks (a .opened .root)
     unfolding toks
     root = met-root (w .root)
 
-    met-sources : Sources (Met toks) Anything (λ (r : Refusal). r ≡ Refusal.ElementInText) (IsElement body table) body (a .opened)
+    met-sources : Sources (Met toks) Anything (λ (r : Refusal). r ≡ Refusal.ElementInText) (IsElement (uploaded body table final)) body (a .opened)
     unfolding seen
     met-sources =
         record {
@@ -117,8 +118,8 @@ module _ (body table : List ℕ) (final : ℕ) (passes : drained body table fina
           piece = λ c m. record { row = c .start .row; is = rw (w .seen) (piece-of c m) };
         }
 
-  shape-sources : (sheet : List ℕ) (shape : Shape) (a : Asked (SheetOf shape)) → ReadOf body table final sheet shape a
-      → ShapeSources Anything Anything (GroupBytes body table sheet) (IsElement body table) body shape a
+  shape-sources : (sheet : List ℕ) (shape : Shape) (a : Asked (SheetOf shape)) → ReadOf (uploaded body table final) sheet shape a
+      → ShapeSources Anything Anything (GroupBytes (uploaded body table final) sheet) (IsElement (uploaded body table final)) body shape a
   unfolding seen toks groupOf rootPiece
   shape-sources sheet (structure order) a w =
       let kids = childrenOf (a .opened .root) in
@@ -143,71 +144,71 @@ module _ (body table : List ℕ) (final : ℕ) (passes : drained body table fina
 
   -- ---- where it is refused
   module _ (sheet : List ℕ) (settings : Settings) (depth : ShapeDepth) (room : Room) where
-    read-of : (shape : Shape) (a : Asked (SheetOf shape)) → AskedAs body table final (sheetOf shape sheet) settings depth a → ReadOf body table final sheet shape a
+    read-of : (shape : Shape) (a : Asked (SheetOf shape)) → AskedAs body table final (sheetOf shape sheet) settings depth a → ReadOf (uploaded body table final) sheet shape a
     read-of shape a w =
         let all = w .begun .seen ∙ view-passed body table final passes (isStrict settings depth) in
         record { says = w .says; seen = all; root = rw all at (w .begun .root) }
 
-    before-reading : (shape : Shape) {r : Refusal} → AskedRefused body table final (sheetOf shape sheet) settings depth r → MayRefuse body table final sheet settings depth room shape r nothing
+    before-reading : (shape : Shape) {r : Refusal} → AskedRefused body table final (sheetOf shape sheet) settings depth r → MayRefuse (uploaded body table final) (calling sheet settings depth) room shape r nothing
     before-reading shape (by-table n) = absurd (n (drained-document-is body table final .0 passes .0))
     before-reading shape (by-sheet t q) = broken-sheet q
     before-reading shape (by-depth t q h) = depth-limit h
     before-reading shape (by-root t q h n) = promise.no-root (rw (view-passed body table final passes (isStrict settings depth)) at n)
 
     -- no view of such a table is ill-formed
-    not-ill-formed : {A : Type 0} {shape : Shape} {a : Asked (SheetOf shape)} → ReadOf body table final sheet shape a → a .opened .seen .illFormed ≡ true → A
+    not-ill-formed : {A : Type 0} {shape : Shape} {a : Asked (SheetOf shape)} → ReadOf (uploaded body table final) sheet shape a → a .opened .seen .illFormed ≡ true → A
     not-ill-formed w e = false-true (rw (w .seen) at e)
 
     -- a text that is wanted is refused with 6
-    six : (shape : Shape) (a : Asked (SheetOf shape)) → ReadOf body table final sheet shape a → (c : Child) → TextWanted settings shape a c → Met toks c → {out : Output} {r : Refusal}
-        → textOf (a .opened .seen .failure) c ≡ refuses r → MayRefuse body table final sheet settings depth room shape r out
+    six : (shape : Shape) (a : Asked (SheetOf shape)) → ReadOf (uploaded body table final) sheet shape a → (c : Child) → TextWanted settings shape a c → Met toks c → {out : Output} {r : Refusal}
+        → textOf (a .opened .seen .failure) c ≡ refuses r → MayRefuse (uploaded body table final) (calling sheet settings depth) room shape r out
     six shape a w c wanted m {out} {r} e =
         let first : textOf none c ≡ refuses r = rw (w .seen) at e in
         let q = only-six c m r first in
         rw q (element-in-text a c w wanted (rw q at first))
 
     -- a child of which a text is wanted is met
-    wanted-met : (shape : Shape) (a : Asked (SheetOf shape)) → ReadOf body table final sheet shape a → (c : Child) → TextWanted settings shape a c → Met toks c
+    wanted-met : (shape : Shape) (a : Asked (SheetOf shape)) → ReadOf (uploaded body table final) sheet shape a → (c : Child) → TextWanted settings shape a c → Met toks c
     wanted-met strings a w c (of-item b i e) = children-met toks (a .opened .root) (root sheet strings a w) c i
     wanted-met map a w c (of-field b {e = entry} i h j t) = children-met toks entry (entries-met (entryName settings (a .sheet)) (a .opened .root) (root sheet map a w) entry i) c j
 
     -- where the plan stops
-    stopped : (shape : Shape) (a : Asked (SheetOf shape)) → ReadOf body table final sheet shape a → {r : Refusal} {out : Output} → Stops settings depth shape a r
-        → MayRefuse body table final sheet settings depth room shape r out
+    stopped : (shape : Shape) (a : Asked (SheetOf shape)) → ReadOf (uploaded body table final) sheet shape a → {r : Refusal} {out : Output} → Stops settings depth shape a r
+        → MayRefuse (uploaded body table final) (calling sheet settings depth) room shape r out
     stopped shape a w (root-differs d) = promise.root-name a w d
     stopped shape a w (ill-formed e) = not-ill-formed w e
     stopped shape a w (no-text c t e) = six shape a w c t (wanted-met shape a w c t) e
 
-    may-refuse : (shape : Shape) {r : Refusal} {out : Output} → Refused body table final sheet settings depth room shape r out → MayRefuse body table final sheet settings depth room shape r out
+    may-refuse : (shape : Shape) {r : Refusal} {out : Output} → Refused body table final sheet settings depth room shape r out → MayRefuse (uploaded body table final) (calling sheet settings depth) room shape r out
     may-refuse shape (early x) = before-reading shape x
     may-refuse shape (stops {a = a} w x) = stopped shape a (read-of shape a w) x
     may-refuse shape (full t f) = promise.no-room t f
     may-refuse shape (groups-full t u f) = groups-no-room t u f
 
-    all-handed : (shape : Shape) → AllHanded body table sheet (output (read shape body table final sheet settings depth room))
+    all-handed : (shape : Shape) → AllHanded (uploaded body table final) sheet (output (read shape (uploaded body table final) (calling sheet settings depth) room))
     all-handed shape =
-        output-carried body table final sheet settings depth room shape (AllHanded body table sheet) (none-handed body table sheet) (λ a w.
+        output-carried body table final sheet settings depth room shape (AllHanded (uploaded body table final) sheet) (none-handed (uploaded body table final) sheet) (λ a w.
         let is = read-of shape a w in
-        made-kept (handed-kept body table sheet room) (plan-made settings depth shape a (met-sources sheet shape a is) (shape-sources sheet shape a is) (may-stop settings depth shape a)))
+        made-kept (handed-kept (uploaded body table final) sheet room) (plan-made settings depth shape a (met-sources sheet shape a is) (shape-sources sheet shape a is) (may-stop settings depth shape a)))
 
-    keeps : (shape : Shape) → Promised body table final sheet settings depth room shape (read shape body table final sheet settings depth room)
-    keeps shape = go (read shape body table final sheet settings depth room) refl (all-handed shape)
+    keeps : (shape : Shape) → Promised (uploaded body table final) (calling sheet settings depth) room shape (read shape (uploaded body table final) (calling sheet settings depth) room)
+    keeps shape = go (read shape (uploaded body table final) (calling sheet settings depth) room) refl (all-handed shape)
       where
-        go : (x : Reading) → read shape body table final sheet settings depth room ≡ x → AllHanded body table sheet (output x) → Promised body table final sheet settings depth room shape x
+        go : (x : Reading) → read shape (uploaded body table final) (calling sheet settings depth) room ≡ x → AllHanded (uploaded body table final) sheet (output x) → Promised (uploaded body table final) (calling sheet settings depth) room shape x
         go (finished out) e h = finishes (h .each)
         go (refused r out) e h = promise.refuses (may-refuse shape (reading-refused body table final sheet settings depth room shape e)) (h .each)
 
 -- THE THEOREM, demand 3: of a body and table that passed, each reading, with any sheet, settings, depth, room and order of groups, keeps its promise
 pub demand-3 : Demand3
-demand-3 body table final p shape sheet settings depth room = keeps body table final (drained-passes-is body table final .1 p) sheet settings depth room shape
+demand-3 u p shape call room = keeps (u .body) (u .rows) (u .end) (drained-passes-is (u .body) (u .rows) (u .end) .1 p) (call .sheet) (call .settings) (call .depth) room shape
 
 -- of what was written, however the reading ended
-pub promised-output : {body table : List ℕ} {final : ℕ} {sheet : List ℕ} {settings : Settings} {depth : ShapeDepth} {room : Room} {shape : Shape} {r : Reading}
-    → Promised body table final sheet settings depth room shape r → Every (Handed body table sheet (output r .texts)) (output r .entries)
+pub promised-output : {u : Upload} {call : Call} {room : Room} {shape : Shape} {r : Reading} → Promised u call room shape r
+    → Every (Handed u (call .sheet) (output r .texts)) (output r .entries)
 promised-output (finishes a) = a
 promised-output (promise.refuses m a) = a
 
 -- of its pieces alone: each entry of kind 2 that such a reading hands out, finished or refused, is an element of the table that passes the drain again
-pub each-piece : {body table : List ℕ} {final : ℕ} → Passed body table final → (shape : Shape) (sheet : List ℕ) (settings : Settings) (depth : ShapeDepth) (room : Room)
-    → (e : Entry) → List·Memᴰ e (output (read shape body table final sheet settings depth room) .entries) → e .kind ≡ pieceKind → ElementPiece body table (e .start) (e .len)
-each-piece {body} {table} {final} p shape sheet settings depth room e i = every-in (promised-output (demand-3 body table final p shape sheet settings depth room)) e i .piece
+pub each-piece : (u : Upload) → Passed (u .body) (u .rows) (u .end) → (shape : Shape) (call : Call) (room : Room) (e : Entry)
+    → List·Memᴰ e (output (read shape u call room) .entries) → e .kind ≡ pieceKind → ElementPiece (u .body) (u .rows) (e .start) (e .len)
+each-piece u p shape call room e i = every-in (promised-output (demand-3 u p shape call room)) e i .piece

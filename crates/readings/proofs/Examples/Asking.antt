@@ -8,6 +8,7 @@ use lib.ListN.{length}
 use Rattle.lists.specs.Bytes.{ascii}
 use Rattle.sheet.specs.declared.ShapeDepth.{ShapeDepth}
 use Rattle.sheet.specs.Settings.{Settings}
+use Rattle.readings.specs.Call.{uploaded, calling}
 use Rattle.readings.specs.Output.{Room, Told, told}
 use Rattle.readings.specs.Shape.{Shape, read}
 
@@ -67,7 +68,7 @@ pub data Question : Type 0 where
   reading : (shape : Shape) (body : String) (table : List ℕ) (final : ℕ) (sheet : List ℕ) (settings : Settings) (depth : ℕ) (room : Room) → Question
 
 abbrev pub ask : Question → Told
-ask (reading s body table final sheet settings depth room) = told (read s (ascii body) table final sheet settings (shape depth) room)
+ask (reading s body table final sheet settings depth room) = told (read s (uploaded (ascii body) table final) (calling sheet settings (shape depth)) room)
 
 -- an answer: the number, the count, the six numbers of each entry, and the text bytes
 abbrev pub answer : ℕ → ℕ → List ℕ → String → Told

@@ -11,6 +11,7 @@ use Rattle.refusal.specs.Numbers.{number}
 use Rattle.refusal.specs.Answer.{Answer, gives, refuses}
 use Rattle.document.specs.Scope.{Piece}
 use Rattle.sheet.specs.Settings.{Settings}
+use Rattle.readings.specs.Call.{uploaded}
 use Rattle.readings.specs.Scalar.{booleanOf, stringIn, booleanReading, integerReading, stringReading, wholeText}
 use Rattle.readings.specs.Find.{find, partOf, refusalOf}
 use Rattle.readings.proofs.Examples.Asking.{case, Answered, settings, lenient, strict, shape, room}
@@ -22,20 +23,20 @@ pub data Scalar : Type 0 where
   scalar : (body : String) (table : List ℕ) (final : ℕ) (settings : Settings) (depth : ℕ) → Scalar
 
 abbrev askBoolean : Scalar → Answer Bool
-askBoolean (scalar body table final settings depth) = booleanReading (ascii body) table final settings (shape depth)
+askBoolean (scalar body table final settings depth) = booleanReading (uploaded (ascii body) table final) settings (shape depth)
 
 abbrev askInteger : Scalar → Answer ℤ
-askInteger (scalar body table final settings depth) = integerReading (ascii body) table final settings (shape depth)
+askInteger (scalar body table final settings depth) = integerReading (uploaded (ascii body) table final) settings (shape depth)
 
 -- with room for so many bytes
 abbrev askString : ℕ → Scalar → Answer (List ℕ)
-askString room (scalar body table final settings depth) = stringReading (ascii body) table final settings (shape depth) room
+askString room (scalar body table final settings depth) = stringReading (uploaded (ascii body) table final) settings (shape depth) room
 
 pub data Search : Type 0 where
   search : (body : String) (table : List ℕ) (final : ℕ) (name : String) → Search
 
 abbrev askFind : Search → Answer Piece
-askFind (search body table final name) = find (ascii body) table final (ascii name)
+askFind (search body table final name) = find (uploaded (ascii body) table final) (ascii name)
 
 abbrev found : ℕ → ℕ → Answer Piece
 found start len = gives (record { start = start; len = len })
@@ -44,7 +45,7 @@ pub data Whole : Type 0 where
   whole : (body : String) (table : List ℕ) (final : ℕ) (room : ℕ) → Whole
 
 abbrev askWhole : Whole → Answer (List ℕ)
-askWhole (whole body table final room) = wholeText (ascii body) table final room
+askWhole (whole body table final room) = wholeText (uploaded (ascii body) table final) room
 
 -- "Scalar. 1, 4; 6 to 9 as met; 9 after the rest; 10 for a string; 11 or 12"
 pub booleans : Answered askBoolean (

@@ -14,6 +14,7 @@ use Rattle.xml.specs.Means.{drained-passes-is}
 use Rattle.xml.specs.Piece.{ElementPiece}
 use Rattle.sheet.specs.Settings.{Settings}
 use Rattle.sheet.specs.Sheet.{structureOf}
+use Rattle.readings.specs.Call.{uploaded, calling}
 use Rattle.readings.specs.Output.{textEntry, pieceEntry, groupEntry, keyTextEntry, Output, finished}
 use Rattle.readings.specs.Opening.{asked}
 use Rattle.readings.specs.Structure.{structureReading}
@@ -101,19 +102,19 @@ core =
       texts = ascii "T&7" ++ (ascii "North <1" ++ ascii "<__flat><ring y=\"1\">34</ring><ring/></__flat>");
     }
 
-pub core-is : structureReading body table final coreSheet strictly (shape 0) enough (3 ∷ []) ≡ finished core
+pub core-is : structureReading (uploaded body table final) (calling coreSheet strictly (shape 0)) (3 ∷ []) enough ≡ finished core
 unfolding computed
 core-is = refl
 
 -- the group of the rings is the only one, so that is an order
-pub core-order : orderIn (asked body table final (structureOf coreSheet) strictly (shape 0)) ≡ 3 ∷ []
+pub core-order : orderIn (asked (uploaded body table final) (structureOf coreSheet) strictly (shape 0)) ≡ 3 ∷ []
 unfolding computed hasGroup grouped
 core-order = refl
 
 -- ---- the theorem, used on its pieces
-pub core-handed : Every (Handed body table coreSheet (core .texts)) (core .entries)
+pub core-handed : Every (Handed (uploaded body table final) coreSheet (core .texts)) (core .entries)
 core-handed =
-    promised-output (rw core-is at (demand-3 body table final (drained-passes-is body table final .0 passes) (structure (3 ∷ [])) coreSheet strictly (shape 0) enough))
+    promised-output (rw core-is at (demand-3 (uploaded body table final) (drained-passes-is body table final .0 passes) (structure (3 ∷ [])) (calling coreSheet strictly (shape 0)) enough))
 
 -- the samples: an element of the table, whose own rows pass the drain again
 pub samples : ElementPiece body table 49 31
@@ -140,7 +141,7 @@ unfolding computed tableOf
 samples-rows = refl
 
 pub samples-read :
-    listReading (cut body 49 31) samplesTable 31 (0 ∷ []) strictly (shape 1) enough
+    listReading (uploaded (cut body 49 31) samplesTable 31) (calling (0 ∷ []) strictly (shape 1)) enough
     ≡ finished (record { entries = pieceEntry 0 (record { start = 9; len = 8 }) 0 ∷ pieceEntry 0 (record { start = 17; len = 4 }) 0 ∷ []; texts = [] })
 unfolding computed
 samples-read = refl
@@ -167,7 +168,7 @@ unfolding computed tableOf
 notes-rows = refl
 
 pub notes-read :
-    mapReading (cut body 108 60) notesTable 60 (0 ∷ []) strictly (shape 1) enough
+    mapReading (uploaded (cut body 108 60) notesTable 60) (calling (0 ∷ []) strictly (shape 1)) enough
     ≡ finished (record { entries = keyTextEntry (ascii "sap") (ascii "9") 0 ∷ []; texts = ascii "sap9" })
 unfolding computed
 notes-read = refl

@@ -24,6 +24,7 @@ use Rattle.sheet.specs.Settings.{Settings}
 use Rattle.sheet.specs.Sheet.{mostMembers, Member, Structure, structureOf}
 use Rattle.sheet.specs.Names.{indexed, entryName}
 use Rattle.sheet.specs.Limits.{few-members}
+use Rattle.readings.specs.Call.{uploaded, calling}
 use Rattle.readings.specs.Output.{Entry, Room, Output, nothing, output}
 use Rattle.readings.specs.Plan.{performed}
 use Rattle.readings.specs.Opening.{Opened, Asked}
@@ -176,7 +177,7 @@ module _ (body table : List ℕ) (final : ℕ) (sheet : List ℕ) (settings : Se
   fits-shape strings g a w = omega arith
 
 pub reading-small : (shape : Shape) → FewIn shape → (body table : List ℕ) (final : ℕ) (sheet : List ℕ) (settings : Settings) (depth : ShapeDepth) (room : Room)
-    → Small body (output (read shape body table final sheet settings depth room))
+    → Small body (output (read shape (uploaded body table final) (calling sheet settings depth) room))
 reading-small shape g body table final sheet settings depth room =
     output-carried body table final sheet settings depth room shape (Small body) (none-small body) (λ a w.
     steps-small body (mostMet settings shape a + mostGroups shape) (output (performed room (askedPlan shape body settings depth a))) (few-bytes (w .begun))

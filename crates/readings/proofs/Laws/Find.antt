@@ -17,6 +17,7 @@ use Rattle.document.specs.Scope.{Child, rootOf, childrenOf, Piece, pieceOf}
 use Rattle.document.specs.Laws.Tags.{rows-tags}
 use Rattle.document.specs.Laws.Placed.{Placed, children-placed, root-placed}
 use Rattle.document.specs.Laws.Inside.{ViewIn, view-in, piece-inside}
+use Rattle.readings.specs.Call.{uploaded}
 use Rattle.readings.specs.Opening.{withTable, present}
 use Rattle.readings.specs.Find.{hasLocal, firstChild, wholeBody, findIn, find, partOf}
 use Rattle.readings.proofs.Conditions.Answers.{given-refused, gives-same}
@@ -62,7 +63,7 @@ module _ {body : List ℕ} {rows : List Row} {final : ℕ} {v : View} (w : ViewI
   root-found (some c) e = in-found c (root-placed (toksOf body (v .rows)) (rows-tags (w .each)) c e)
 
 module _ (body table : List ℕ) (final : ℕ) (name : List ℕ) where
-  all-found : Found body (find body table final name)
+  all-found : Found body (find (uploaded body table final) name)
   unfolding find
   all-found = go (decTable body table final)
     where
@@ -72,7 +73,7 @@ module _ (body table : List ℕ) (final : ℕ) (name : List ℕ) where
       go (no broken) = not-found
 
   -- THE LAW: what is found is a filled part of the body
-  pub find-part : (p : Piece) → find body table final name ≡ gives p → PartIn body p
+  pub find-part : (p : Piece) → find (uploaded body table final) name ≡ gives p → PartIn body p
   find-part p = go all-found
     where
       go : {a : Answer Piece} → Found body a → a ≡ gives p → PartIn body p
@@ -80,7 +81,7 @@ module _ (body table : List ℕ) (final : ℕ) (name : List ℕ) where
       go not-found e = given-refused (sym e)
 
   -- "It answers a part of the body": always
-  pub part-within : partOf (find body table final name) .start + partOf (find body table final name) .len ≤ length body
+  pub part-within : partOf (find (uploaded body table final) name) .start + partOf (find (uploaded body table final) name) .len ≤ length body
   part-within = go all-found
     where
       go : {a : Answer Piece} → Found body a → partOf a .start + partOf a .len ≤ length body
@@ -88,9 +89,9 @@ module _ (body table : List ℕ) (final : ℕ) (name : List ℕ) where
       go not-found = omega arith
 
   -- "An empty part means 1 or 13"
-  pub empty-part : partOf (find body table final name) .len ≡ 0 → (r : Refusal) × FindRefused body table final name r
-  empty-part = go (find body table final name) refl all-found
+  pub empty-part : partOf (find (uploaded body table final) name) .len ≡ 0 → (r : Refusal) × FindRefused body table final name r
+  empty-part = go (find (uploaded body table final) name) refl all-found
     where
-      go : (a : Answer Piece) → find body table final name ≡ a → Found body a → partOf a .len ≡ 0 → (r : Refusal) × FindRefused body table final name r
+      go : (a : Answer Piece) → find (uploaded body table final) name ≡ a → Found body a → partOf a .len ≡ 0 → (r : Refusal) × FindRefused body table final name r
       go (gives p) e (found h) z = absurd (omega (arith, h .filled, z))
       go (refuses r) e not-found z = (r, find-refusal body table final name r .0 e)

@@ -18,6 +18,7 @@ use Rattle.document.specs.Laws.Placed.{Placed}
 use Rattle.document.specs.Laws.Inside.{StartRow, start-row, view-end-in, PieceIn, piece-to-in, piece-inside}
 use Rattle.sheet.specs.declared.ShapeDepth.{ShapeDepth}
 use Rattle.sheet.specs.Settings.{Settings}
+use Rattle.readings.specs.Call.{uploaded, calling}
 use Rattle.readings.specs.Output.{Entry, pieceKind, Output, nothing, output, Room}
 use Rattle.readings.specs.Opening.{Opened, Asked}
 use Rattle.readings.specs.Structure.{rootPiece}
@@ -88,7 +89,7 @@ in-shape strings a h = tt {0}
 
 -- ---- THE LAW: for every input and each reading
 pub entries-inside : (shape : Shape) (body table : List ℕ) (final : ℕ) (sheet : List ℕ) (settings : Settings) (depth : ShapeDepth) (room : Room)
-    → AllIn body (output (read shape body table final sheet settings depth room))
+    → AllIn body (output (read shape (uploaded body table final) (calling sheet settings depth) room))
 entries-inside shape body table final sheet settings depth room =
     output-carried body table final sheet settings depth room shape (AllIn body) (none-in body) (λ a w.
     let o = opened-in (w .begun) in

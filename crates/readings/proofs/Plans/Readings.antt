@@ -15,6 +15,7 @@ use Rattle.document.specs.Text.{textOf}
 use Rattle.sheet.specs.declared.ShapeDepth.{ShapeDepth}
 use Rattle.sheet.specs.Settings.{Settings, testsRootName}
 use Rattle.sheet.specs.Names.{rootName, attributeName, Indexed, membersOf, resolve, itemName, entryName}
+use Rattle.readings.specs.Call.{uploaded, calling}
 use Rattle.readings.specs.Output.{Room, Output, nothing, Reading, finished, refused, output}
 use Rattle.readings.specs.Plan.{Plan, stop, perform, oneByOne, Whole, withoutGroups, thenGroups, performed}
 use Rattle.readings.specs.Opening.{Opened, Asked, asking}
@@ -36,7 +37,7 @@ alone room (finished out) = refl
 alone room (refused r out) = refl
 
 pub read-is : (shape : Shape) (body table : List ℕ) (final : ℕ) (sheet : List ℕ) (settings : Settings) (depth : ShapeDepth) (room : Room)
-    → read shape body table final sheet settings depth room ≡ performed room (planOf shape body table final sheet settings depth)
+    → read shape (uploaded body table final) (calling sheet settings depth) room ≡ performed room (planOf shape (uploaded body table final) (calling sheet settings depth))
 unfolding structureReading listReading mapReading stringListReading performed
 read-is (structure order) body table final sheet settings depth room = refl
 read-is list body table final sheet settings depth room = alone room _
@@ -57,7 +58,7 @@ module _ (body table : List ℕ) (final : ℕ) (sheet : List ℕ) (settings : Se
     while : {a : Asked (SheetOf shape)} → AskedAs body table final (sheetOf shape sheet) settings depth a → PlanIs (askedPlan shape body settings depth a)
 
 pub plan-is : (body table : List ℕ) (final : ℕ) (sheet : List ℕ) (settings : Settings) (depth : ShapeDepth) (shape : Shape)
-    → PlanIs body table final sheet settings depth shape (planOf shape body table final sheet settings depth)
+    → PlanIs body table final sheet settings depth shape (planOf shape (uploaded body table final) (calling sheet settings depth))
 unfolding structurePlan listPlan mapPlan stringListPlan
 plan-is body table final sheet settings depth (structure order) = go (asked-is body table final (sheetOf (structure order) sheet) settings depth)
   where
@@ -91,7 +92,7 @@ plan-is body table final sheet settings depth strings = go (asked-is body table 
 -- so what is said of nothing, and of the output of each such plan, is said of the output of the reading
 pub output-carried : (body table : List ℕ) (final : ℕ) (sheet : List ℕ) (settings : Settings) (depth : ShapeDepth) (room : Room) (shape : Shape) (R : Output → Type 0) → R nothing
     → ((a : Asked (SheetOf shape)) → AskedAs body table final (sheetOf shape sheet) settings depth a → R (output (performed room (askedPlan shape body settings depth a))))
-    → R (output (read shape body table final sheet settings depth room))
+    → R (output (read shape (uploaded body table final) (calling sheet settings depth) room))
 unfolding performed perform
 output-carried body table final sheet settings depth room shape R base f =
     subst⁻¹ (λ (x : Reading). R (output x)) (read-is shape body table final sheet settings depth room) (go (plan-is body table final sheet settings depth shape))
