@@ -233,10 +233,11 @@ def written(numbers):
 HEAD = """use Prim.Native.Nat.{ℕ}
 use mathlib.Core.Path.{_≡_, refl}
 use mathlib.Core.List.{List, [], _∷_, map}
-use Rattle.readings.specs.All.{computed}
-use Rattle.readings.specs.Laws.Order.{hasGroup, grouped}
+use Rattle.readings.specs.Call.{Upload}
+use Rattle.readings.proofs.All.{computed}
+use Rattle.readings.proofs.Laws.Order.{hasGroup, grouped}
 use Rattle.faith.specs.Ask.{
-  Case, Body, at, answer, ask-struct, ask-list, ask-map, ask-strings, ask-bool, ask-int, ask-string, ask-find, ask-whole, ask-drain,
+  Case, at, answer, ask-struct, ask-list, ask-map, ask-strings, ask-bool, ask-int, ask-string, ask-find, ask-whole, ask-drain,
   ask-textbool, ask-textint, ask-textstring,
 }
 """
@@ -270,8 +271,8 @@ class Module:
         else:
             rows, final = self.answers.table(case.body)
             numbers = [number for row in rows for number in row]
-        return self.named("Body", (case.body, tuple(numbers), final),
-                          "record { bytes = %s; table = %s; final = %d }" % (self.bytes(case.body), written(numbers), final))
+        return self.named("Upload", (case.body, tuple(numbers), final),
+                          "record { body = %s; rows = %s; end = %d }" % (self.bytes(case.body), written(numbers), final))
 
     def add(self, case, word):
         room = case.room or ENOUGH

@@ -10,11 +10,12 @@ use Rattle.xml.specs.declared.Drained.{Drained}
 use Rattle.xml.specs.Drain.{drained}
 use Rattle.xml.specs.Means.{drained-passes-is}
 use Rattle.refusal.specs.declared.Refusal.{Refusal}
-use Rattle.sheet.specs.declared.ShapeDepth.{ShapeDepth}
-use Rattle.sheet.specs.Settings.{Settings}
+use Rattle.readings.specs.Call.{Upload, Call}
 use Rattle.readings.specs.Output.{Entry, Output, Room, Reading, output, outcome, sixNumbers, numbersOf}
-use Rattle.readings.specs.Demand.Promise.{Handed, Promised, finishes, refuses, promised-output, Condition, read}
-use Rattle.readings.specs.Demand.Theorem.{demand-3}
+use Rattle.readings.specs.Shape as readings
+use Rattle.readings.specs.Shape.{read}
+use Rattle.readings.specs.Demand.{Handed, Promised, finishes, refuses}
+use Rattle.readings.proofs.Demand.Theorem.{demand-3, promised-output}
 use Rattle.output.specs.Held.{roomOf}
 use Rattle.output.specs.Call.{ReadingCall}
 use Rattle.deserializer.specs.declared.Shape.{Shape}
@@ -22,11 +23,11 @@ use Rattle.deserializer.specs.Call.{ShapeCall, SheetCall}
 use Rattle.deserializer.specs.Demand.{MayAnswer, finished, refused, PieceAt, PiecesIn, shapeAt, Demanded}
 
 -- ---- the numbers of the k-th entry stand at k * 6
-first-piece : {body table sheet texts : List ℕ} (y : Entry) (s : List ℕ) → Handed body table sheet texts y → PieceAt body table (sixNumbers y ++ s) 0
+first-piece : {u : Upload} {sheet texts : List ℕ} (y : Entry) (s : List ℕ) → Handed u sheet texts y → PieceAt u (sixNumbers y ++ s) 0
 first-piece y s p = record { is = p .piece }
 
-later-piece : {body table : List ℕ} (y : Entry) (s : List ℕ) (i : ℕ) → PieceAt body table s i
-    → PieceAt body table (sixNumbers y ++ s) (suc (suc (suc (suc (suc (suc i))))))
+later-piece : {u : Upload} (y : Entry) (s : List ℕ) (i : ℕ) → PieceAt u s i
+    → PieceAt u (sixNumbers y ++ s) (suc (suc (suc (suc (suc (suc i))))))
 later-piece y s i p =
     let b : suc (suc (suc (suc (suc (suc i))))) + 4 ≡ suc (suc (suc (suc (suc (suc (i + 4)))))) = omega arith in
     let c : suc (suc (suc (suc (suc (suc i))))) + 5 ≡ suc (suc (suc (suc (suc (suc (i + 5)))))) = omega arith in
@@ -39,49 +40,51 @@ numbers-cons y l x = refl
 six-more : (k : ℕ) → suc k * 6 ≡ suc (suc (suc (suc (suc (suc (k * 6))))))
 six-more k = omega arith
 
-pieces-of : {body table sheet texts : List ℕ} (l : List Entry) → Every (Handed body table sheet texts) l → (x : List ℕ) (k : ℕ) → k < length l
-    → PieceAt body table (numbersOf l ++ x) (k * 6)
+pieces-of : {u : Upload} {sheet texts : List ℕ} (l : List Entry) → Every (Handed u sheet texts) l → (x : List ℕ) (k : ℕ) → k < length l
+    → PieceAt u (numbersOf l ++ x) (k * 6)
 pieces-of [] every x k h = absurd (omega arith)
-pieces-of {body} {table} (y ∷ l) every x zero h =
-    subst (λ (s : List ℕ). PieceAt body table s 0) (sym (numbers-cons y l x)) (first-piece y (numbersOf l ++ x) (every-first every))
-pieces-of {body} {table} (y ∷ l) every x (suc k) h =
-    subst (λ (s : List ℕ). PieceAt body table s (suc k * 6)) (sym (numbers-cons y l x))
-    (subst (λ (i : ℕ). PieceAt body table (sixNumbers y ++ (numbersOf l ++ x)) i) (sym (six-more k))
+pieces-of {u} (y ∷ l) every x zero h =
+    subst (λ (s : List ℕ). PieceAt u s 0) (sym (numbers-cons y l x)) (first-piece y (numbersOf l ++ x) (every-first every))
+pieces-of {u} (y ∷ l) every x (suc k) h =
+    subst (λ (s : List ℕ). PieceAt u s (suc k * 6)) (sym (numbers-cons y l x))
+    (subst (λ (i : ℕ). PieceAt u (sixNumbers y ++ (numbersOf l ++ x)) i) (sym (six-more k))
     (later-piece y (numbersOf l ++ x) (k * 6) (pieces-of l (every-rest every) x k (omega arith))))
 
 -- ---- the number
-may-answer : {Holds : Refusal → Output → Type 0} {body table sheet : List ℕ} {x : Reading} → Promised Holds body table sheet x → MayAnswer (outcome x)
+may-answer : {u : Upload} {call : Call} {room : Room} {shape : readings.Shape} {x : Reading}
+    → Promised u call room shape x → MayAnswer shape u call room (outcome x)
 may-answer (finishes a) = finished
-may-answer (refuses m h a) = refused m
+may-answer (refuses m a) = refused m
 
 -- ---- from the promise of a call
-module _ {body table : List ℕ} {final : ℕ} {sheet : List ℕ} {settings : Settings} {depth : ShapeDepth} {e t e′ t′ : List ℕ} {n m r : ℕ} where
-  keeps : (shape : Shape) (order : List ℕ) → ReadingCall (read (shapeAt shape order) body table final sheet settings depth) e t e′ t′ n m r
-      → Demanded shape body table final sheet settings depth e t e′ n r
+module _ {u : Upload} {call : Call} {e t e′ t′ : List ℕ} {n m r : ℕ} where
+  keeps : (shape : Shape) (order : List ℕ) → ReadingCall (read (shapeAt shape order) u call) e t e′ t′ n m r
+      → Demanded shape u call e t e′ n r
   unfolding overwritten
   keeps shape order c =
       record {
         kept = λ p. record {
+          order = order;
           number = rw (c .number) (may-answer (holds p order));
           pieces = rw (c .entries, c .count)
-              (record { each = pieces-of (entries order) (promised-output (holds p order) .each) (drop (length (numbersOf (entries order))) e) });
+              (record { each = pieces-of (entries order) (promised-output (holds p order)) (drop (length (numbersOf (entries order))) e) });
           promised = holds p;
         };
       }
     where
       entries : List ℕ → List Entry
-      entries order = output (read (shapeAt shape order) body table final sheet settings depth (roomOf e t)) .entries
+      entries order = output (read (shapeAt shape order) u call (roomOf e t)) .entries
 
-      holds : drained body table final ≡ Drained.Passes → (order : List ℕ)
-          → Promised (Condition (shapeAt shape order) body table final sheet settings depth (roomOf e t)) body table sheet
-          (read (shapeAt shape order) body table final sheet settings depth (roomOf e t))
-      holds p order = demand-3 (drained-passes-is body table final .0 p) (shapeAt shape order) sheet settings depth (roomOf e t)
+      holds : drained (u .body) (u .rows) (u .end) ≡ Drained.Passes → (order : List ℕ)
+          → Promised u call (roomOf e t) (shapeAt shape order)
+          (read (shapeAt shape order) u call (roomOf e t))
+      holds p order = demand-3 u (drained-passes-is (u .body) (u .rows) (u .end) .0 p) (shapeAt shape order) call (roomOf e t)
 
-  pub demanded : {shape : Shape} → SheetCall shape body table final sheet settings depth e t e′ t′ n m r → Demanded shape body table final sheet settings depth e t e′ n r
+  pub demanded : {shape : Shape} → SheetCall shape u call e t e′ t′ n m r → Demanded shape u call e t e′ n r
   demanded {shape} c = go shape (c .is)
     where
-      go : (shape : Shape) → ShapeCall shape body table final sheet settings depth e t e′ t′ n m r → Demanded shape body table final sheet settings depth e t e′ n r
-      go Shape.Struct c = keeps Shape.Struct (c .order) (c .call)
+      go : (shape : Shape) → ShapeCall shape u call e t e′ t′ n m r → Demanded shape u call e t e′ n r
+      go Shape.Struct c = keeps Shape.Struct (c .order) (c .reads)
       go Shape.List c = keeps Shape.List [] c
       go Shape.Map c = keeps Shape.Map [] c
       go Shape.StringList c = keeps Shape.StringList [] c

@@ -21,8 +21,10 @@ use Rattle.codec.specs.declared.collection.ListSheet.{ListSheet}
 use Rattle.codec.specs.declared.collection.MapSheet.{MapSheet}
 use Rattle.codec.specs.Settings.{settingsOf}
 use Rattle.codec.specs.Collection.{listSaid, ListSaid, ListRead, mapSaid, MapSaid, MapRead}
-use Rattle.readings.specs.Output.{Room, Output, nothing, Reading, refused}
-use Rattle.readings.specs.Collection.{readItems, readStrings, entriesOf, listReading, mapReading, stringListReading}
+use Rattle.readings.specs.Call.{uploaded, calling}
+use Rattle.readings.specs.Output.{Room, nothing, Reading, refused}
+use Rattle.readings.specs.Plan.{Plan, stop, perform, Whole, withoutGroups, performed}
+use Rattle.readings.specs.Collection.{itemsPlan, listPlan, listReading, stringsPlan, stringListPlan, stringListReading, mapPlan, mapReading}
 use Rattle.decode.specs.declared.reader.StartRow.{StartRow}
 use Rattle.decode.specs.declared.reader.Cursor.{Cursor}
 use Rattle.decode.specs.declared.view.View.{View}
@@ -30,24 +32,24 @@ use Rattle.decode.specs.Reader.{childAt}
 use Rattle.decode.specs.View.{viewAt}
 use Rattle.output.specs.declared.Written.{Written}
 use Rattle.output.specs.declared.Step.{Step}
-use Rattle.output.specs.Held.{roomOf, writtenOf, Does}
-use Rattle.output.specs.Steps.{eachOf, tested}
+use Rattle.output.specs.Held.{roomOf, writtenOf, Ends}
 use Rattle.output.specs.Call.{ReadingCall}
-use Rattle.output.proofs.Called.{call-early, call-done, call-refused}
+use Rattle.output.proofs.Then.{ends-as}
+use Rattle.output.proofs.Called.{holds-nothing, call-early, call-done, call-refused}
 use Rattle.opening.specs.declared.Opening.{Opening}
 use Rattle.opening.specs.Opening.{AskedIs, RootAt}
 use Rattle.opening.proofs.Asked.{asked-ok, asked-root, asked-early, asked-found}
 use Rattle.opening.specs.Level.{none-written, collected}
-use Rattle.list.specs.List.{itemOf, WholeIs}
-use Rattle.list.specs.StringList.{stringOf, StringsWholeIs}
+use Rattle.list.specs.List.{WholeIs}
+use Rattle.list.specs.StringList.{StringsWholeIs}
 use Rattle.codec.specs.Structure.{saidBy, StructureSaid, StructureRead}
 use Rattle.readings.specs.Opening.{asked}
-use Rattle.readings.specs.Structure.{structureReading}
-use Rattle.readings.specs.Laws.Order.{orderIn, an-order}
+use Rattle.readings.specs.Structure.{structurePlan, structureReading}
+use Rattle.readings.proofs.Laws.Order.{orderIn, an-order}
 use Rattle.structure.specs.Steps.{openedAt}
-use Rattle.structure.specs.Structure.{structureStep, StructureIs}
+use Rattle.structure.specs.Structure.{StructureIs}
 use Rattle.structure.proofs.Called.{structure-early, structure-is}
-use Rattle.map.specs.Map.{MapIs, mapEntry}
+use Rattle.map.specs.Map.{MapIs}
 use Rattle.map.proofs.Entries.{map-found}
 use Rattle.deserializer.specs.declared.Shape.{Shape}
 use Rattle.deserializer.specs.Call.{numberOf, EnteredRead, EnteredCall, SetBy, Tells, ToldCall, SheetCall, settingsBy, shapeOf}
@@ -59,14 +61,11 @@ not-entered : {entered : Bool} (b : Bool) → entered ≡ not b → not entered 
 not-entered true e = ap not e
 not-entered false e = ap not e
 
--- what a step did, called with nothing written, told as a call
-told : (reading : Room → Reading) (step : Room → Output → Reading) {e t e′ t′ : List ℕ} {r : Step} → reading (roomOf e t) ≡ step (roomOf e t) nothing
-    → Does step e t none-written e′ t′ r → ReadingCall reading e t e′ t′ (writtenOf r .count) (writtenOf r .used) (numberOf r)
-told reading step {e} {t} {e′} {t′} {r} p d = go r d
-  where
-    go : (r : Step) → Does step e t none-written e′ t′ r → ReadingCall reading e t e′ t′ (writtenOf r .count) (writtenOf r .used) (numberOf r)
-    go (Step.Done w) d = call-done reading step p d refl
-    go (Step.Refused why w) d = call-refused reading step p d refl refl
+-- what is left in the buffers, told as a call
+told : (reading : Room → Reading) {e t e′ t′ : List ℕ} (r : Step) → Ends (reading (roomOf e t)) e t e′ t′ r
+    → ReadingCall reading e t e′ t′ (writtenOf r .count) (writtenOf r .used) (numberOf r)
+told reading (Step.Done w) y = call-done reading y refl
+told reading (Step.Refused why w) y = call-refused reading y refl refl
 
 -- ---- lists and string lists
 pub list-said : {body t : List ℕ} {final : ℕ} {sheet : List ℕ} {said : ListSheet} {deep strict : Bool} {r : Opening} {v : View} {s : StartRow} {c : Cursor} → ListRead sheet said
@@ -79,40 +78,39 @@ module _ (body t : List ℕ) (final : ℕ) (sheet : List ℕ) {said : ListSheet}
   too-deep = not-entered (tooDeep settings depth)
 
   pub list-refused : (e tx : List ℕ) {why : Refusal} → r ≡ Opening.Refused why
-      → EnteredRead Shape.List body t final sheet settings depth entered e tx e tx (Step.Refused why none-written)
-  unfolding listReading
+      → EnteredRead Shape.List (uploaded body t final) (calling sheet settings depth) entered e tx e tx (Step.Refused why none-written)
+  unfolding listReading listPlan perform
   list-refused e tx {why} q =
       record {
         read = λ g. record {
-          call = record {
-            is = call-early (listReading body t final sheet settings depth) {why = why}
+          reads = record {
+            is = call-early (listReading (uploaded body t final) (calling sheet settings depth)) {why = why}
                 (rw (asked-early a settings depth (too-deep g) i (λ o. p .there o .said) (p .broken) q)) refl;
           };
         };
       }
 
   pub list-found : {v : View} {s : StartRow} {c : Cursor} {e e′ : List ℕ} (tx : List ℕ) {got : Step} → r ≡ Opening.Found v s c
-      → WholeIs body t v (itemName settings (listSaid sheet)) s c e e′ got → EnteredRead Shape.List body t final sheet settings depth entered e tx e′ tx got
-  unfolding listReading readItems collected eachOf tested itemOf
-  list-found {v} {s} {c} tx q x =
+      → WholeIs body t v (itemName settings (listSaid sheet)) s c e e′ got → EnteredRead Shape.List (uploaded body t final) (calling sheet settings depth) entered e tx e′ tx got
+  unfolding listReading listPlan itemsPlan collected
+  list-found {e = e} tx {got} q x =
       record {
         read = λ g. record {
-          call = record {
-            is = told (listReading body t final sheet settings depth)
-                (collected (itemOf body (viewAt t v) (itemName settings (listSaid sheet))) (childrenOf (childAt body t (v .count) s c)) (v .«ill_formed»))
-                (rw (asked-found a settings depth (too-deep g) i (λ o. p .there o .said) q)) (x .enters .is tx);
+          reads = record {
+            is = told (listReading (uploaded body t final) (calling sheet settings depth)) got
+                (rw (asked-found a settings depth (too-deep g) i (λ o. p .there o .said) q) (x .enters .is tx .is (holds-nothing e tx)));
           };
         };
       }
 
   pub strings-refused : (e tx : List ℕ) {why : Refusal} → r ≡ Opening.Refused why
-      → EnteredRead Shape.StringList body t final sheet settings depth entered e tx e tx (Step.Refused why none-written)
-  unfolding stringListReading
+      → EnteredRead Shape.StringList (uploaded body t final) (calling sheet settings depth) entered e tx e tx (Step.Refused why none-written)
+  unfolding stringListReading stringListPlan perform
   strings-refused e tx {why} q =
       record {
         read = λ g. record {
-          call = record {
-            is = call-early (stringListReading body t final sheet settings depth) {why = why}
+          reads = record {
+            is = call-early (stringListReading (uploaded body t final) (calling sheet settings depth)) {why = why}
                 (rw (asked-early a settings depth (too-deep g) i (λ o. p .there o .said) (p .broken) q)) refl;
           };
         };
@@ -120,15 +118,14 @@ module _ (body t : List ℕ) (final : ℕ) (sheet : List ℕ) {said : ListSheet}
 
   pub strings-found : {v : View} {s : StartRow} {c : Cursor} {e tx e′ tx′ : List ℕ} {got : Step} → r ≡ Opening.Found v s c
       → StringsWholeIs body t v (itemName settings (listSaid sheet)) s c e tx e′ tx′ got
-      → EnteredRead Shape.StringList body t final sheet settings depth entered e tx e′ tx′ got
-  unfolding stringListReading readStrings collected eachOf tested stringOf
-  strings-found {v} {s} {c} q x =
+      → EnteredRead Shape.StringList (uploaded body t final) (calling sheet settings depth) entered e tx e′ tx′ got
+  unfolding stringListReading stringListPlan stringsPlan collected
+  strings-found {e = e} {tx = tx} {got = got} q x =
       record {
         read = λ g. record {
-          call = record {
-            is = told (stringListReading body t final sheet settings depth)
-                (collected (stringOf (viewAt t v) (itemName settings (listSaid sheet))) (childrenOf (childAt body t (v .count) s c)) (v .«ill_formed»))
-                (rw (asked-found a settings depth (too-deep g) i (λ o. p .there o .said) q)) (x .does);
+          reads = record {
+            is = told (stringListReading (uploaded body t final) (calling sheet settings depth)) got
+                (rw (asked-found a settings depth (too-deep g) i (λ o. p .there o .said) q) (x .does .is (holds-nothing e tx)));
           };
         };
       }
@@ -142,22 +139,23 @@ module _ (body t : List ℕ) (final : ℕ) (sheet : List ℕ) {parsed : Structur
     {r : Opening} (a : AskedIs body t final (parsed .ok) (not entered) strict r) (i : strict ≡ isStrict settings depth) where
   -- groups come by rising member index
   abbrev rising : List ℕ
-  rising = orderIn (asked body t final (structureOf sheet) settings depth)
+  rising = orderIn (asked (uploaded body t final) (structureOf sheet) settings depth)
 
   deep-struct : entered ≡ not (tooDeep settings depth) → not entered ≡ tooDeep settings depth
   deep-struct = not-entered (tooDeep settings depth)
 
   pub struct-refused : (e tx : List ℕ) {why : Refusal} → r ≡ Opening.Refused why
-      → EnteredRead Shape.Struct body t final sheet settings depth entered e tx e tx (Step.Refused why none-written)
+      → EnteredRead Shape.Struct (uploaded body t final) (calling sheet settings depth) entered e tx e tx (Step.Refused why none-written)
+  unfolding structureReading performed perform
   struct-refused e tx {why} q =
       record {
         read = λ g. record {
-          call = record {
+          reads = record {
             is = record {
               order = rising;
               ordered = an-order body t final sheet settings depth;
-              call = call-early (λ (room : Room). structureReading body t final sheet settings depth room rising) {why = why}
-                  (structure-early body t final sheet settings depth rising (asked-early a settings depth (deep-struct g) i (λ o. p .there o .said) (p .broken) q) (roomOf e tx)) refl;
+              reads = call-early (structureReading (uploaded body t final) (calling sheet settings depth) rising) {why = why}
+                  (ap (performed (roomOf e tx)) (structure-early body t final sheet settings depth rising (asked-early a settings depth (deep-struct g) i (λ o. p .there o .said) (p .broken) q))) refl;
             };
           };
         };
@@ -165,17 +163,18 @@ module _ (body t : List ℕ) (final : ℕ) (sheet : List ℕ) {parsed : Structur
 
   pub struct-read : {v : View} {s : StartRow} {c : Cursor} {e tx e′ tx′ : List ℕ} {tests : Bool} {got : Step} → r ≡ Opening.Found v s c
       → StructureIs body t v (saidBy sheet) tests s c e tx e′ tx′ got → tests ≡ testsRootName settings depth
-      → EnteredRead Shape.Struct body t final sheet settings depth entered e tx e′ tx′ got
-  struct-read {v} {s} {c} {e} {tx} {tests = tests} q x k =
+      → EnteredRead Shape.Struct (uploaded body t final) (calling sheet settings depth) entered e tx e′ tx′ got
+  unfolding structureReading performed
+  struct-read {v} {s} {c} {e} {tx} {tests = tests} {got} q x k =
       record {
         read = λ g. record {
-          call = record {
+          reads = record {
             is = record {
               order = rising;
               ordered = an-order body t final sheet settings depth;
-              call = told (λ (room : Room). structureReading body t final sheet settings depth room rising) (structureStep body (saidBy sheet) tests (openedAt body t v s c))
-                  (rw k (structure-is body t final sheet settings depth (saidBy sheet) (openedAt body t v s c) (asked-found a settings depth (deep-struct g) i (λ o. p .there o .said) q) (roomOf e tx)))
-                  (x .does);
+              reads = told (structureReading (uploaded body t final) (calling sheet settings depth) rising) got
+                  (ends-as (ap (performed (roomOf e tx)) (structure-is body t final sheet settings depth (saidBy sheet) (openedAt body t v s c)
+                  (asked-found a settings depth (deep-struct g) i (λ o. p .there o .said) q))) (rw k at (x .does) .is (holds-nothing e tx)));
             };
           };
         };
@@ -194,13 +193,13 @@ module _ (body t : List ℕ) (final : ℕ) (sheet : List ℕ) {said : MapSheet} 
   deep-map = not-entered (tooDeep (settingsOf settings) depth)
 
   pub map-refused : (e tx : List ℕ) {why : Refusal} → r ≡ Opening.Refused why
-      → EnteredRead Shape.Map body t final sheet (settingsOf settings) depth entered e tx e tx (Step.Refused why none-written)
-  unfolding mapReading
+      → EnteredRead Shape.Map (uploaded body t final) (calling sheet (settingsOf settings) depth) entered e tx e tx (Step.Refused why none-written)
+  unfolding mapReading mapPlan perform
   map-refused e tx {why} q =
       record {
         read = λ g. record {
-          call = record {
-            is = call-early (mapReading body t final sheet (settingsOf settings) depth) {why = why}
+          reads = record {
+            is = call-early (mapReading (uploaded body t final) (calling sheet (settingsOf settings) depth)) {why = why}
                 (rw (asked-early a (settingsOf settings) depth (deep-map g) i (λ o. p .there o .said) (p .broken) q)) refl;
           };
         };
@@ -208,15 +207,14 @@ module _ (body t : List ℕ) (final : ℕ) (sheet : List ℕ) {said : MapSheet} 
 
   pub map-read : {v : View} {s : StartRow} {c : Cursor} {e tx e′ tx′ : List ℕ} {got : Step} → r ≡ Opening.Found v s c
       → MapIs body t v (mapSaid sheet) (entryName (settingsOf settings) (mapSaid sheet)) s c e tx e′ tx′ got
-      → EnteredRead Shape.Map body t final sheet (settingsOf settings) depth entered e tx e′ tx′ got
-  map-read {v} {s} {c} {e} {tx} q x =
-      let nm = entryName (settingsOf settings) (mapSaid sheet) in
+      → EnteredRead Shape.Map (uploaded body t final) (calling sheet (settingsOf settings) depth) entered e tx e′ tx′ got
+  unfolding mapReading
+  map-read {e = e} {tx = tx} {got = got} q x =
       record {
         read = λ g. record {
-          call = record {
-            is = told (mapReading body t final sheet (settingsOf settings) depth)
-                (collected (mapEntry body (viewAt t v) (mapSaid sheet) nm) (entriesOf nm (childAt body t (v .count) s c)) (v .«ill_formed»))
-                (map-found settings depth p a (deep-map g) i q (roomOf e tx)) (x .does);
+          reads = record {
+            is = told (mapReading (uploaded body t final) (calling sheet (settingsOf settings) depth)) got
+                (ends-as (ap (λ (z : Plan). perform (roomOf e tx) z nothing) (map-found settings depth p a (deep-map g) i q)) (x .does .is (holds-nothing e tx)));
           };
         };
       }
@@ -250,36 +248,36 @@ pub ruleset tells-laws = (needs, tells-none, tells-done, tells-refused)
 
 module _ {body table : List ℕ} {final : ℕ} {sheet : List ℕ} {flags max : ℕ} {s : codec.Settings} (b : SetBy flags max s) {depth : ShapeDepth} {entered : Bool} {e t e′ t′ : List ℕ} {step : Step}
     {two two′ : List ℕ} {r : ℕ} (x : Tells step two two′ r) where
-  told-call : {shape : Shape} → EnteredRead shape body table final sheet (settingsOf s) depth entered e t e′ t′ step
-      → EnteredCall shape body table final sheet (settingsBy flags max) depth entered e t e′ t′ two two′ r
-  told-call y = rw (← b .is) (record { told = λ g. record { call = λ h. rw (x .count h, x .bytes h, x .number h) (y .read g .call) } })
+  told-call : {shape : Shape} → EnteredRead shape (uploaded body table final) (calling sheet (settingsOf s) depth) entered e t e′ t′ step
+      → EnteredCall shape (uploaded body table final) (calling sheet (settingsBy flags max) depth) entered e t e′ t′ two two′ r
+  told-call y = rw (← b .is) (record { told = λ g. record { reads = λ h. rw (x .count h, x .bytes h, x .number h) (y .read g .reads) } })
 
   module _ (kind : ℕ) where
-    pub told-struct : kind ≡ 1 → EnteredRead Shape.Struct body table final sheet (settingsOf s) depth entered e t e′ t′ step
-        → EnteredCall (shapeOf kind) body table final sheet (settingsBy flags max) depth entered e t e′ t′ two two′ r
+    pub told-struct : kind ≡ 1 → EnteredRead Shape.Struct (uploaded body table final) (calling sheet (settingsOf s) depth) entered e t e′ t′ step
+        → EnteredCall (shapeOf kind) (uploaded body table final) (calling sheet (settingsBy flags max) depth) entered e t e′ t′ two two′ r
     told-struct q y = rw (eq-eqb kind 1 q) (told-call y)
 
-    pub told-list : (kind ≡ 1 → ⊥) → kind ≡ 2 → EnteredRead Shape.List body table final sheet (settingsOf s) depth entered e t e′ t′ step
-        → EnteredCall (shapeOf kind) body table final sheet (settingsBy flags max) depth entered e t e′ t′ two two′ r
+    pub told-list : (kind ≡ 1 → ⊥) → kind ≡ 2 → EnteredRead Shape.List (uploaded body table final) (calling sheet (settingsOf s) depth) entered e t e′ t′ step
+        → EnteredCall (shapeOf kind) (uploaded body table final) (calling sheet (settingsBy flags max) depth) entered e t e′ t′ two two′ r
     told-list o q y = rw (ne-eqb kind 1 o, eq-eqb kind 2 q) (told-call y)
 
-    pub told-map : (kind ≡ 1 → ⊥) → (kind ≡ 2 → ⊥) → kind ≡ 3 → EnteredRead Shape.Map body table final sheet (settingsOf s) depth entered e t e′ t′ step
-        → EnteredCall (shapeOf kind) body table final sheet (settingsBy flags max) depth entered e t e′ t′ two two′ r
+    pub told-map : (kind ≡ 1 → ⊥) → (kind ≡ 2 → ⊥) → kind ≡ 3 → EnteredRead Shape.Map (uploaded body table final) (calling sheet (settingsOf s) depth) entered e t e′ t′ step
+        → EnteredCall (shapeOf kind) (uploaded body table final) (calling sheet (settingsBy flags max) depth) entered e t e′ t′ two two′ r
     told-map o p q y = rw (ne-eqb kind 1 o, ne-eqb kind 2 p, eq-eqb kind 3 q) (told-call y)
 
-    pub told-strings : (kind ≡ 1 → ⊥) → (kind ≡ 2 → ⊥) → (kind ≡ 3 → ⊥) → EnteredRead Shape.StringList body table final sheet (settingsOf s) depth entered e t e′ t′ step
-        → EnteredCall (shapeOf kind) body table final sheet (settingsBy flags max) depth entered e t e′ t′ two two′ r
+    pub told-strings : (kind ≡ 1 → ⊥) → (kind ≡ 2 → ⊥) → (kind ≡ 3 → ⊥) → EnteredRead Shape.StringList (uploaded body table final) (calling sheet (settingsOf s) depth) entered e t e′ t′ step
+        → EnteredCall (shapeOf kind) (uploaded body table final) (calling sheet (settingsBy flags max) depth) entered e t e′ t′ two two′ r
     told-strings o p q y = rw (ne-eqb kind 1 o, ne-eqb kind 2 p, ne-eqb kind 3 q) (told-call y)
 
 pub ruleset told-laws = (needs, told-struct, told-list, told-map, told-strings)
 
 -- ---- two numbers of one's own are lent
 module _ {shape : Shape} {body table : List ℕ} {final : ℕ} {sheet : List ℕ} {settings : Settings} {depth : ShapeDepth} {e t e′ t′ two two′ : List ℕ} {r : ℕ}
-    (x : ToldCall shape body table final sheet settings depth e t e′ t′ two two′ r) (h : 2 ≤ length two) where
-  pub call-two : SheetCall shape body table final sheet settings depth e t e′ t′ (getD two′ 0 0) (getD two′ 1 0) r
-  call-two = x .call h
+    (x : ToldCall shape (uploaded body table final) (calling sheet settings depth) e t e′ t′ two two′ r) (h : 2 ≤ length two) where
+  pub call-two : SheetCall shape (uploaded body table final) (calling sheet settings depth) e t e′ t′ (getD two′ 0 0) (getD two′ 1 0) r
+  call-two = x .reads h
 
-  pub demand-two : Demanded shape body table final sheet settings depth e t e′ (getD two′ 0 0) r
+  pub demand-two : Demanded shape (uploaded body table final) (calling sheet settings depth) e t e′ (getD two′ 0 0) r
   demand-two = demanded call-two
 
 pub ruleset two-laws = (needs, call-two, demand-two)

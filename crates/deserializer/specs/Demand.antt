@@ -8,40 +8,43 @@ use Rattle.refusal.specs.Numbers.{number}
 use Rattle.xml.specs.declared.Drained.{Drained}
 use Rattle.xml.specs.Drain.{drained}
 use Rattle.xml.specs.Piece.{ElementPiece}
-use Rattle.sheet.specs.declared.ShapeDepth.{ShapeDepth}
-use Rattle.sheet.specs.Settings.{Settings}
-use Rattle.readings.specs.Output.{pieceKind}
-use Rattle.readings.specs.Demand.Promise as promise
-use Rattle.readings.specs.Demand.Promise.{MayRefuse, Promised, Condition, read}
+use Rattle.readings.specs.Call.{Upload, Call}
+use Rattle.readings.specs.Output.{pieceKind, Room, Output}
+use Rattle.readings.specs.Shape as readings
+use Rattle.readings.specs.Shape.{read}
+use Rattle.readings.specs.Demand.{MayRefuse, Promised}
 use Rattle.output.specs.Held.{roomOf}
 use Rattle.deserializer.specs.declared.Shape.{Shape}
 
--- "is refused only for a broken sheet, the depth limit, no root, the root's name, an element where text is wanted, or no room": the number that was answered
-pub data MayAnswer : ℕ → Type 0 where
-  finished : MayAnswer 0
-  refused : {why : Refusal} → MayRefuse why → MayAnswer (number why)
-
--- "Each piece it hands out .. is exactly its element's bytes .. and that element's rows .. pass the drain again": the entry whose numbers stand at i, if it is of kind 2
-pub record PieceAt (body table entries : List ℕ) (i : ℕ) : Type 0 where
-  pub is : getD entries i 0 ≡ pieceKind → ElementPiece body table (getD entries (i + 4) 0) (getD entries (i + 5) 0)
+-- "Each piece it hands out .. is exactly its element's bytes .. and that element's rows .. pass the drain again": the entry whose numbers
+-- stand at i, if it is of kind 2
+pub record PieceAt (u : Upload) (entries : List ℕ) (i : ℕ) : Type 0 where
+  pub is : getD entries i 0 ≡ pieceKind → ElementPiece (u .body) (u .rows) (getD entries (i + 4) 0) (getD entries (i + 5) 0)
 
 -- each of the n entries in the buffer
-pub record PiecesIn (body table entries : List ℕ) (n : ℕ) : Type 0 where
-  pub each : (k : ℕ) → k < n → PieceAt body table entries (k * 6)
+pub record PiecesIn (u : Upload) (entries : List ℕ) (n : ℕ) : Type 0 where
+  pub each : (k : ℕ) → k < n → PieceAt u entries (k * 6)
 
 -- the reading of the definitions, at an order of the groups where it is a structure's
-abbrev pub shapeAt : Shape → List ℕ → promise.Shape
-shapeAt Shape.Struct order = promise.structure order
-shapeAt Shape.List order = promise.list
-shapeAt Shape.Map order = promise.map
-shapeAt Shape.StringList order = promise.strings
+abbrev pub shapeAt : Shape → List ℕ → readings.Shape
+shapeAt Shape.Struct order = readings.structure order
+shapeAt Shape.List order = readings.list
+shapeAt Shape.Map order = readings.map
+shapeAt Shape.StringList order = readings.strings
 
--- what is promised of a call that a passed body and table were lent to: its number, its pieces, and of the definition's reading, at any order of groups, the whole of demand 3
-pub record Kept (shape : Shape) (body table : List ℕ) (final : ℕ) (sheet : List ℕ) (settings : Settings) (depth : ShapeDepth) (e t e′ : List ℕ) (n r : ℕ) : Type 0 where
-  pub number : MayAnswer r
-  pub pieces : PiecesIn body table e′ n
-  pub promised : (order : List ℕ) → Promised (Condition (shapeAt shape order) body table final sheet settings depth (roomOf e t)) body table sheet
-      (read (shapeAt shape order) body table final sheet settings depth (roomOf e t))
+-- "is refused only for a broken sheet, the depth limit, no root, the root's name, an element where text is wanted, or no room": the number
+-- that was answered
+pub data MayAnswer (shape : readings.Shape) (u : Upload) (call : Call) (room : Room) : ℕ → Type 0 where
+  finished : MayAnswer shape u call room 0
+  refused : {why : Refusal} {out : Output} → MayRefuse u call room shape why out → MayAnswer shape u call room (number why)
 
-pub record Demanded (shape : Shape) (body table : List ℕ) (final : ℕ) (sheet : List ℕ) (settings : Settings) (depth : ShapeDepth) (e t e′ : List ℕ) (n r : ℕ) : Type 0 where
-  pub kept : drained body table final ≡ Drained.Passes → Kept shape body table final sheet settings depth e t e′ n r
+-- what is promised of a call that a passed body and table were lent to: its number, its pieces, and of the definition's reading, at any
+-- order of groups, the whole of demand 3 (readings/specs/Demand.antt)
+pub record Kept (shape : Shape) (u : Upload) (call : Call) (e t e′ : List ℕ) (n r : ℕ) : Type 0 where
+  pub order : List ℕ
+  pub number : MayAnswer (shapeAt shape order) u call (roomOf e t) r
+  pub pieces : PiecesIn u e′ n
+  pub promised : (order : List ℕ) → Promised u call (roomOf e t) (shapeAt shape order) (read (shapeAt shape order) u call (roomOf e t))
+
+pub record Demanded (shape : Shape) (u : Upload) (call : Call) (e t e′ : List ℕ) (n r : ℕ) : Type 0 where
+  pub kept : drained (u .body) (u .rows) (u .end) ≡ Drained.Passes → Kept shape u call e t e′ n r

@@ -2,6 +2,7 @@
 ghost use Rattle.codec.specs.Settings.{settingsOf};
 ghost use Rattle.deserializer.specs.Call.{EnteredRead, SetBy, Tells, EnteredCall, ToldCall, SheetCall, settingsBy, shapeDepth, shapeOf};
 ghost use Rattle.deserializer.specs.Demand.{Demanded};
+ghost use Rattle.readings.specs.Call.{uploaded, calling};
 use codec::guard::Guard;
 use codec::settings::Settings;
 use opening::Opening;
@@ -29,7 +30,8 @@ fn read_struct(
     entries: &mut [u32],
     texts: &mut [u8],
 ) -> Step
-    ensures { λ r. ⌜ EnteredRead Shape.Struct (now (body .entry)) (now (rows .entry)) end (now (sheet .entry)) (settingsOf settings) depth entered
+    ensures { λ r. ⌜ EnteredRead Shape.Struct (uploaded (now (body .entry)) (now (rows .entry)) end)
+        (calling (now (sheet .entry)) (settingsOf settings) depth) entered
         (now (entries .entry)) (now (texts .entry)) (now (entries .exit)) (now (texts .exit)) r ⌝ }
 {
     let parsed = codec::structure::parse_structure(sheet);
@@ -66,7 +68,8 @@ fn read_list(
     entries: &mut [u32],
     texts: &mut [u8],
 ) -> Step
-    ensures { λ r. ⌜ EnteredRead Shape.List (now (body .entry)) (now (rows .entry)) end (now (sheet .entry)) (settingsOf settings) depth entered
+    ensures { λ r. ⌜ EnteredRead Shape.List (uploaded (now (body .entry)) (now (rows .entry)) end)
+        (calling (now (sheet .entry)) (settingsOf settings) depth) entered
         (now (entries .entry)) (now (texts .entry)) (now (entries .exit)) (now (texts .exit)) r ⌝ }
 {
     let said = codec::collection::parse_list(sheet);
@@ -99,7 +102,8 @@ fn read_string_list(
     entries: &mut [u32],
     texts: &mut [u8],
 ) -> Step
-    ensures { λ r. ⌜ EnteredRead Shape.StringList (now (body .entry)) (now (rows .entry)) end (now (sheet .entry)) (settingsOf settings) depth entered
+    ensures { λ r. ⌜ EnteredRead Shape.StringList (uploaded (now (body .entry)) (now (rows .entry)) end)
+        (calling (now (sheet .entry)) (settingsOf settings) depth) entered
         (now (entries .entry)) (now (texts .entry)) (now (entries .exit)) (now (texts .exit)) r ⌝ }
 {
     let said = codec::collection::parse_list(sheet);
@@ -133,7 +137,8 @@ fn read_map(
     entries: &mut [u32],
     texts: &mut [u8],
 ) -> Step
-    ensures { λ r. ⌜ EnteredRead Shape.Map (now (body .entry)) (now (rows .entry)) end (now (sheet .entry)) (settingsOf settings) depth entered
+    ensures { λ r. ⌜ EnteredRead Shape.Map (uploaded (now (body .entry)) (now (rows .entry)) end)
+        (calling (now (sheet .entry)) (settingsOf settings) depth) entered
         (now (entries .entry)) (now (texts .entry)) (now (entries .exit)) (now (texts .exit)) r ⌝ }
 {
     let said = codec::collection::parse_map(sheet);
@@ -203,7 +208,8 @@ fn read_entered(
     texts: &mut [u8],
     told: &mut [usize],
 ) -> u32
-    ensures { λ r. ⌜ EnteredCall (shapeOf kind) (now (body .entry)) (now (rows .entry)) end (now (sheet .entry)) (settingsBy flags «max_depth») (shapeDepth depth) entered
+    ensures { λ r. ⌜ EnteredCall (shapeOf kind) (uploaded (now (body .entry)) (now (rows .entry)) end)
+        (calling (now (sheet .entry)) (settingsBy flags «max_depth») (shapeDepth depth)) entered
         (now (entries .entry)) (now (texts .entry)) (now (entries .exit)) (now (texts .exit)) (now (told .entry)) (now (told .exit)) r ⌝ }
 {
     let settings = settings_by(flags, max_depth);
@@ -278,7 +284,8 @@ pub fn read_sheet(
     texts: &mut [u8],
     told: &mut [usize],
 ) -> u32
-    ensures { λ r. ⌜ ToldCall (shapeOf kind) (now (body .entry)) (now (rows .entry)) end (now (sheet .entry)) (settingsBy flags «max_depth») (shapeDepth depth)
+    ensures { λ r. ⌜ ToldCall (shapeOf kind) (uploaded (now (body .entry)) (now (rows .entry)) end)
+        (calling (now (sheet .entry)) (settingsBy flags «max_depth») (shapeDepth depth))
         (now (entries .entry)) (now (texts .entry)) (now (entries .exit)) (now (texts .exit)) (now (told .entry)) (now (told .exit)) r ⌝ }
 {
     let mut guard = Guard {
@@ -321,9 +328,11 @@ pub fn read(
     count: &mut usize,
     length: &mut usize,
 ) -> u32
-    ensures { λ r. ⌜ SheetCall (shapeOf kind) (now (body .entry)) (now (rows .entry)) end (now (sheet .entry)) (settingsBy flags «max_depth») (shapeDepth depth)
+    ensures { λ r. ⌜ SheetCall (shapeOf kind) (uploaded (now (body .entry)) (now (rows .entry)) end)
+        (calling (now (sheet .entry)) (settingsBy flags «max_depth») (shapeDepth depth))
         (now (entries .entry)) (now (texts .entry)) (now (entries .exit)) (now (texts .exit)) (now (count .exit)) (now (length .exit)) r ⌝ }
-    ensures demand { λ r. ⌜ Demanded (shapeOf kind) (now (body .entry)) (now (rows .entry)) end (now (sheet .entry)) (settingsBy flags «max_depth») (shapeDepth depth)
+    ensures demand { λ r. ⌜ Demanded (shapeOf kind) (uploaded (now (body .entry)) (now (rows .entry)) end)
+        (calling (now (sheet .entry)) (settingsBy flags «max_depth») (shapeDepth depth))
         (now (entries .entry)) (now (texts .entry)) (now (entries .exit)) (now (count .exit)) r ⌝ }
 {
     let mut told = [0usize; 2];

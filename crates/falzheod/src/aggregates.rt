@@ -4,6 +4,7 @@
 ghost use Rattle.deserializer.specs.Call.{SheetCall, settingsBy, shapeDepth};
 ghost use Rattle.deserializer.specs.Demand.{Demanded};
 ghost use Rattle.deserializer.specs.declared.Shape.{Shape};
+ghost use Rattle.readings.specs.Call.{uploaded, calling};
 
 // The structure reading: 0, 1, 2, 3, 4, 5, 9 or 10.
 #[no_mangle]
@@ -20,9 +21,11 @@ pub extern "C" fn falzheod_read_struct(
     count: &mut usize,
     length: &mut usize,
 ) -> u32
-    ensures { λ r. ⌜ SheetCall Shape.Struct (now (body .entry)) (now (rows .entry)) end (now (sheet .entry)) (settingsBy flags «max_depth») (shapeDepth depth)
+    ensures { λ r. ⌜ SheetCall Shape.Struct (uploaded (now (body .entry)) (now (rows .entry)) end)
+        (calling (now (sheet .entry)) (settingsBy flags «max_depth») (shapeDepth depth))
         (now (entries .entry)) (now (texts .entry)) (now (entries .exit)) (now (texts .exit)) (now (count .exit)) (now (length .exit)) r ⌝ }
-    ensures demand { λ r. ⌜ Demanded Shape.Struct (now (body .entry)) (now (rows .entry)) end (now (sheet .entry)) (settingsBy flags «max_depth») (shapeDepth depth)
+    ensures demand { λ r. ⌜ Demanded Shape.Struct (uploaded (now (body .entry)) (now (rows .entry)) end)
+        (calling (now (sheet .entry)) (settingsBy flags «max_depth») (shapeDepth depth))
         (now (entries .entry)) (now (texts .entry)) (now (entries .exit)) (now (count .exit)) r ⌝ }
 {
     deserializer::read(
@@ -56,9 +59,11 @@ pub extern "C" fn falzheod_read_list(
     count: &mut usize,
     length: &mut usize,
 ) -> u32
-    ensures { λ r. ⌜ SheetCall Shape.List (now (body .entry)) (now (rows .entry)) end (now (sheet .entry)) (settingsBy flags «max_depth») (shapeDepth depth)
+    ensures { λ r. ⌜ SheetCall Shape.List (uploaded (now (body .entry)) (now (rows .entry)) end)
+        (calling (now (sheet .entry)) (settingsBy flags «max_depth») (shapeDepth depth))
         (now (entries .entry)) (now (texts .entry)) (now (entries .exit)) (now (texts .exit)) (now (count .exit)) (now (length .exit)) r ⌝ }
-    ensures demand { λ r. ⌜ Demanded Shape.List (now (body .entry)) (now (rows .entry)) end (now (sheet .entry)) (settingsBy flags «max_depth») (shapeDepth depth)
+    ensures demand { λ r. ⌜ Demanded Shape.List (uploaded (now (body .entry)) (now (rows .entry)) end)
+        (calling (now (sheet .entry)) (settingsBy flags «max_depth») (shapeDepth depth))
         (now (entries .entry)) (now (texts .entry)) (now (entries .exit)) (now (count .exit)) r ⌝ }
 {
     deserializer::read(
@@ -92,9 +97,11 @@ pub extern "C" fn falzheod_read_map(
     count: &mut usize,
     length: &mut usize,
 ) -> u32
-    ensures { λ r. ⌜ SheetCall Shape.Map (now (body .entry)) (now (rows .entry)) end (now (sheet .entry)) (settingsBy flags «max_depth») (shapeDepth depth)
+    ensures { λ r. ⌜ SheetCall Shape.Map (uploaded (now (body .entry)) (now (rows .entry)) end)
+        (calling (now (sheet .entry)) (settingsBy flags «max_depth») (shapeDepth depth))
         (now (entries .entry)) (now (texts .entry)) (now (entries .exit)) (now (texts .exit)) (now (count .exit)) (now (length .exit)) r ⌝ }
-    ensures demand { λ r. ⌜ Demanded Shape.Map (now (body .entry)) (now (rows .entry)) end (now (sheet .entry)) (settingsBy flags «max_depth») (shapeDepth depth)
+    ensures demand { λ r. ⌜ Demanded Shape.Map (uploaded (now (body .entry)) (now (rows .entry)) end)
+        (calling (now (sheet .entry)) (settingsBy flags «max_depth») (shapeDepth depth))
         (now (entries .entry)) (now (texts .entry)) (now (entries .exit)) (now (count .exit)) r ⌝ }
 {
     deserializer::read(
@@ -128,9 +135,11 @@ pub extern "C" fn falzheod_read_string_list(
     count: &mut usize,
     length: &mut usize,
 ) -> u32
-    ensures { λ r. ⌜ SheetCall Shape.StringList (now (body .entry)) (now (rows .entry)) end (now (sheet .entry)) (settingsBy flags «max_depth») (shapeDepth depth)
+    ensures { λ r. ⌜ SheetCall Shape.StringList (uploaded (now (body .entry)) (now (rows .entry)) end)
+        (calling (now (sheet .entry)) (settingsBy flags «max_depth») (shapeDepth depth))
         (now (entries .entry)) (now (texts .entry)) (now (entries .exit)) (now (texts .exit)) (now (count .exit)) (now (length .exit)) r ⌝ }
-    ensures demand { λ r. ⌜ Demanded Shape.StringList (now (body .entry)) (now (rows .entry)) end (now (sheet .entry)) (settingsBy flags «max_depth») (shapeDepth depth)
+    ensures demand { λ r. ⌜ Demanded Shape.StringList (uploaded (now (body .entry)) (now (rows .entry)) end)
+        (calling (now (sheet .entry)) (settingsBy flags «max_depth») (shapeDepth depth))
         (now (entries .entry)) (now (texts .entry)) (now (entries .exit)) (now (count .exit)) r ⌝ }
 {
     deserializer::read(

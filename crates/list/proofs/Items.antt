@@ -2,7 +2,7 @@
 use Prim.Native.Nat.{ℕ}
 use mathlib.Core.Path.{_≡_, refl, sym, ap}
 use mathlib.Core.Bool.{Bool, true, false}
-use mathlib.Core.List.{List}
+use mathlib.Core.List.{List, []}
 use mathlib.Core.Option.{Option}
 use native.Mathlib.Omega.{arith}
 use borrow.Author.Needs.{needs}
@@ -18,8 +18,9 @@ use Rattle.codec.specs.declared.settings.Settings.{Settings}
 use Rattle.codec.specs.declared.collection.ListSheet.{ListSheet}
 use Rattle.codec.specs.Settings.{settingsOf}
 use Rattle.codec.specs.Collection.{listSaid, ListSaid, ListRead, ItemNamed, ItemsNamed}
-use Rattle.readings.specs.Output.{Room, nothing, finished, each, writePiece}
-use Rattle.readings.specs.Collection.{isWanted, readItem, readItems, listReading}
+use Rattle.readings.specs.Output.{pieceEntry}
+use Rattle.readings.specs.Plan.{end, one}
+use Rattle.readings.specs.Collection.{isWanted, itemPlan, itemsPlan, listPlan}
 use Rattle.decode.specs.declared.reader.Cursor.{Cursor}
 use Rattle.decode.specs.declared.reader.StartRow.{StartRow}
 use Rattle.decode.specs.declared.view.View.{View}
@@ -31,7 +32,7 @@ use Rattle.decode.specs.Piece.{PieceIs}
 use Rattle.decode.proofs.Places.{start-scope}
 use Rattle.output.specs.declared.Written.{Written}
 use Rattle.output.specs.declared.Step.{Step}
-use Rattle.output.specs.Steps.{piece, eachOf, tested}
+use Rattle.output.specs.Plans.{piece}
 use Rattle.output.specs.Held.{Enters}
 use Rattle.output.proofs.Sound.{piece-adds}
 use Rattle.opening.specs.declared.Opening.{Opening}
@@ -40,31 +41,29 @@ use Rattle.opening.specs.Wanted.{nameIf, wanted}
 use Rattle.opening.specs.Level.{ChildEnters, ElementEnters, collected, lastOf}
 use Rattle.opening.proofs.Asked.{asked-found, root-viewed, root-start, root-stands}
 use Rattle.opening.proofs.Children.{child-not, child-is, element-tested}
-use Rattle.list.specs.List.{itemOf, WholeIs}
+use Rattle.list.specs.List.{WholeIs}
 
 -- ---- an item
 module _ (body t : List ℕ) (v : View) (nm : Option (List ℕ)) (s : StartRow) (c : Cursor) {u : Bool}
     (e : u ≡ wanted nm (nameAt body t (s .row))) where
-  pub item-not : (en : List ℕ) (w : Written) → u ≡ false → ChildEnters body t v (itemOf body (viewAt t v) nm) s c en w en (Step.Done w)
-  unfolding itemOf readItem
+  pub item-not : (en : List ℕ) (w : Written) → u ≡ false → ChildEnters body t v (itemPlan body (viewAt t v) nm) s c en w en (Step.Done w)
+  unfolding itemPlan
   item-not en w q =
       record {
         is = λ tx.
-            child-not body t v nm (itemOf body (viewAt t v) nm)
-            (λ room. writePiece room 0 (pieceOf body (viewAt t v) (childAt body t (v .count) s c)))
-            0 s c e (λ room out. refl) en tx w q;
+            child-not body t v nm (itemPlan body (viewAt t v) nm)
+            (one (pieceEntry 0 (pieceOf body (viewAt t v) (childAt body t (v .count) s c))) [])
+            0 s c e refl en tx w q;
       }
 
   pub item-piece : {p : Piece} {en en′ : List ℕ} {w : Written} {r : Step} → u ≡ true → PieceIs body t v s c p
-      → Enters (piece 0 (p .start) (p .len)) en w en′ r → ChildEnters body t v (itemOf body (viewAt t v) nm) s c en w en′ r
-  unfolding itemOf readItem piece
+      → Enters (piece 0 (p .start) (p .len)) en w en′ r → ChildEnters body t v (itemPlan body (viewAt t v) nm) s c en w en′ r
+  unfolding itemPlan piece
   item-piece {p} q x d =
       record {
         is = λ tx.
-            child-is body t v nm (itemOf body (viewAt t v) nm) (piece 0 (p .start) (p .len)) 0 s c e
-            (λ room out.
-            ap (λ (z : doc.Piece). pick (isWanted nm (childAt body t (v .count) s c)) (writePiece room 0 z out) (finished out))
-            (sym (x .is)))
+            child-is body t v nm (itemPlan body (viewAt t v) nm) (piece 0 (p .start) (p .len)) 0 s c e
+            (ap (λ (z : doc.Piece). pick (isWanted nm (childAt body t (v .count) s c)) (one (pieceEntry 0 z) []) end) (sym (x .is)))
             q (piece-adds 0 (p .start) (p .len)) (d .is tx);
       }
 
@@ -85,21 +84,10 @@ named-is {sheet} {name = name} s a b = a .is (listSaid sheet) name (s .stands .f
 pub list-tested : {sheet : List ℕ} {said : ListSheet} {settings : Settings} {named : Bool} {name body t : List ℕ} {v : View}
     {s : StartRow} {c : Cursor}
     {en en′ : List ℕ} {got r : Step} → ListSaid sheet said → ItemsNamed settings said named → ItemNamed sheet said name
-    → ElementEnters body t v (itemOf body (viewAt t v) (nameIf named name)) dropping s c en en′ got → r ≡ lastOf (v .«ill_formed») got
+    → ElementEnters body t v (itemPlan body (viewAt t v) (nameIf named name)) dropping s c en en′ got → r ≡ lastOf (v .«ill_formed») got
     → WholeIs body t v (itemName (settingsOf settings) (listSaid sheet)) s c en en′ r
 unfolding childrenOf
 list-tested {v = v} d a b l q =
     rw (named-is d a b) (record { enters = record { is = λ tx. element-tested (v .«ill_formed») (l .is tx) q } })
 
 pub ruleset whole-laws = (needs, root-viewed, root-start, root-stands, list-tested)
-
--- ---- the list reading, where a root was found
-pub list-found : {body t : List ℕ} {final : ℕ} {deep strict : Bool} {r : Opening} (settings : Settings) (depth : ShapeDepth)
-    {sheet : List ℕ}
-    {said : ListSheet} → ListRead sheet said → AskedIs body t final (said .ok) deep strict r → deep ≡ tooDeep (settingsOf settings) depth
-    → strict ≡ isStrict (settingsOf settings) depth → {v : View} {s : StartRow} {c : Cursor} → r ≡ Opening.Found v s c → (room : Room)
-    → listReading body t final sheet (settingsOf settings) depth room
-    ≡ collected (itemOf body (viewAt t v) (itemName (settingsOf settings) (listSaid sheet))) (childrenOf (childAt body t (v .count) s c))
-    (v .«ill_formed») room nothing
-unfolding listReading readItems collected eachOf each tested itemOf
-list-found settings depth p a d i q room = rw (asked-found a (settingsOf settings) depth d i (λ o. p .there o .said) q)

@@ -22,8 +22,8 @@ use Rattle.codec.specs.declared.settings.Settings.{Settings}
 use Rattle.codec.specs.declared.collection.ListSheet.{ListSheet}
 use Rattle.codec.specs.Settings.{settingsOf}
 use Rattle.codec.specs.Collection.{listSaid, ListSaid, ListRead, ItemNamed, ItemsNamed}
-use Rattle.readings.specs.Output.{Room, Output, nothing, Reading, finished, each}
-use Rattle.readings.specs.Collection.{isWanted, writeAnswer, readString, readStrings, stringListReading}
+use Rattle.readings.specs.Plan.{Plan, end, perform}
+use Rattle.readings.specs.Collection.{isWanted, textPlan, stringPlan, stringsPlan, stringListPlan}
 use Rattle.decode.specs.declared.reader.ScopeRow.{ScopeRow}
 use Rattle.decode.specs.declared.reader.Cursor.{Cursor}
 use Rattle.decode.specs.declared.reader.StartRow.{StartRow}
@@ -38,7 +38,7 @@ use Rattle.decode.proofs.Places.{start-scope}
 use Rattle.decode.proofs.Texts.{row-in}
 use Rattle.output.specs.declared.Written.{Written}
 use Rattle.output.specs.declared.Step.{Step}
-use Rattle.output.specs.Steps.{writeOr, text, eachOf, tested}
+use Rattle.output.specs.Plans.{textOr, text}
 use Rattle.output.specs.Held.{Does, Ready, Adds}
 use Rattle.output.proofs.Room.{stays}
 use Rattle.output.proofs.Then.{does-as}
@@ -49,7 +49,7 @@ use Rattle.opening.specs.Wanted.{nameIf, wanted}
 use Rattle.opening.specs.Level.{ChildDoes, ElementDoes, collected, lastOf}
 use Rattle.opening.proofs.Asked.{asked-found, root-viewed, root-start, root-stands}
 use Rattle.opening.proofs.Children.{child-not, child-is, ChildrenAt, dropping-laws, element-tested}
-use Rattle.list.specs.StringList.{answered, stringOf, TextPlace, PutIs, StringsWholeIs}
+use Rattle.list.specs.StringList.{TextPlace, PutIs, StringsWholeIs}
 use Rattle.list.proofs.Items.{named-is}
 
 -- ---- a first text
@@ -63,16 +63,16 @@ module _ {body t : List ℕ} {w : Written} (q : TextPlace body t w) where
   pub empty-ready : Ready w (length {A = ℕ} [])
   empty-ready = record { small = omega (arith, q .small) }
 
-as-text : (a : Answer (List ℕ)) (room : Room) (out : Output) → writeAnswer room a out ≡ writeOr room 0 a out
-as-text (gives l) room out = refl
-as-text (refuses r) room out = refl
+as-text : (a : Answer (List ℕ)) → textPlan a ≡ textOr 0 a
+as-text (gives l) = refl
+as-text (refuses r) = refl
 
-answered-text : (x : List ℕ) (room : Room) (out : Output) → answered (unescapedText (unescaped x)) room out ≡ text 0 x room out
-unfolding answered text
-answered-text x room out = as-text (unescapedText (unescaped x)) room out
+answered-text : (x : List ℕ) → textPlan (unescapedText (unescaped x)) ≡ text 0 x
+unfolding text
+answered-text x = as-text (unescapedText (unescaped x))
 
-answered-adds : (x : List ℕ) → length x ≤ 65536 → Adds (answered (unescapedText (unescaped x))) 65536
-answered-adds x h = record { most = λ room out. rw (answered-text x room out) (omega (arith, text-adds 0 x .most room out)) }
+answered-adds : (x : List ℕ) → length x ≤ 65536 → Adds (textPlan (unescapedText (unescaped x))) 65536
+answered-adds x h = rw (answered-text x) (record { most = λ room out. omega (arith, text-adds 0 x .most room out) })
 
 module _ (body t : List ℕ) (txt : Text) {en tx en′ tx′ : List ℕ} {w : Written} {r : Step} (q : TextPlace body t w) where
   pub put-row : {k : ℕ} {x : List ℕ} → txt ≡ Text.Row k → x ≡ valueAt body t k → Does (text 0 x) en tx w en′ tx′ r
@@ -88,7 +88,7 @@ put-empty body t txt e d = rw e (record { does = does-as (answered-text []) d; a
 
 pub put-refused : (body t : List ℕ) (txt : Text) (en tx : List ℕ) (w : Written) {why : Refusal} → txt ≡ Text.Refused why
     → PutIs body t txt en tx w en tx (Step.Refused why w)
-unfolding answered
+unfolding perform
 put-refused body t txt en tx w e = rw e (record { does = record { is = λ h. stays h }; adds = record { most = λ room out. omega arith } })
 
 pub ruleset put-laws = (needs, value-span, row-ready, empty-ready, row-in, put-row, put-empty, put-refused)
@@ -97,28 +97,26 @@ pub ruleset put-laws = (needs, value-span, row-ready, empty-ready, row-in, put-r
 module _ (body t : List ℕ) (v : View) (nm : Option (List ℕ)) (s : StartRow) (c : Cursor) {u : Bool}
     (e : u ≡ wanted nm (nameAt body t (s .row))) where
   pub string-not : (en tx : List ℕ) (w : Written) → u ≡ false
-      → ChildDoes body t v (stringOf (viewAt t v) nm) 65536 s c en tx w en tx (Step.Done w)
-  unfolding stringOf readString answered
+      → ChildDoes body t v (stringPlan (viewAt t v) nm) 65536 s c en tx w en tx (Step.Done w)
+  unfolding stringPlan
   string-not en tx w q =
-      child-not body t v nm (stringOf (viewAt t v) nm)
-      (answered (textOf (failureAt (v .failure)) (childAt body t (v .count) s c))) 65536 s c e
-      (λ room out. refl) en tx w q
+      child-not body t v nm (stringPlan (viewAt t v) nm)
+      (textPlan (textOf (failureAt (v .failure)) (childAt body t (v .count) s c))) 65536 s c e
+      refl en tx w q
 
   pub string-text : {txt : Text} {en tx en′ tx′ : List ℕ} {w : Written} {r : Step} → u ≡ true
       → TextIs body t txt (textOf (failureAt (v .failure)) (childAt body t (v .count) s c)) → PutIs body t txt en tx w en′ tx′ r
-      → ChildDoes body t v (stringOf (viewAt t v) nm) 65536 s c en tx w en′ tx′ r
-  unfolding stringOf readString answered
+      → ChildDoes body t v (stringPlan (viewAt t v) nm) 65536 s c en tx w en′ tx′ r
+  unfolding stringPlan
   string-text {txt} q x d =
-      child-is body t v nm (stringOf (viewAt t v) nm) (answered (textAt body t txt)) 65536 s c e
-      (λ room out.
-      ap (λ (a : Answer (List ℕ)). pick (isWanted nm (childAt body t (v .count) s c)) (writeAnswer room a out) (finished out))
-      (sym (x .same)))
+      child-is body t v nm (stringPlan (viewAt t v) nm) (textPlan (textAt body t txt)) 65536 s c e
+      (ap (λ (a : Answer (List ℕ)). pick (isWanted nm (childAt body t (v .count) s c)) (textPlan a) end) (sym (x .same)))
       q (d .adds) (d .does)
 
 pub ruleset string-laws = (needs, start-scope, string-not, string-text)
 
 -- ---- the loop
-pub strings-place : {body t : List ℕ} {v : View} {f : Child → Room → Output → Reading} {past : Child → Reader} {s : ScopeRow} {c₀ : Cursor}
+pub strings-place : {body t : List ℕ} {v : View} {f : Child → Plan} {past : Child → Reader} {s : ScopeRow} {c₀ : Cursor}
     {en tx en′ tx′ : List ℕ} {w : Written} {c : Cursor} → ChildrenAt body t v f 65536 past s c₀ en tx en′ tx′ w c → TextPlace body t w
 strings-place a =
     let q = a .viewed in
@@ -130,20 +128,9 @@ pub ruleset strings-laws = (dropping-laws, strings-place)
 pub strings-tested : {sheet : List ℕ} {said : ListSheet} {settings : Settings} {named : Bool} {name body t : List ℕ} {v : View}
     {s : StartRow}
     {c : Cursor} {en tx en′ tx′ : List ℕ} {got r : Step} → ListSaid sheet said → ItemsNamed settings said named → ItemNamed sheet said name
-    → ElementDoes body t v (stringOf (viewAt t v) (nameIf named name)) dropping s c en tx en′ tx′ got → r ≡ lastOf (v .«ill_formed») got
+    → ElementDoes body t v (stringPlan (viewAt t v) (nameIf named name)) dropping s c en tx en′ tx′ got → r ≡ lastOf (v .«ill_formed») got
     → StringsWholeIs body t v (itemName (settingsOf settings) (listSaid sheet)) s c en tx en′ tx′ r
 unfolding childrenOf
 strings-tested {v = v} d a b l q = rw (named-is d a b) (record { does = element-tested (v .«ill_formed») l q })
 
 pub ruleset strings-whole-laws = (needs, root-viewed, root-start, root-stands, strings-tested)
-
--- ---- the string list reading, where a root was found
-pub strings-found : {body t : List ℕ} {final : ℕ} {deep strict : Bool} {r : Opening} (settings : Settings) (depth : ShapeDepth)
-    {sheet : List ℕ}
-    {said : ListSheet} → ListRead sheet said → AskedIs body t final (said .ok) deep strict r → deep ≡ tooDeep (settingsOf settings) depth
-    → strict ≡ isStrict (settingsOf settings) depth → {v : View} {s : StartRow} {c : Cursor} → r ≡ Opening.Found v s c → (room : Room)
-    → stringListReading body t final sheet (settingsOf settings) depth room
-    ≡ collected (stringOf (viewAt t v) (itemName (settingsOf settings) (listSaid sheet))) (childrenOf (childAt body t (v .count) s c))
-    (v .«ill_formed») room nothing
-unfolding stringListReading readStrings collected eachOf each tested stringOf
-strings-found settings depth p a d i q room = rw (asked-found a (settingsOf settings) depth d i (λ o. p .there o .said) q)

@@ -2,10 +2,8 @@
 use Prim.Native.Nat.{ℕ}
 use mathlib.Core.List.{List}
 use mathlib.Core.Option.{Option}
-use Rattle.document.specs.Scope.{Child, childrenOf}
-use Rattle.document.specs.View as doc
-use Rattle.readings.specs.Output.{Room, Output, Reading}
-use Rattle.readings.specs.Collection.{readItem}
+use Rattle.document.specs.Scope.{childrenOf}
+use Rattle.readings.specs.Collection.{itemPlan}
 use Rattle.decode.specs.declared.reader.Cursor.{Cursor}
 use Rattle.decode.specs.declared.reader.StartRow.{StartRow}
 use Rattle.decode.specs.declared.view.View.{View}
@@ -15,12 +13,8 @@ use Rattle.output.specs.declared.Step.{Step}
 use Rattle.output.specs.Held.{Enters}
 use Rattle.opening.specs.Level.{none-written, collected}
 
--- a child of the root, with the room last
-unfoldable pub itemOf : List ℕ → doc.View → Option (List ℕ) → Child → Room → Output → Reading
-itemOf body v nm c room = readItem body v nm room c
-
 -- the items of the root one after another, and "9 last"
 pub record WholeIs (body t : List ℕ) (v : View) (nm : Option (List ℕ)) (s : StartRow) (c : Cursor) (en en′ : List ℕ)
     (r : Step) : Type 0 where
-  pub enters : Enters (collected (itemOf body (viewAt t v) nm) (childrenOf (childAt body t (v .count) s c)) (v .«ill_formed»))
+  pub enters : Enters (collected (itemPlan body (viewAt t v) nm) (childrenOf (childAt body t (v .count) s c)) (v .«ill_formed»))
       en none-written en′ r

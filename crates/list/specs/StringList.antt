@@ -3,11 +3,8 @@ use Prim.Native.Nat.{ℕ, _+_, _^_, _≤_, _<_}
 use mathlib.Core.List.{List}
 use mathlib.Core.Option.{Option}
 use lib.ListN.{length}
-use Rattle.refusal.specs.Answer.{Answer}
-use Rattle.document.specs.Scope.{Child, childrenOf}
-use Rattle.document.specs.View as doc
-use Rattle.readings.specs.Output.{Room, Output, Reading}
-use Rattle.readings.specs.Collection.{writeAnswer, readString}
+use Rattle.document.specs.Scope.{childrenOf}
+use Rattle.readings.specs.Collection.{textPlan, stringPlan}
 use Rattle.decode.specs.declared.reader.Cursor.{Cursor}
 use Rattle.decode.specs.declared.reader.StartRow.{StartRow}
 use Rattle.decode.specs.declared.view.View.{View}
@@ -21,13 +18,6 @@ use Rattle.output.specs.declared.Step.{Step}
 use Rattle.output.specs.Held.{Does, Adds}
 use Rattle.opening.specs.Level.{none-written, collected}
 
--- what a text comes to, written; and a child of the root; with the room last
-unfoldable pub answered : Answer (List ℕ) → Room → Output → Reading
-answered a room out = writeAnswer room a out
-
-unfoldable pub stringOf : doc.View → Option (List ℕ) → Child → Room → Output → Reading
-stringOf v nm c room = readString v nm room c
-
 -- rows that can be read, and a place at which a text of the body can be written: it stays a 32-bit number
 pub record TextPlace (body t : List ℕ) (w : Written) : Type 0 where
   pub readable : Readable body t
@@ -36,11 +26,11 @@ pub record TextPlace (body t : List ℕ) (w : Written) : Type 0 where
 
 -- a first text is written, which adds no more text bytes than a body has
 pub record PutIs (body t : List ℕ) (txt : Text) (en tx : List ℕ) (w : Written) (en′ tx′ : List ℕ) (r : Step) : Type 0 where
-  pub does : Does (answered (textAt body t txt)) en tx w en′ tx′ r
-  pub adds : Adds (answered (textAt body t txt)) 65536
+  pub does : Does (textPlan (textAt body t txt)) en tx w en′ tx′ r
+  pub adds : Adds (textPlan (textAt body t txt)) 65536
 
 -- the strings of the root one after another, and "9 last"
 pub record StringsWholeIs (body t : List ℕ) (v : View) (nm : Option (List ℕ)) (s : StartRow) (c : Cursor) (en tx en′ tx′ : List ℕ)
     (r : Step) : Type 0 where
-  pub does : Does (collected (stringOf (viewAt t v) nm) (childrenOf (childAt body t (v .count) s c)) (v .«ill_formed»))
+  pub does : Does (collected (stringPlan (viewAt t v) nm) (childrenOf (childAt body t (v .count) s c)) (v .«ill_formed»))
       en tx none-written en′ tx′ r

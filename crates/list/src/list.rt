@@ -8,7 +8,8 @@ ghost use Rattle.decode.specs.View.{viewAt, Viewed};
 ghost use Rattle.opening.specs.Wanted.{nameIf};
 ghost use Rattle.opening.specs.Opening.{RootAt};
 ghost use Rattle.opening.specs.Level.{ChildEnters, ChildrenEnter, ElementEnters};
-ghost use Rattle.list.specs.List.{itemOf, WholeIs};
+ghost use Rattle.readings.specs.Collection.{itemPlan};
+ghost use Rattle.list.specs.List.{WholeIs};
 use codec::collection::ListSheet;
 use codec::settings::Settings;
 use decode::reader::Cursor;
@@ -37,7 +38,7 @@ fn read_item(
     requires { ⌜ StartIn (now body) (now rows) (view .count) start ⌝ }
     requires { ⌜ DroppedIs (now body) (now rows) (view .count) start at past ⌝ }
     ensures { λ r. ⌜ ChildEnters (now (body .entry)) (now (rows .entry)) view
-        (itemOf (now (body .entry)) (viewAt (now (rows .entry)) view) (nameIf named (now (name .entry)))) start at
+        (itemPlan (now (body .entry)) (viewAt (now (rows .entry)) view) (nameIf named (now (name .entry)))) start at
         (now (entries .entry)) w (now (entries .exit)) r ⌝ }
 {
     let row = start.row;
@@ -63,7 +64,7 @@ fn items_from(
     requires { ⌜ HasRow (now rows) scope ⌝ }
     requires { ⌜ Outside (now body) (now rows) (view .count) (at .depth .0) (at .row) ⌝ }
     ensures { λ r. ⌜ ChildrenEnter (now (body .entry)) (now (rows .entry)) view
-        (itemOf (now (body .entry)) (viewAt (now (rows .entry)) view) (nameIf named (now (name .entry)))) dropping scope at
+        (itemPlan (now (body .entry)) (viewAt (now (rows .entry)) view) (nameIf named (now (name .entry)))) dropping scope at
         (now (entries .entry)) (now (entries .exit)) r ⌝ }
 {
     let mut c = at;
@@ -115,7 +116,7 @@ fn read_items(
     requires { ⌜ StartIn (now body) (now rows) (view .count) root ⌝ }
     requires { ⌜ Outside (now body) (now rows) (view .count) (at .depth .0) (at .row) ⌝ }
     ensures { λ r. ⌜ ElementEnters (now (body .entry)) (now (rows .entry)) view
-        (itemOf (now (body .entry)) (viewAt (now (rows .entry)) view) (nameIf named (now (name .entry)))) dropping root at
+        (itemPlan (now (body .entry)) (viewAt (now (rows .entry)) view) (nameIf named (now (name .entry)))) dropping root at
         (now (entries .entry)) (now (entries .exit)) r ⌝ }
 {
     if root.closed {

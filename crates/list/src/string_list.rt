@@ -9,7 +9,8 @@ ghost use Rattle.decode.specs.Text.{TextIn};
 ghost use Rattle.opening.specs.Wanted.{nameIf};
 ghost use Rattle.opening.specs.Opening.{RootAt};
 ghost use Rattle.opening.specs.Level.{ChildDoes, ChildrenDo, ElementDoes};
-ghost use Rattle.list.specs.StringList.{TextPlace, PutIs, stringOf, StringsWholeIs};
+ghost use Rattle.readings.specs.Collection.{stringPlan};
+ghost use Rattle.list.specs.StringList.{TextPlace, PutIs, StringsWholeIs};
 use codec::collection::ListSheet;
 use codec::settings::Settings;
 use decode::name::span;
@@ -60,7 +61,7 @@ fn read_string(
     requires { ⌜ StartIn (now body) (now rows) (view .count) start ⌝ }
     requires { ⌜ TextPlace (now body) (now rows) w ⌝ }
     ensures { λ r. ⌜ ChildDoes (now (body .entry)) (now (rows .entry)) view
-        (stringOf (viewAt (now (rows .entry)) view) (nameIf named (now (name .entry)))) 65536 start at (now (entries .entry))
+        (stringPlan (viewAt (now (rows .entry)) view) (nameIf named (now (name .entry)))) 65536 start at (now (entries .entry))
         (now (texts .entry)) w (now (entries .exit)) (now (texts .exit)) r ⌝ }
 {
     let row = start.row;
@@ -88,7 +89,7 @@ fn strings_from(
     requires { ⌜ HasRow (now rows) scope ⌝ }
     requires { ⌜ Outside (now body) (now rows) (view .count) (at .depth .0) (at .row) ⌝ }
     ensures { λ r. ⌜ ChildrenDo (now (body .entry)) (now (rows .entry)) view
-        (stringOf (viewAt (now (rows .entry)) view) (nameIf named (now (name .entry)))) dropping scope at (now (entries .entry))
+        (stringPlan (viewAt (now (rows .entry)) view) (nameIf named (now (name .entry)))) dropping scope at (now (entries .entry))
         (now (texts .entry)) (now (entries .exit)) (now (texts .exit)) r ⌝ }
 {
     let mut c = at;
@@ -141,7 +142,7 @@ fn read_strings(
     requires { ⌜ StartIn (now body) (now rows) (view .count) root ⌝ }
     requires { ⌜ Outside (now body) (now rows) (view .count) (at .depth .0) (at .row) ⌝ }
     ensures { λ r. ⌜ ElementDoes (now (body .entry)) (now (rows .entry)) view
-        (stringOf (viewAt (now (rows .entry)) view) (nameIf named (now (name .entry)))) dropping root at (now (entries .entry))
+        (stringPlan (viewAt (now (rows .entry)) view) (nameIf named (now (name .entry)))) dropping root at (now (entries .entry))
         (now (texts .entry)) (now (entries .exit)) (now (texts .exit)) r ⌝ }
 {
     if root.closed {

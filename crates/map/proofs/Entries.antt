@@ -13,9 +13,10 @@ use Rattle.sheet.specs.declared.ShapeDepth.{ShapeDepth}
 use Rattle.sheet.specs.Settings.{isStrict, tooDeep}
 use Rattle.sheet.specs.Sheet.{MapSheet}
 use Rattle.sheet.specs.Names.{entryName}
-use Rattle.readings.specs.Output.{Room, Output, nothing, Reading, each}
-use Rattle.readings.specs.Collection.{afterEntry, entriesOf, readEntries, mapReading}
-use Rattle.readings.specs.Laws.Fuel.{after-entry-shortens}
+use Rattle.readings.specs.Call.{uploaded, calling}
+use Rattle.readings.specs.Plan.{Plan, perform}
+use Rattle.readings.specs.Collection.{entryPlan, afterEntry, entriesOf, entriesPlan, mapPlan}
+use Rattle.readings.proofs.Laws.Fuel.{after-entry-shortens}
 use Rattle.codec.specs.declared.collection.MapSheet as codec
 use Rattle.codec.specs.declared.settings.Settings.{Settings}
 use Rattle.codec.specs.Settings.{settingsOf}
@@ -30,7 +31,6 @@ use Rattle.decode.specs.View.{viewAt, Viewed}
 use Rattle.output.specs.declared.Written.{Written}
 use Rattle.output.specs.declared.Step.{Step}
 use Rattle.output.specs.Held.{Ready}
-use Rattle.output.specs.Steps.{eachOf, tested}
 use Rattle.output.proofs.Room.{stays}
 use Rattle.output.proofs.Then.{does-as}
 use Rattle.opening.specs.declared.Opening.{Opening}
@@ -43,19 +43,19 @@ use Rattle.opening.proofs.Children.{element-tested}
 use Rattle.map.specs.declared.field.Fields.{Fields}
 use Rattle.map.specs.declared.entry.Entry.{Entry}
 use Rattle.map.specs.Field.{FieldsIn}
-use Rattle.map.specs.Entry.{Passed, entryNamed, EntryIs, fieldsStep, FieldsWrite}
-use Rattle.map.specs.Map.{mapEntry, MapIs}
+use Rattle.map.specs.Entry.{Passed, entryNamed, EntryIs, FieldsWrite}
+use Rattle.map.specs.Map.{MapIs}
 
 -- ---- the loop
 module _ {body t : List ℕ} {v : View} (m : MapSheet) (named : Bool) (s : ScopeRow) (c : Cursor) (en tx : List ℕ) where
   pub entries-start : Viewed body t v → Outside body t (v .count) (c .depth .0) (c .row)
-      → ChildrenAt body t v (mapEntry body (viewAt t v) m (entryNamed named)) 131072
+      → ChildrenAt body t v (entryPlan body (viewAt t v) m (entryNamed named)) 131072
       (afterEntry (entryNamed named)) s c en tx en tx none-written c
   entries-start = children-start (after-entry-shortens (entryNamed named))
-      (mapEntry body (viewAt t v) m (entryNamed named)) 131072 s c en tx
+      (entryPlan body (viewAt t v) m (entryNamed named)) 131072 s c en tx
 
 -- every place stays a 32-bit number
-pub entries-ready : {body t : List ℕ} {v : View} {f : Child → Room → Output → Reading} {past : Child → Reader} {s : ScopeRow} {c₀ : Cursor}
+pub entries-ready : {body t : List ℕ} {v : View} {f : Child → Plan} {past : Child → Reader} {s : ScopeRow} {c₀ : Cursor}
     {en tx en′ tx′ : List ℕ} {w : Written} {c : Cursor} → ChildrenAt body t v f 131072 past s c₀ en tx en′ tx′ w c → Ready w 131072
 entries-ready a = record { small = omega (arith, a .few, a .stands .high, a .viewed .few) }
 
@@ -63,13 +63,11 @@ entries-ready a = record { small = omega (arith, a .few, a .stands .high, a .vie
 module _ {body t : List ℕ} {v : View} {m : MapSheet} {named : Bool} {st : StartRow} {i : Cursor} {got : Entry}
     (z : EntryIs body t v m named st i got) where
   pub entry-refused : (en tx : List ℕ) (w : Written) {why : Refusal} → got ≡ Entry.Refused why
-      → ChildDoes body t v (mapEntry body (viewAt t v) m (entryNamed named)) 131072 st i en tx w en tx (Step.Refused why w)
-  unfolding mapEntry
+      → ChildDoes body t v (entryPlan body (viewAt t v) m (entryNamed named)) 131072 st i en tx w en tx (Step.Refused why w)
+  unfolding perform
   entry-refused en tx w q =
-      record {
-        does = does-as (λ room out. rw q at (z .same room out)) (record { is = λ h. stays h });
-        adds = record { most = λ room out. rw (rw q at (z .same room out)) (omega arith) };
-      }
+      let same = rw q at (z .same) in
+      record { does = does-as same (record { is = λ h. stays h }); adds = rw same (record { most = λ room out. omega arith }) }
 
   module _ {f : Fields} {u : Cursor} (q : got ≡ Entry.Read f u) where
     entry-passed : Passed body t v (afterEntry (entryNamed named) (childAt body t (v .count) st i)) i f u
@@ -82,22 +80,17 @@ module _ {body t : List ℕ} {v : View} {m : MapSheet} {named : Bool} {st : Star
     entry-after = entry-passed .stands
 
     pub entry-does : {en tx en′ tx′ : List ℕ} {w : Written} {step : Step} → FieldsWrite body f en tx w en′ tx′ step
-        → ChildDoes body t v (mapEntry body (viewAt t v) m (entryNamed named)) 131072 st i en tx w en′ tx′ step
-    unfolding mapEntry fieldsStep
-    entry-does d =
-        record {
-          does = does-as (λ room out. rw q at (z .same room out)) (d .does);
-          adds = record { most = λ room out. rw (rw q at (z .same room out)) (d .adds .most room out) };
-        }
+        → ChildDoes body t v (entryPlan body (viewAt t v) m (entryNamed named)) 131072 st i en tx w en′ tx′ step
+    entry-does d = let same = rw q at (z .same) in record { does = does-as same (d .does); adds = rw same (d .adds) }
 
 module _ {body t : List ℕ} {v : View} {m : MapSheet} {named : Bool} {s : ScopeRow} {c₀ : Cursor} {en tx en′ tx′ : List ℕ} {w : Written}
     {c : Cursor}
-    (a : ChildrenAt body t v (mapEntry body (viewAt t v) m (entryNamed named)) 131072
+    (a : ChildrenAt body t v (entryPlan body (viewAt t v) m (entryNamed named)) 131072
     (afterEntry (entryNamed named)) s c₀ en tx en′ tx′ w c)
     {r : Next} (x : NextIs body t (v .count) s (c .depth .0) (c .row) r) {st : StartRow} {i : Cursor} (e : r ≡ Next.Found st i)
     {got : Entry} (z : EntryIs body t v m named st i got) where
   pub entries-refused : {why : Refusal} → got ≡ Entry.Refused why
-      → ChildrenDo body t v (mapEntry body (viewAt t v) m (entryNamed named)) (afterEntry (entryNamed named)) s c₀ en tx en′ tx′
+      → ChildrenDo body t v (entryPlan body (viewAt t v) m (entryNamed named)) (afterEntry (entryNamed named)) s c₀ en tx en′ tx′
       (Step.Refused why w)
   entries-refused q = children-stop a x e (entry-refused z en′ tx′ w q) refl
 
@@ -107,19 +100,19 @@ module _ {body t : List ℕ} {v : View} {m : MapSheet} {named : Bool} {s : Scope
 
     module _ {en₂ tx₂ : List ℕ} {step : Step} (d : FieldsWrite body f en′ tx′ w en₂ tx₂ step) where
       pub entries-on : {more : Written} → step ≡ Step.Done more
-          → ChildrenAt body t v (mapEntry body (viewAt t v) m (entryNamed named)) 131072
+          → ChildrenAt body t v (entryPlan body (viewAt t v) m (entryNamed named)) 131072
           (afterEntry (entryNamed named)) s c₀ en tx en₂ tx₂ more u
       entries-on g = children-on a x e (entry-does z q d) (entry-after z q) g
 
       pub entries-full : {why : Refusal} {last : Written} → step ≡ Step.Refused why last
-          → ChildrenDo body t v (mapEntry body (viewAt t v) m (entryNamed named)) (afterEntry (entryNamed named)) s c₀ en tx en₂ tx₂
+          → ChildrenDo body t v (entryPlan body (viewAt t v) m (entryNamed named)) (afterEntry (entryNamed named)) s c₀ en tx en₂ tx₂
           (Step.Refused why last)
       entries-full g = children-stop a x e (entry-does z q d) g
 
 -- the buffers are as long as they were
 module _ {body en′ tx′ en₂ tx₂ : List ℕ} {g : Fields} {w : Written} {step : Step} (d : FieldsWrite body g en′ tx′ w en₂ tx₂ step)
     {t : List ℕ}
-    {v : View} {f : Child → Room → Output → Reading} {most : ℕ} {past : Child → Reader} {s : ScopeRow} {c₀ : Cursor} {en tx : List ℕ}
+    {v : View} {f : Child → Plan} {most : ℕ} {past : Child → Reader} {s : ScopeRow} {c₀ : Cursor} {en tx : List ℕ}
     {c : Cursor}
     (a : ChildrenAt body t v f most past s c₀ en tx en′ tx′ w c) where
   pub fields-entries : length en₂ ≡ length en
@@ -145,7 +138,7 @@ pub ruleset entries-laws = (
 pub map-tested : {sheet : List ℕ} {said : codec.MapSheet} {settings : Settings} {named : Bool} {body t : List ℕ} {v : View} {s : StartRow}
     {c : Cursor}
     {en tx en′ tx′ : List ℕ} {got r : Step} → MapSaid sheet said → EntriesNamed settings said named
-    → ElementDoes body t v (mapEntry body (viewAt t v) (mapSaid sheet) (entryNamed named))
+    → ElementDoes body t v (entryPlan body (viewAt t v) (mapSaid sheet) (entryNamed named))
     (afterEntry (entryNamed named)) s c en tx en′ tx′ got
     → r ≡ lastOf (v .«ill_formed») got
     → MapIs body t v (mapSaid sheet) (entryName (settingsOf settings) (mapSaid sheet)) s c en tx en′ tx′ r
@@ -160,9 +153,9 @@ module _ {body t : List ℕ} {final : ℕ} {deep strict : Bool} {r : Opening} (s
     {said : codec.MapSheet}
     (p : MapRead sheet said) (a : AskedIs body t final (said .ok) deep strict r) (d : deep ≡ tooDeep (settingsOf settings) depth)
     (i : strict ≡ isStrict (settingsOf settings) depth) where
-  pub map-found : {v : View} {s : StartRow} {c : Cursor} → r ≡ Opening.Found v s c → (room : Room)
-      → mapReading body t final sheet (settingsOf settings) depth room
-      ≡ collected (mapEntry body (viewAt t v) (mapSaid sheet) (entryName (settingsOf settings) (mapSaid sheet)))
-      (entriesOf (entryName (settingsOf settings) (mapSaid sheet)) (childAt body t (v .count) s c)) (v .«ill_formed») room nothing
-  unfolding mapReading readEntries collected eachOf each tested mapEntry
-  map-found q room = rw (asked-found a (settingsOf settings) depth d i (λ o. p .there o .said) q)
+  pub map-found : {v : View} {s : StartRow} {c : Cursor} → r ≡ Opening.Found v s c
+      → mapPlan (uploaded body t final) (calling sheet (settingsOf settings) depth)
+      ≡ collected (entryPlan body (viewAt t v) (mapSaid sheet) (entryName (settingsOf settings) (mapSaid sheet)))
+      (entriesOf (entryName (settingsOf settings) (mapSaid sheet)) (childAt body t (v .count) s c)) (v .«ill_formed»)
+  unfolding mapPlan entriesPlan collected
+  map-found q = rw (asked-found a (settingsOf settings) depth d i (λ o. p .there o .said) q)

@@ -35,7 +35,7 @@ use Rattle.decode.specs.Text.{textAt, TextIs}
 use Rattle.decode.proofs.Texts.{row-in}
 use Rattle.decode.proofs.Names.{local-span, value-span}
 use Rattle.decode.proofs.Places.{start-scope}
-use Rattle.output.specs.Steps.{plainOf}
+use Rattle.output.specs.Plans.{plainOf}
 use Rattle.output.proofs.Texts.{comes-measured, comes-empty}
 use Rattle.map.specs.declared.field.Measured.{Measured}
 use Rattle.map.specs.declared.field.FirstText.{FirstText}

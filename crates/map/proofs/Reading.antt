@@ -11,7 +11,7 @@ use Rattle.refusal.specs.Answer.{Answer, onward}
 use Rattle.document.specs.Scope.{Level, done, children, childrenOf, dropping, endOf, leave, afterChildren}
 use Rattle.document.specs.Laws.Fuel.{dropping-shortens}
 use Rattle.sheet.specs.Sheet.{MapSheet}
-use Rattle.readings.specs.Collection.{noFields, readFields, readEntry, writeEntry, afterEntry}
+use Rattle.readings.specs.Collection.{noFields, readFields, readPlan, entryPlan, afterEntry}
 use Rattle.readings.specs.Collection as read
 use Rattle.decode.specs.declared.reader.ScopeRow.{ScopeRow}
 use Rattle.decode.specs.declared.reader.Cursor.{Cursor}
@@ -139,19 +139,19 @@ pub ruleset entry-laws = (needs, start-scope, entry-closed, entry-inside)
 module _ {body t : List ℕ} {v : View} {m : MapSheet} {named : Bool} {s : StartRow} {c : Cursor} {u : Bool}
     (e : u ≡ wanted (entryNamed named) (nameAt body t (s .row))) where
   pub entry-wanted : {r : Entry} → u ≡ true → EntryRead body t v m s c r → EntryIs body t v m named s c r
-  unfolding readEntry afterEntry childrenOf afterChildren
+  unfolding entryPlan afterEntry childrenOf afterChildren
   entry-wanted q x =
       record {
-        same = λ room out. rw (is-it body t (v .count) (entryNamed named) s c e, q) (ap (λ a. writeEntry room a out) (sym (x .is .same)));
+        same = rw (is-it body t (v .count) (entryNamed named) s c e, q) (ap readPlan (sym (x .is .same)));
         met = rw (is-it body t (v .count) (entryNamed named) s c e, q) (x .is .met);
       }
 
   pub entry-dropped : {p : Past} → u ≡ false → Viewed body t v → DroppedIs body t (v .count) s c p
       → EntryIs body t v m named s c (Entry.Read (record { key = Key.Nothing; value = Value.Nothing }) (p .at))
-  unfolding readEntry afterEntry
+  unfolding entryPlan afterEntry
   entry-dropped q w y =
       record {
-        same = λ room out. rw (is-it body t (v .count) (entryNamed named) s c e, q);
+        same = rw (is-it body t (v .count) (entryNamed named) s c e, q);
         met = record { kept = no-fields (w .small); stands = rw (is-it body t (v .count) (entryNamed named) s c e, q) (dropped-after y) };
       }
 

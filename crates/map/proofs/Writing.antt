@@ -9,10 +9,11 @@ use mir.Syntax.{w32, w64}
 use lib.ListN.{length, drop, take}
 use Rattle.table.specs.Row.{cut}
 use Rattle.document.specs.Laws.Short.{cut-short}
+use Rattle.readings.specs.Plan.{perform}
 use Rattle.decode.specs.declared.piece.Piece.{Piece}
 use Rattle.output.specs.declared.Written.{Written}
 use Rattle.output.specs.declared.Step.{Step}
-use Rattle.output.specs.Steps.{keyText, keyPiece}
+use Rattle.output.specs.Plans.{keyText, keyPiece}
 use Rattle.output.specs.Held.{Does, Ready, Comes}
 use Rattle.output.proofs.Texts.{comes-short, ready-less}
 use Rattle.output.proofs.Sound.{key-text-adds, key-piece-adds}
@@ -21,7 +22,7 @@ use Rattle.map.specs.declared.field.Key.{Key}
 use Rattle.map.specs.declared.field.Value.{Value}
 use Rattle.map.specs.declared.field.Fields.{Fields}
 use Rattle.map.specs.Field.{PlainIn, PieceIn, ValueIn, FieldsIn}
-use Rattle.map.specs.Entry.{fieldsStep, KeyComes, ValueWrites, FieldsWrite}
+use Rattle.map.specs.Entry.{KeyComes, ValueWrites, FieldsWrite}
 
 -- ---- the bytes of a text
 module _ {body : List ℕ} {m : Measured} (i : PlainIn body m) where
@@ -45,7 +46,7 @@ value-comes c = c .comes
 
 pub value-no : (body key : List ℕ) (v : Value) {en tx : List ℕ} {w : Written} → v ≡ Value.Nothing
     → ValueWrites body key v en tx w en tx (Step.Done w)
-unfolding fieldsStep
+unfolding perform
 value-no body key v e =
     rw e (record { does = record { is = λ h. record { is = refl; holds = h } }; adds = record { most = λ room out. omega arith } })
 
@@ -66,7 +67,7 @@ module _ {body : List ℕ} {v : Value} (i : ValueIn body v) where
 
       pub value-text : {y en tx en′ tx′ : List ℕ} {w : Written} {r : Step} → y ≡ cut body (m .start) (m .len)
           → Does (keyText key y) en tx w en′ tx′ r → ValueWrites body key v en tx w en′ tx′ r
-      unfolding fieldsStep keyText
+      unfolding keyText
       value-text p d =
           let a = key-text-adds (c .comes) (value-plain .comes) in
           rw e (record { does = rw p at d; adds = record { most = λ room out. omega (arith, a .most room out, c .short, value-short) } })
@@ -87,7 +88,7 @@ module _ {key : List ℕ} {n : ℕ} (c : KeyComes key n) where
 
   pub value-piece : {body : List ℕ} {v : Value} {p : Piece} {en tx en′ tx′ : List ℕ} {w : Written} {r : Step} → v ≡ Value.Piece p
       → Does (keyPiece key (p .start) (p .len)) en tx w en′ tx′ r → ValueWrites body key v en tx w en′ tx′ r
-  unfolding fieldsStep keyPiece
+  unfolding keyPiece
   value-piece {p = p} e d =
       let a = key-piece-adds (c .comes) (p .start) (p .len) in
       rw e (record { does = d; adds = record { most = λ room out. omega (arith, a .most room out, c .short) } })
@@ -98,7 +99,7 @@ pub ruleset value-laws =
 -- ---- by the key
 pub key-no : (body : List ℕ) (f : Fields) {en tx : List ℕ} {w : Written} → f .key ≡ Key.Nothing
     → FieldsWrite body f en tx w en tx (Step.Done w)
-unfolding fieldsStep
+unfolding perform
 key-no body f e =
     record { does = rw e (record { is = λ h. record { is = refl; holds = h } }); adds = rw e (record { most = λ room out. omega arith }) }
 

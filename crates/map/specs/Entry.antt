@@ -10,8 +10,7 @@ use Rattle.reference.specs.Text.{unescaped}
 use Rattle.document.specs.Reader.{Reader}
 use Rattle.document.specs.Scope.{Level, children, endOf, leave, levelIn, dropping}
 use Rattle.sheet.specs.Sheet.{MapSheet}
-use Rattle.readings.specs.Output.{Room, Output, Reading}
-use Rattle.readings.specs.Collection.{MapValue, noFields, readFields, writeFields, writeEntry, readEntry, afterEntry}
+use Rattle.readings.specs.Collection.{noFields, readFields, fieldsPlan, readPlan, entryPlan, afterEntry}
 use Rattle.readings.specs.Collection as read
 use Rattle.decode.specs.declared.reader.ScopeRow.{ScopeRow}
 use Rattle.decode.specs.declared.reader.Cursor.{Cursor}
@@ -21,7 +20,7 @@ use Rattle.decode.specs.Reader.{childAt}
 use Rattle.decode.specs.View.{viewAt}
 use Rattle.output.specs.declared.Written.{Written}
 use Rattle.output.specs.declared.Step.{Step}
-use Rattle.output.specs.Steps.{plainOf}
+use Rattle.output.specs.Plans.{plainOf}
 use Rattle.output.specs.Held.{Does, Comes, Adds}
 use Rattle.opening.specs.Wanted.{nameIf}
 use Rattle.opening.specs.Level.{levelAt, AfterIs}
@@ -63,14 +62,10 @@ entryNamed named = nameIf named (ascii "entry")
 
 -- a child of a map: an entry, or one that is dropped, of which there are no fields
 pub record EntryIs (body t : List ℕ) (v : View) (m : MapSheet) (named : Bool) (s : StartRow) (c : Cursor) (r : Entry) : Type 0 where
-  pub same : (room : Room) (out : Output)
-      → readEntry body (viewAt t v) m (entryNamed named) room (childAt body t (v .count) s c) out ≡ writeEntry room (entryAt body r) out
+  pub same : entryPlan body (viewAt t v) m (entryNamed named) (childAt body t (v .count) s c) ≡ readPlan (entryAt body r)
   pub met : PassedIn body t v (afterEntry (entryNamed named) (childAt body t (v .count) s c)) c r
 
 -- ---- written
-unfoldable pub fieldsStep : Option (List ℕ) → Option MapValue → Room → Output → Reading
-fieldsStep k v room out = writeFields room k v out
-
 -- a key that was measured
 pub record KeyComes (key : List ℕ) (n : ℕ) : Type 0 where
   pub comes : Comes key n
@@ -78,9 +73,9 @@ pub record KeyComes (key : List ℕ) (n : ℕ) : Type 0 where
 
 -- key and value add no more text bytes than two bodies have
 pub record ValueWrites (body key : List ℕ) (v : Value) (en tx : List ℕ) (w : Written) (en′ tx′ : List ℕ) (r : Step) : Type 0 where
-  pub does : Does (fieldsStep (some (plainOf (unescaped key))) (valueOf body v)) en tx w en′ tx′ r
-  pub adds : Adds (fieldsStep (some (plainOf (unescaped key))) (valueOf body v)) 131072
+  pub does : Does (fieldsPlan (some (plainOf (unescaped key))) (valueOf body v)) en tx w en′ tx′ r
+  pub adds : Adds (fieldsPlan (some (plainOf (unescaped key))) (valueOf body v)) 131072
 
 pub record FieldsWrite (body : List ℕ) (f : Fields) (en tx : List ℕ) (w : Written) (en′ tx′ : List ℕ) (r : Step) : Type 0 where
-  pub does : Does (fieldsStep (keyAt body (f .key)) (valueOf body (f .value))) en tx w en′ tx′ r
-  pub adds : Adds (fieldsStep (keyAt body (f .key)) (valueOf body (f .value))) 131072
+  pub does : Does (fieldsPlan (keyAt body (f .key)) (valueOf body (f .value))) en tx w en′ tx′ r
+  pub adds : Adds (fieldsPlan (keyAt body (f .key)) (valueOf body (f .value))) 131072

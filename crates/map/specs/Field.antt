@@ -21,7 +21,7 @@ use Rattle.decode.specs.declared.piece.Piece.{Piece}
 use Rattle.decode.specs.Reader.{childAt}
 use Rattle.decode.specs.View.{failureAt, viewAt}
 use Rattle.decode.specs.Piece.{pieceAt}
-use Rattle.output.specs.Steps.{plainOf}
+use Rattle.output.specs.Plans.{plainOf}
 use Rattle.output.specs.Held.{Comes}
 use Rattle.map.specs.declared.field.Measured.{Measured}
 use Rattle.map.specs.declared.field.FirstText.{FirstText}

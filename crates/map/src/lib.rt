@@ -8,9 +8,9 @@ ghost use Rattle.decode.specs.Reader.{HasRow, Outside, StartIn};
 ghost use Rattle.decode.specs.View.{viewAt, Viewed};
 ghost use Rattle.opening.specs.Opening.{RootAt};
 ghost use Rattle.opening.specs.Level.{ChildrenDo, ElementDoes};
-ghost use Rattle.readings.specs.Collection.{afterEntry};
+ghost use Rattle.readings.specs.Collection.{entryPlan, afterEntry};
 ghost use Rattle.map.specs.Entry.{entryNamed};
-ghost use Rattle.map.specs.Map.{mapEntry, MapIs};
+ghost use Rattle.map.specs.Map.{MapIs};
 use crate::entry::Entry;
 use codec::collection::MapSheet;
 use codec::settings::Settings;
@@ -43,7 +43,7 @@ fn entries_from(
     requires { ⌜ HasRow (now rows) scope ⌝ }
     requires { ⌜ Outside (now body) (now rows) (view .count) (at .depth .0) (at .row) ⌝ }
     ensures { λ r. ⌜ ChildrenDo (now (body .entry)) (now (rows .entry)) view
-        (mapEntry (now (body .entry)) (viewAt (now (rows .entry)) view) (mapSaid (now (sheet .entry))) (entryNamed named))
+        (entryPlan (now (body .entry)) (viewAt (now (rows .entry)) view) (mapSaid (now (sheet .entry))) (entryNamed named))
         (afterEntry (entryNamed named)) scope at (now (entries .entry)) (now (texts .entry)) (now (entries .exit))
         (now (texts .exit)) r ⌝ }
 {
@@ -94,7 +94,7 @@ fn read_entries(
     requires { ⌜ StartIn (now body) (now rows) (view .count) root ⌝ }
     requires { ⌜ Outside (now body) (now rows) (view .count) (at .depth .0) (at .row) ⌝ }
     ensures { λ r. ⌜ ElementDoes (now (body .entry)) (now (rows .entry)) view
-        (mapEntry (now (body .entry)) (viewAt (now (rows .entry)) view) (mapSaid (now (sheet .entry))) (entryNamed named))
+        (entryPlan (now (body .entry)) (viewAt (now (rows .entry)) view) (mapSaid (now (sheet .entry))) (entryNamed named))
         (afterEntry (entryNamed named)) root at (now (entries .entry)) (now (texts .entry)) (now (entries .exit))
         (now (texts .exit)) r ⌝ }
 {

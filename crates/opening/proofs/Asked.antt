@@ -20,6 +20,7 @@ use Rattle.document.specs.View as doc
 use Rattle.document.specs.Scope.{rootOf}
 use Rattle.sheet.specs.declared.ShapeDepth.{ShapeDepth}
 use Rattle.sheet.specs.Settings.{Settings, isStrict, tooDeep}
+use Rattle.readings.specs.Call.{uploaded}
 use Rattle.readings.specs.Opening.{Opened, Asked, withTable, withDepth, rooted, opened, asked}
 use Rattle.decode.specs.declared.reader.Cursor.{Cursor}
 use Rattle.decode.specs.declared.reader.Past.{Past}
@@ -40,7 +41,7 @@ sheetless A = refuses Refusal.Sheet
 module _ {S : Type 0} (body table : List ℕ) (final : ℕ) (settings : Settings) (depth : ShapeDepth) where
   pub asked-none : {why : Refusal} {sheet : Option S} → sheet ≡ none
       → openingOf body table final false (tooDeep settings depth) (isStrict settings depth) ≡ refuses why
-      → asked body table final sheet settings depth ≡ refuses why
+      → asked (uploaded body table final) sheet settings depth ≡ refuses why
   unfolding asked openingOf
   asked-none {why} e q = rw e (go (decTable body table final) q)
     where
@@ -49,7 +50,7 @@ module _ {S : Type 0} (body table : List ℕ) (final : ℕ) (settings : Settings
       go (yes a) q = let z : Refusal.Sheet ≡ why = cc in rw z
       go (no a) q = let z : Refusal.Table ≡ why = cc in rw z
 
-  asked-some : (s : S) → asked body table final (some s) settings depth
+  asked-some : (s : S) → asked (uploaded body table final) (some s) settings depth
       ≡ onward (openingOf body table final true (tooDeep settings depth) (isStrict settings depth)) (withIt s)
   unfolding asked openingOf
   asked-some s = go (decTable body table final) (tooDeep settings depth)
@@ -63,11 +64,11 @@ module _ {S : Type 0} (body table : List ℕ) (final : ℕ) (settings : Settings
 
   module _ {s : S} {sheet : Option S} (e : sheet ≡ some s) where
     pub asked-refused : {why : Refusal} → openingOf body table final true (tooDeep settings depth) (isStrict settings depth) ≡ refuses why
-        → asked body table final sheet settings depth ≡ refuses why
+        → asked (uploaded body table final) sheet settings depth ≡ refuses why
     asked-refused q = rw e (rw q at (asked-some s))
 
     pub asked-gives : {o : Opened} → openingOf body table final true (tooDeep settings depth) (isStrict settings depth) ≡ gives o
-        → asked body table final sheet settings depth ≡ gives (record { sheet = s; opened = o })
+        → asked (uploaded body table final) sheet settings depth ≡ gives (record { sheet = s; opened = o })
     asked-gives q = rw e (rw q at (asked-some s))
 
 -- where no sheet was read nothing is given
@@ -118,7 +119,7 @@ module _ (body t : List ℕ) (final : ℕ) {u : Bool} (e : u ≡ isYes (decTable
     unfolding openingOf
     open-table ok deep strict = record { opening = record { is = sym (no-table _); known = tt } }
 
-    pub opened-table : (strict : Bool) → OpeningIs body t (opened strict body t final) (Opening.Refused Refusal.Table)
+    pub opened-table : (strict : Bool) → OpeningIs body t (opened strict (uploaded body t final)) (Opening.Refused Refusal.Table)
     unfolding opened
     opened-table strict = record { is = sym (no-table _); known = tt }
 
@@ -131,7 +132,7 @@ module _ (body t : List ℕ) (final : ℕ) {u : Bool} (e : u ≡ isYes (decTable
         go (no x) p = false-true p
 
     pub opened-root : (strict : Bool) {last : ℕ} {r : Opening} → last ≡ final
-        → OpeningIs body t (rooted body (view strict body (rowsOf t) last)) r → OpeningIs body t (opened strict body t final) r
+        → OpeningIs body t (rooted body (view strict body (rowsOf t) last)) r → OpeningIs body t (opened strict (uploaded body t final)) r
     unfolding opened
     opened-root strict q x = rw (a-table, ← q) x
 
@@ -171,16 +172,16 @@ module _ {body t : List ℕ} {final : ℕ} {ok deep strict : Bool} {r : Opening}
   module _ (settings : Settings) (depth : ShapeDepth) (d : deep ≡ tooDeep settings depth) (i : strict ≡ isStrict settings depth)
       {S : Type 0} {sheet : Option S} {said : S}
       (there : ok ≡ true → sheet ≡ some said) where
-    pub asked-early : (ok ≡ false → sheet ≡ none) → {why : Refusal} → r ≡ Opening.Refused why → asked body t final sheet settings depth
+    pub asked-early : (ok ≡ false → sheet ≡ none) → {why : Refusal} → r ≡ Opening.Refused why → asked (uploaded body t final) sheet settings depth
         ≡ refuses why
     asked-early broken {why} q = go ok refl
       where
-        go : (b : Bool) → ok ≡ b → asked body t final sheet settings depth ≡ refuses why
+        go : (b : Bool) → ok ≡ b → asked (uploaded body t final) sheet settings depth ≡ refuses why
         go true o = asked-refused body t final settings depth (there o) (rw (o, d, i) at (asked-why q))
         go false o = asked-none body t final settings depth (broken o) (rw (o, d, i) at (asked-why q))
 
     pub asked-found : {v : View} {s : StartRow} {c : Cursor} → r ≡ Opening.Found v s c
-        → asked body t final sheet settings depth
+        → asked (uploaded body t final) sheet settings depth
         ≡ gives (record { sheet = said; opened = record { seen = viewAt t v; root = childAt body t (v .count) s c } })
     asked-found q = asked-gives body t final settings depth (there (asked-ok q)) (rw (asked-ok q, d, i) at (asked-opened q))
 

@@ -1,5 +1,5 @@
--- The loop over the children of a scope, for any step: what it carries from turn to turn, and one law for each way through a turn and each
--- way out. `f` is the definition's step for a child, which adds at most `most` text bytes; `past` says where the reader stands after one.
+-- The loop over the children of a scope, for any plan: what it carries from turn to turn, and one law for each way through a turn and each
+-- way out. `f` is the definition's plan for a child, which adds at most `most` text bytes; `past` says where the reader stands after one.
 use Prim.Native.Nat.{ℕ, _+_, _*_, _≤_}
 use mathlib.Core.Path.{_≡_, refl}
 use mathlib.Core.Bool.{Bool, true, false}
@@ -14,7 +14,7 @@ use Rattle.refusal.specs.declared.Refusal.{Refusal}
 use Rattle.document.specs.Reader.{Reader}
 use Rattle.document.specs.Scope.{Child, children, levelIn, dropping}
 use Rattle.document.specs.Laws.Fuel.{Shortens, dropping-shortens}
-use Rattle.readings.specs.Output.{Room, Output, Reading, finished}
+use Rattle.readings.specs.Plan.{Plan, end, perform, oneByOne}
 use Rattle.readings.specs.Collection.{isWanted}
 use Rattle.decode.specs.Rows.{nameAt}
 use Rattle.decode.specs.declared.reader.ScopeRow.{ScopeRow}
@@ -29,7 +29,6 @@ use Rattle.decode.proofs.Places.{start-scope}
 use Rattle.output.specs.declared.Written.{Written}
 use Rattle.output.specs.declared.Step.{Step}
 use Rattle.output.specs.Held.{Holds, Does, Sound, Adds}
-use Rattle.output.specs.Steps.{eachOf}
 use Rattle.output.proofs.AllOrNone.{holds-within}
 use Rattle.output.proofs.Called.{holds-nothing}
 use Rattle.output.proofs.Sound.{used-next}
@@ -42,38 +41,38 @@ use Rattle.opening.proofs.Last.{collected-does}
 use Rattle.opening.proofs.Level.{found-in, found-start, found-outside, dropped-after, level-gone, level-met, level-found, less-left}
 
 -- ---- a child that is asked for by its name, or not: f does g where it is wanted, and nothing otherwise
-module _ (body t : List ℕ) (v : View) (nm : Option (List ℕ)) (f : Child → Room → Output → Reading) (g : Room → Output → Reading) (most : ℕ)
+module _ (body t : List ℕ) (v : View) (nm : Option (List ℕ)) (f : Child → Plan) (g : Plan) (most : ℕ)
     (s : StartRow) (c : Cursor) {u : Bool} (e : u ≡ wanted nm (nameAt body t (s .row)))
-    (same : (room : Room) (out : Output)
-    → f (childAt body t (v .count) s c) room out ≡ pick (isWanted nm (childAt body t (v .count) s c)) (g room out) (finished out)) where
-  passes : u ≡ false → (room : Room) (out : Output) → f (childAt body t (v .count) s c) room out ≡ finished out
-  passes q room out = let z = same room out in rw (is-it body t (v .count) nm s c e, q) at z
+    (same : f (childAt body t (v .count) s c) ≡ pick (isWanted nm (childAt body t (v .count) s c)) g end) where
+  passes : u ≡ false → f (childAt body t (v .count) s c) ≡ end
+  passes q = rw (is-it body t (v .count) nm s c e, q) at same
 
-  takes : u ≡ true → (room : Room) (out : Output) → f (childAt body t (v .count) s c) room out ≡ g room out
-  takes q room out = let z = same room out in rw (is-it body t (v .count) nm s c e, q) at z
+  takes : u ≡ true → f (childAt body t (v .count) s c) ≡ g
+  takes q = rw (is-it body t (v .count) nm s c e, q) at same
 
   pub child-not : (en tx : List ℕ) (w : Written) → u ≡ false → ChildDoes body t v f most s c en tx w en tx (Step.Done w)
+  unfolding perform
   child-not en tx w q =
       record {
-        does = record { is = λ {e0} {t0} {out} h. rw (passes q _ out) (record { is = refl; holds = h }) };
-        adds = record { most = λ room out. rw (passes q room out) (omega arith) };
+        does = rw (passes q) (record { is = λ h. record { is = refl; holds = h } });
+        adds = rw (passes q) (record { most = λ room out. omega arith });
       }
 
   pub child-is : {en tx en′ tx′ : List ℕ} {w : Written} {r : Step} → u ≡ true → Adds g most → Does g en tx w en′ tx′ r
       → ChildDoes body t v f most s c en tx w en′ tx′ r
-  child-is q a d = record { does = does-as (takes q) d; adds = record { most = λ room out. rw (takes q room out) (a .most room out) } }
+  child-is q a d = record { does = does-as (takes q) d; adds = rw (takes q) a }
 
 -- ---- the loop: from place c on, with what was written so far
-pub record ChildrenAt (body t : List ℕ) (v : View) (f : Child → Room → Output → Reading) (most : ℕ) (past : Child → Reader) (s : ScopeRow)
+pub record ChildrenAt (body t : List ℕ) (v : View) (f : Child → Plan) (most : ℕ) (past : Child → Reader) (s : ScopeRow)
     (c₀ : Cursor) (en tx en′ tx′ : List ℕ) (w : Written) (c : Cursor) : Type 0 where
   pub short : Shortens past
   pub viewed : Viewed body t v
   pub stands : Outside body t (v .count) (c .depth .0) (c .row)
   pub few : w .used ≤ c .row * most
-  pub mid : Midway (eachOf f (children (levelAt past body t (v .count) s c₀))) (eachOf f (children (levelAt past body t (v .count) s c)))
+  pub mid : Midway (oneByOne f (children (levelAt past body t (v .count) s c₀))) (oneByOne f (children (levelAt past body t (v .count) s c)))
       en tx none-written en′ tx′ w
 
-module _ {past : Child → Reader} (short : Shortens past) {body t : List ℕ} {v : View} (f : Child → Room → Output → Reading) (most : ℕ)
+module _ {past : Child → Reader} (short : Shortens past) {body t : List ℕ} {v : View} (f : Child → Plan) (most : ℕ)
     (s : ScopeRow) (c : Cursor) (en tx : List ℕ) where
   pub children-start : Viewed body t v → Outside body t (v .count) (c .depth .0) (c .row)
       → ChildrenAt body t v f most past s c en tx en tx none-written c
@@ -83,10 +82,10 @@ module _ {past : Child → Reader} (short : Shortens past) {body t : List ℕ} {
         viewed = q;
         stands = o;
         few = omega arith;
-        mid = midway-start (eachOf f (children (levelAt past body t (v .count) s c))) en tx none-written;
+        mid = midway-start (oneByOne f (children (levelAt past body t (v .count) s c))) en tx none-written;
       }
 
-module _ {body t : List ℕ} {v : View} {f : Child → Room → Output → Reading} {most : ℕ} {past : Child → Reader} {s : ScopeRow} {c₀ : Cursor}
+module _ {body t : List ℕ} {v : View} {f : Child → Plan} {most : ℕ} {past : Child → Reader} {s : ScopeRow} {c₀ : Cursor}
     {en tx en′ tx′ : List ℕ} {w : Written} {c : Cursor} (at : ChildrenAt body t v f most past s c₀ en tx en′ tx′ w c) where
   holds : Holds (at .mid .is (holds-nothing en tx) .out) en tx en′ tx′ w
   holds = at .mid .is (holds-nothing en tx) .holds
@@ -98,7 +97,7 @@ module _ {body t : List ℕ} {v : View} {f : Child → Room → Output → Readi
   children-texts = holds .sameTexts
 
   -- and after whatever is written next
-  module _ {g : Room → Output → Reading} {en₂ tx₂ : List ℕ} {step : Step} (d : Does g en′ tx′ w en₂ tx₂ step) where
+  module _ {g : Plan} {en₂ tx₂ : List ℕ} {step : Step} (d : Does g en′ tx′ w en₂ tx₂ step) where
     pub next-entries : length en₂ ≡ length en
     next-entries = d .is holds .holds .sameEntries
 
@@ -144,7 +143,7 @@ module _ {body t : List ℕ} {v : View} {f : Child → Room → Output → Readi
       unfolding children
       children-stop q = record { does = each-stops f child _ (rw (level-met past (at .short) x e) at (at .mid)) (d .does) q }
 
-module _ {body t : List ℕ} {v : View} {f : Child → Room → Output → Reading} {most : ℕ} {st : StartRow} {i : Cursor} {en′ tx′ : List ℕ}
+module _ {body t : List ℕ} {v : View} {f : Child → Plan} {most : ℕ} {st : StartRow} {i : Cursor} {en′ tx′ : List ℕ}
     {w : Written}
     {en₂ tx₂ : List ℕ} {step : Step} (d : ChildDoes body t v f most st i en′ tx′ w en₂ tx₂ step) {past : Child → Reader} {s : ScopeRow}
     {c₀ : Cursor}
@@ -156,12 +155,12 @@ module _ {body t : List ℕ} {v : View} {f : Child → Room → Output → Readi
   child-texts = next-texts at (d .does)
 
 -- ---- where each child is dropped
-module _ {body t : List ℕ} {v : View} (f : Child → Room → Output → Reading) (most : ℕ) (s : ScopeRow) (c : Cursor) (en tx : List ℕ) where
+module _ {body t : List ℕ} {v : View} (f : Child → Plan) (most : ℕ) (s : ScopeRow) (c : Cursor) (en tx : List ℕ) where
   pub dropping-start : Viewed body t v → Outside body t (v .count) (c .depth .0) (c .row)
       → ChildrenAt body t v f most dropping s c en tx en tx none-written c
   dropping-start = children-start dropping-shortens f most s c en tx
 
-pub dropping-on : {body t : List ℕ} {v : View} {f : Child → Room → Output → Reading} {most : ℕ} {s : ScopeRow} {c₀ : Cursor}
+pub dropping-on : {body t : List ℕ} {v : View} {f : Child → Plan} {most : ℕ} {s : ScopeRow} {c₀ : Cursor}
     {en tx en′ tx′ : List ℕ} {w : Written} {c : Cursor} → ChildrenAt body t v f most dropping s c₀ en tx en′ tx′ w c
     → {r : Next} → NextIs body t (v .count) s (c .depth .0) (c .row) r → {st : StartRow} {i : Cursor} → r ≡ Next.Found st i
     → {p : Past} → DroppedIs body t (v .count) st i p → {en₂ tx₂ : List ℕ} {step : Step} {w₂ : Written}
@@ -175,11 +174,11 @@ pub ruleset children-laws = (needs, children-entries, children-texts, found-star
 pub ruleset dropping-laws = (children-laws, dropping-start, child-entries, child-texts, dropping-on, children-stop, less-left)
 
 -- ---- of an element
-module _ {body t : List ℕ} {v : View} (f : Child → Room → Output → Reading) (past : Child → Reader) (s : StartRow) (c : Cursor)
+module _ {body t : List ℕ} {v : View} (f : Child → Plan) (past : Child → Reader) (s : StartRow) (c : Cursor)
     (en tx : List ℕ) where
   pub element-closed : s .closed ≡ true → ElementDoes body t v f past s c en tx en tx (Step.Done none-written)
   unfolding children
-  element-closed e = record { does = rw e (each-ends f (midway-start (eachOf f []) en tx none-written)) }
+  element-closed e = record { does = rw e (each-ends f (midway-start (oneByOne f []) en tx none-written)) }
 
   pub element-inside : {en′ tx′ : List ℕ} {r : Step} → s .closed ≡ false
       → ChildrenDo body t v f past (ScopeRow.Element (s .depth) (s .row)) c en tx en′ tx′ r
@@ -189,29 +188,29 @@ module _ {body t : List ℕ} {v : View} (f : Child → Room → Output → Readi
 pub ruleset element-laws = (needs, start-scope, element-closed, element-inside)
 
 -- ---- "9 last"
-pub element-tested : {body t : List ℕ} {v : View} {f : Child → Room → Output → Reading} {past : Child → Reader} {s : StartRow} {c : Cursor}
+pub element-tested : {body t : List ℕ} {v : View} {f : Child → Plan} {past : Child → Reader} {s : StartRow} {c : Cursor}
     {en tx en′ tx′ : List ℕ} {got r : Step} (ill : Bool) → ElementDoes body t v f past s c en tx en′ tx′ got → r ≡ lastOf ill got
     → Does (collected f (children (levelIn past (childAt body t (v .count) s c))) ill) en tx none-written en′ tx′ r
 element-tested {body} {t} {v} {f} {past} {s} {c} ill d q = rw q
     (collected-does f (children (levelIn past (childAt body t (v .count) s c))) ill (d .does))
 
 -- ---- the same of functions that are not lent the texts
-pub record EntersAt (body t : List ℕ) (v : View) (f : Child → Room → Output → Reading) (s : ScopeRow) (c₀ : Cursor) (en en′ : List ℕ)
+pub record EntersAt (body t : List ℕ) (v : View) (f : Child → Plan) (s : ScopeRow) (c₀ : Cursor) (en en′ : List ℕ)
     (w : Written) (c : Cursor) : Type 0 where
   pub stands : Outside body t (v .count) (c .depth .0) (c .row)
   pub is : (tx : List ℕ) → ChildrenAt body t v f 0 dropping s c₀ en tx en′ tx w c
 
-pub enters-start : {body t : List ℕ} {v : View} (f : Child → Room → Output → Reading) (s : ScopeRow) (c : Cursor) (en : List ℕ)
+pub enters-start : {body t : List ℕ} {v : View} (f : Child → Plan) (s : ScopeRow) (c : Cursor) (en : List ℕ)
     → Viewed body t v → Outside body t (v .count) (c .depth .0) (c .row) → EntersAt body t v f s c en en none-written c
 enters-start f s c en q o = record { stands = o; is = λ tx. dropping-start f 0 s c en tx q o }
 
-pub enters-next : {body t : List ℕ} {v : View} {f : Child → Room → Output → Reading} {st : StartRow} {i : Cursor} {en′ : List ℕ}
+pub enters-next : {body t : List ℕ} {v : View} {f : Child → Plan} {st : StartRow} {i : Cursor} {en′ : List ℕ}
     {w : Written}
     {en₂ : List ℕ} {step : Step} → ChildEnters body t v f st i en′ w en₂ step → {s : ScopeRow} {c₀ : Cursor} {en : List ℕ} {c : Cursor}
     → EntersAt body t v f s c₀ en en′ w c → length en₂ ≡ length en
 enters-next d at = child-entries (d .is []) (at .is [])
 
-module _ {body t : List ℕ} {v : View} {f : Child → Room → Output → Reading} {s : ScopeRow} {c₀ : Cursor} {en en′ : List ℕ} {w : Written}
+module _ {body t : List ℕ} {v : View} {f : Child → Plan} {s : ScopeRow} {c₀ : Cursor} {en en′ : List ℕ} {w : Written}
     {c : Cursor} (at : EntersAt body t v f s c₀ en en′ w c) where
   pub enters-entries : length en′ ≡ length en
   enters-entries = children-entries (at .is [])
@@ -233,7 +232,7 @@ module _ {body t : List ℕ} {v : View} {f : Child → Room → Output → Readi
 pub ruleset enters-laws =
     (needs, enters-start, enters-entries, enters-next, found-start, found-outside, enters-gone, enters-on, enters-stop, less-left)
 
-module _ {body t : List ℕ} {v : View} (f : Child → Room → Output → Reading) (s : StartRow) (c : Cursor) (en : List ℕ) where
+module _ {body t : List ℕ} {v : View} (f : Child → Plan) (s : StartRow) (c : Cursor) (en : List ℕ) where
   pub enters-closed : s .closed ≡ true → ElementEnters body t v f dropping s c en en (Step.Done none-written)
   enters-closed e = record { is = λ tx. element-closed f dropping s c en tx e }
 

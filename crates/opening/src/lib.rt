@@ -5,6 +5,7 @@ ghost use mathlib.Core.Path.{_≡_};
 ghost use Rattle.table.specs.Row.{rowsOf};
 ghost use Rattle.table.specs.Rules.{TableRules};
 ghost use Rattle.document.specs.View.{view};
+ghost use Rattle.readings.specs.Call.{uploaded};
 ghost use Rattle.readings.specs.Opening.{rooted, opened};
 ghost use Rattle.decode.specs.Rows.{Readable, InTable, nameAt};
 ghost use Rattle.opening.specs.Opening.{OpeningIs, AskedIs};
@@ -44,7 +45,7 @@ fn wide(x: u32) -> usize
 
 // "1, 4", of a reading without a sheet.
 pub fn open(strict: bool, body: &[u8], rows: &[u32], end: u32) -> Opening
-    ensures { λ r. ⌜ OpeningIs (now (body .entry)) (now (rows .entry)) (opened strict (now (body .entry)) (now (rows .entry)) end) r ⌝ }
+    ensures { λ r. ⌜ OpeningIs (now (body .entry)) (now (rows .entry)) (opened strict (uploaded (now (body .entry)) (now (rows .entry)) end)) r ⌝ }
 {
     if table::obeys(body, rows, end) {
         return root(strict, body, rows, wide(end));

@@ -9,7 +9,7 @@ use Rattle.refusal.specs.Numbers.{number}
 use Rattle.readings.specs.Output.{Room, Output, nothing, Reading, refused, numbersOf, outcome}
 use Rattle.output.specs.declared.Written.{Written}
 use Rattle.output.specs.declared.Step.{Step}
-use Rattle.output.specs.Held.{roomOf, Holds, Does}
+use Rattle.output.specs.Held.{roomOf, Holds, Ends}
 use Rattle.output.specs.Call.{ReadingCall}
 
 -- nothing is written yet
@@ -33,28 +33,27 @@ module _ (reading : Room → Reading) {e t : List ℕ} where
   call-early q m =
       record { number = rw q m; count = rw q; used = rw q; entries = rw q (sym (overwrite-none e)); texts = rw q (sym (overwrite-none t)) }
 
-  -- from what a function did, called with nothing written
-  module _ (step : Room → Output → Reading) (p : reading (roomOf e t) ≡ step (roomOf e t) nothing) {e′ t′ : List ℕ} {r : Step}
-      (d : Does step e t (record { count = 0; used = 0 }) e′ t′ r) where
+  -- from what a function left in the buffers, called with nothing written
+  module _ {e′ t′ : List ℕ} {r : Step} (y : Ends (reading (roomOf e t)) e t e′ t′ r) where
     pub call-done : {w : Written} → r ≡ Step.Done w → ReadingCall reading e t e′ t′ (w .count) (w .used) 0
     call-done q =
-        let y = rw q at (d .is (holds-nothing e t)) in
+        let z = rw q at y in
         record {
-          number = rw p (sym (ap outcome (y .is)));
-          count = rw p (y .holds .count);
-          used = rw p (y .holds .used);
-          entries = rw p (y .holds .entries);
-          texts = rw p (y .holds .texts);
+          number = sym (ap outcome (z .is));
+          count = z .holds .count;
+          used = z .holds .used;
+          entries = z .holds .entries;
+          texts = z .holds .texts;
         }
 
     pub call-refused : {why : Refusal} {w : Written} {n : ℕ} → r ≡ Step.Refused why w → n ≡ number why
         → ReadingCall reading e t e′ t′ (w .count) (w .used) n
     call-refused q m =
-        let y = rw q at (d .is (holds-nothing e t)) in
+        let z = rw q at y in
         record {
-          number = rw p (m ∙ sym (ap outcome (y .is)));
-          count = rw p (y .holds .count);
-          used = rw p (y .holds .used);
-          entries = rw p (y .holds .entries);
-          texts = rw p (y .holds .texts);
+          number = m ∙ sym (ap outcome (z .is));
+          count = z .holds .count;
+          used = z .holds .used;
+          entries = z .holds .entries;
+          texts = z .holds .texts;
         }

@@ -22,7 +22,7 @@ use Rattle.document.specs.Scope.{Piece}
 use Rattle.readings.specs.Output.{sixNumbers, groupEntry}
 use Rattle.output.specs.declared.Written.{Written}
 use Rattle.output.specs.declared.Step.{Step}
-use Rattle.output.specs.Steps.{entryOf, group}
+use Rattle.output.specs.Plans.{entryOf, group}
 use Rattle.output.specs.Held.{Does, HasRoom, Ready}
 use Rattle.output.specs.Kept.{keptFor, any, isKept, lengths, keptLen, GroupLen, bytesOf, keptBytes, flat, Inside, Wide}
 use Rattle.output.proofs.Room.{room-bytes, roomy-laws, entered-none, entered-done, entry-as}

@@ -16,11 +16,12 @@ use Rattle.lists.specs.Tests.{pick, false-true}
 use Rattle.lists.specs.Overwrite.{overwrite-more}
 use Rattle.refusal.specs.declared.Refusal.{Refusal}
 use Rattle.refusal.specs.Numbers.{number}
-use Rattle.readings.specs.Output.{Entry, Room, Output, refused, sixNumbers, numbersOf, fits, write}
+use Rattle.readings.specs.Output.{Entry, Output, refused, sixNumbers, numbersOf, fits}
+use Rattle.readings.specs.Plan.{perform, one}
 use Rattle.output.specs.declared.Written.{Written}
 use Rattle.output.specs.declared.Step.{Step}
 use Rattle.output.specs.declared.Six.{Six}
-use Rattle.output.specs.Steps.{entryOf, entered, piece, failed}
+use Rattle.output.specs.Plans.{entryOf, entered, piece, failed}
 use Rattle.output.specs.Held.{roomOf, Holds, Ends, Does, Enters, roomFor, HasRoom, Ready}
 
 -- ---- six stores
@@ -104,7 +105,8 @@ module _ {out : Output} {e0 t0 e t : List ℕ} {w : Written} (h : Holds out e0 t
     -- both fit: the entry's numbers and its bytes are stored where those before them end
     pub ends-written : {e′ t′ : List ℕ} → roomFor (length e) (length t) w (length x) ≡ true
         → e′ ≡ sets e (w .count * 6) (sixNumbers (entry (w .used))) → t′ ≡ sets t (w .used) x
-        → Ends (write (roomOf e0 t0) entry x out) e0 t0 e′ t′ (Step.Done (record { count = w .count + 1; used = w .used + length x }))
+        → Ends (perform (roomOf e0 t0) (one entry x) out) e0 t0 e′ t′ (Step.Done (record { count = w .count + 1; used = w .used + length x }))
+    unfolding perform
     ends-written {e′} {t′} room p q =
         let m = length (out .texts) in
         let six = sixNumbers (entry m) in
@@ -135,7 +137,8 @@ module _ {out : Output} {e0 t0 e t : List ℕ} {w : Written} (h : Holds out e0 t
         })
 
     pub ends-no-room : roomFor (length e) (length t) w (length x) ≡ false
-        → Ends (write (roomOf e0 t0) entry x out) e0 t0 e t (Step.Refused Refusal.NoRoom w)
+        → Ends (perform (roomOf e0 t0) (one entry x) out) e0 t0 e t (Step.Refused Refusal.NoRoom w)
+    unfolding perform
     ends-no-room room = rw (fits-is ∙ room) stays
 
 -- ---- an entry with bytes, k of them
@@ -153,8 +156,8 @@ module _ (s : Six) (l : List ℕ) {e t : List ℕ} {w : Written} {k : ℕ} {b : 
 -- an entry that is another, as its bytes begin where those before them end
 pub entry-as : (entry : ℕ → Entry) (x : List ℕ) (s : Six) {l e t : List ℕ} {w : Written} {e′ t′ : List ℕ} {r : Step}
     → entry (w .used) ≡ entryOf s → x ≡ l
-    → Does (entered s l) e t w e′ t′ r → Does (λ (room : Room). write room entry x) e t w e′ t′ r
-unfolding entered
+    → Does (entered s l) e t w e′ t′ r → Does (one entry x) e t w e′ t′ r
+unfolding perform entered
 entry-as entry x s p z d =
     record {
       is = λ {e0} {t0} {out} h.

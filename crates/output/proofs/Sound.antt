@@ -12,13 +12,14 @@ use Rattle.lists.specs.Overwrite.{overwritten}
 use Rattle.refusal.specs.declared.Refusal.{Refusal}
 use Rattle.reference.specs.Text.{Out, bytes, bad, unescaped}
 use Rattle.reference.specs.Result.{unescaped-shorter}
-use Rattle.readings.specs.Output.{Entry, Room, Output, Reading, finished, refused, output, numbersOf, fits, written, write, textEntry}
+use Rattle.readings.specs.Output.{Entry, Room, Output, Reading, finished, refused, output, numbersOf, fits, written, textEntry}
 use Rattle.readings.specs.Output.{pieceEntry, groupEntry, failedEntry, keyTextEntry, keyPieceEntry}
-use Rattle.readings.specs.Structure.{readScalar}
+use Rattle.readings.specs.Plan.{Plan, perform, one}
+use Rattle.readings.specs.Structure.{scalarPlan}
 use Rattle.document.specs.Text.{unescapedText}
 use Rattle.output.specs.declared.Written.{Written}
 use Rattle.output.specs.declared.Step.{Step}
-use Rattle.output.specs.Steps.{plainOf, writeOr, text, scalar, piece, keyText, keyPiece, group}
+use Rattle.output.specs.Plans.{plainOf, textOr, text, scalar, piece, keyText, keyPiece, group}
 use Rattle.output.specs.Held.{roomOf, Holds, Does, Comes, Sound, Adds}
 use Rattle.output.proofs.AllOrNone.{holds-within}
 
@@ -82,10 +83,10 @@ some-holds {e} {t} {w} s =
 pub sound-nothing : (e t : List ℕ) → Sound e t (record { count = 0; used = 0 })
 sound-nothing e t = record { entries = omega arith; texts = omega arith }
 
--- after any step that goes on
-pub sound-next : (step : Room → Output → Reading) {e t e′ t′ : List ℕ} {w w′ : Written} {r : Step} → Sound e t w → Does step e t w e′ t′ r
+-- after any plan that is done
+pub sound-next : (plan : Plan) {e t e′ t′ : List ℕ} {w w′ : Written} {r : Step} → Sound e t w → Does plan e t w e′ t′ r
     → r ≡ Step.Done w′ → Sound e′ t′ w′
-sound-next step {e} {t} s d q =
+sound-next plan {e} {t} s d q =
     let y = rw q at (d .is (some-holds s)) in
     let i = holds-within (y .holds) in
     record {
@@ -93,9 +94,9 @@ sound-next step {e} {t} s d q =
       texts = omega (arith, i .texts, y .holds .used, y .holds .sameTexts);
     }
 
--- ---- how many text bytes a step adds at most
-pub used-next : {step : Room → Output → Reading} {n : ℕ} {e t e′ t′ : List ℕ} {w w′ : Written} {r : Step} → Adds step n → Sound e t w
-    → Does step e t w e′ t′ r → r ≡ Step.Done w′
+-- ---- how many text bytes a plan adds at most
+pub used-next : {plan : Plan} {n : ℕ} {e t e′ t′ : List ℕ} {w w′ : Written} {r : Step} → Adds plan n → Sound e t w
+    → Does plan e t w e′ t′ r → r ≡ Step.Done w′
     → w′ .used ≤ w .used + n
 used-next {e = e} {t} {w = w} a s d q =
     let h = some-holds s in
@@ -103,7 +104,8 @@ used-next {e = e} {t} {w = w} a s d q =
     omega (arith, a .most (roomOf e t) (someOutput e t w), y .holds .used, h .used)
 
 write-adds : (room : Room) (entry : ℕ → Entry) (x : List ℕ) (out : Output)
-    → length (output (write room entry x out) .texts) ≤ length (out .texts) + length x
+    → length (output (perform room (one entry x) out) .texts) ≤ length (out .texts) + length x
+unfolding perform
 write-adds room entry x out = go (fits room x out)
   where
     go : (b : Bool) → length (output (pick b (finished (written entry x out)) (refused Refusal.NoRoom out)) .texts)
@@ -112,11 +114,11 @@ write-adds room entry x out = go (fits room x out)
     go false = omega arith
 
 pub text-adds : (member : ℕ) (txt : List ℕ) → Adds (text member txt) (length txt)
-unfolding text
+unfolding text perform
 text-adds member txt = record { most = go (unescaped txt) refl }
   where
     go : (o : Out) → unescaped txt ≡ o → (room : Room) (out : Output)
-        → length (output (writeOr room member (unescapedText o) out) .texts) ≤ length (out .texts) + length txt
+        → length (output (perform room (textOr member (unescapedText o)) out) .texts) ≤ length (out .texts) + length txt
     go (bytes l) q room out = omega (arith, write-adds room (textEntry member l) l out, unescaped-shorter txt l q)
     go (bad at) q room out = omega arith
 
@@ -125,7 +127,7 @@ unfolding scalar
 scalar-adds member txt = record { most = go (unescaped txt) refl }
   where
     go : (o : Out) → unescaped txt ≡ o → (room : Room) (out : Output)
-        → length (output (readScalar room member (unescapedText o) out) .texts) ≤ length (out .texts) + length txt
+        → length (output (perform room (scalarPlan member (unescapedText o)) out) .texts) ≤ length (out .texts) + length txt
     go (bytes l) q room out = omega (arith, write-adds room (textEntry member l) l out, unescaped-shorter txt l q)
     go (bad at) q room out = omega (arith, write-adds room (failedEntry member Refusal.BadReference) [] out)
 

@@ -15,14 +15,14 @@ use Rattle.reference.specs.Result.{unescaped-shorter}
 use Rattle.reference.specs.declared.Unescaped.{Unescaped}
 use Rattle.unescape.specs.Loops.{sizeOf}
 use Rattle.unescape.specs.Fill.{Room}
-use Rattle.readings.specs.Output as def
 use Rattle.readings.specs.Output.{sixNumbers, textEntry, keyTextEntry, keyPieceEntry}
-use Rattle.readings.specs.Structure.{readScalar}
+use Rattle.readings.specs.Plan.{Plan, perform}
+use Rattle.readings.specs.Structure.{scalarPlan}
 use Rattle.document.specs.Text.{unescapedText}
 use Rattle.output.specs.declared.Written.{Written}
 use Rattle.output.specs.declared.Step.{Step}
 use Rattle.output.specs.declared.Six.{Six}
-use Rattle.output.specs.Steps.{entryOf, plainOf, entered, failed, writeOr, text, scalar, keyText, keyPiece}
+use Rattle.output.specs.Plans.{entryOf, plainOf, entered, failed, textOr, text, scalar, keyText, keyPiece}
 use Rattle.output.specs.Held.{Does, Enters, HasRoom, Ready, Comes}
 use Rattle.output.proofs.Room.{room-bytes, roomy-laws, stays, entered-none, entered-done, entry-as}
 
@@ -119,7 +119,7 @@ module _ {e t : List ℕ} {w : Written} {e′ t′ : List ℕ} {r : Step} where
   unfolding text entryOf
   as-text member {txt} c d =
       let l = plain txt in
-      subst (λ (o : Out). Does (λ (room : def.Room). writeOr room member (unescapedText o)) e t w e′ t′ r) (sym (c .is))
+      subst (λ (o : Out). Does (textOr member (unescapedText o)) e t w e′ t′ r) (sym (c .is))
       (entry-as (textEntry member l) l _ (rw (c .size)) (none-after l) d)
 
   pub as-key-piece : {key : List ℕ} {n : ℕ} (start len : ℕ) → Comes key n
@@ -145,22 +145,22 @@ ready-less q h = record { small = omega (arith, q .small) }
 pub ruleset kind-laws = (needs, comes-empty, ready-less, as-text, as-key-piece, as-key-text)
 
 module _ (member : ℕ) (txt : List ℕ) {e t : List ℕ} {w : Written} {e′ t′ : List ℕ} {r : Step} where
-  text-as : (o : Out) → unescaped txt ≡ o → Does (λ (room : def.Room). writeOr room member (unescapedText o)) e t w e′ t′ r
+  text-as : (o : Out) → unescaped txt ≡ o → Does (textOr member (unescapedText o)) e t w e′ t′ r
       → Does (text member txt) e t w e′ t′ r
   unfolding text
-  text-as o q d = subst (λ (o : Out). Does (λ (room : def.Room). writeOr room member (unescapedText o)) e t w e′ t′ r) (sym q) d
+  text-as o q d = subst (λ (o : Out). Does (textOr member (unescapedText o)) e t w e′ t′ r) (sym q) d
 
-  scalar-as : (o : Out) → unescaped txt ≡ o → Does (λ (room : def.Room). readScalar room member (unescapedText o)) e t w e′ t′ r
+  scalar-as : (o : Out) → unescaped txt ≡ o → Does (scalarPlan member (unescapedText o)) e t w e′ t′ r
       → Does (scalar member txt) e t w e′ t′ r
   unfolding scalar
-  scalar-as o q d = subst (λ (o : Out). Does (λ (room : def.Room). readScalar room member (unescapedText o)) e t w e′ t′ r) (sym q) d
+  scalar-as o q d = subst (λ (o : Out). Does (scalarPlan member (unescapedText o)) e t w e′ t′ r) (sym q) d
 
   pub scalar-measured : {y : Unescaped} {n : ℕ} → Does (text member txt) e t w e′ t′ r → y ≡ sizeOf (unescaped txt)
       → y ≡ Unescaped.Length n → Does (scalar member txt) e t w e′ t′ r
   unfolding text
   scalar-measured d m q =
       let c = comes-measured txt m q in
-      scalar-as _ (c .is) (subst (λ (o : Out). Does (λ (room : def.Room). writeOr room member (unescapedText o)) e t w e′ t′ r) (c .is) d)
+      scalar-as _ (c .is) (subst (λ (o : Out). Does (textOr member (unescapedText o)) e t w e′ t′ r) (c .is) d)
 
 module _ (member : ℕ) (txt : List ℕ) {y : Unescaped} (m : y ≡ sizeOf (unescaped txt)) where
   is-bad : y ≡ Unescaped.BadReference → (at : ℕ) × (unescaped txt ≡ bad at)
@@ -174,6 +174,7 @@ module _ (member : ℕ) (txt : List ℕ) {y : Unescaped} (m : y ≡ sizeOf (unes
   -- 7, or an entry that says so
   pub text-bad : (e t : List ℕ) (w : Written) → y ≡ Unescaped.BadReference
       → Does (text member txt) e t w e t (Step.Refused Refusal.BadReference w)
+  unfolding perform
   text-bad e t w d = text-as member txt (bad (is-bad d .0)) (is-bad d .1) (record { is = λ h. stays h })
 
   pub scalar-bad : {e : List ℕ} (t : List ℕ) {w : Written} {e′ : List ℕ} {r : Step} → Enters (failed member Refusal.BadReference) e w e′ r
@@ -183,13 +184,13 @@ module _ (member : ℕ) (txt : List ℕ) {y : Unescaped} (m : y ≡ sizeOf (unes
   scalar-bad t s d = scalar-as member txt (bad (is-bad d .0)) (is-bad d .1) (s .is t)
 
 -- measuring has no room to run out of
-pub measured-never : (step : def.Room → def.Output → def.Reading) {e t : List ℕ} {w : Written} {e′ t′ : List ℕ} {r : Step} (txt : List ℕ)
+pub measured-never : (plan : Plan) {e t : List ℕ} {w : Written} {e′ t′ : List ℕ} {r : Step} (txt : List ℕ)
     {y : Unescaped} → y ≡ sizeOf (unescaped txt)
-    → y ≡ Unescaped.NoRoom → Does step e t w e′ t′ r
+    → y ≡ Unescaped.NoRoom → Does plan e t w e′ t′ r
 unfolding sizeOf
-measured-never step {e} {t} {w} {e′} {t′} {r} txt m d = go (unescaped txt) (sym m ∙ d)
+measured-never plan {e} {t} {w} {e′} {t′} {r} txt m d = go (unescaped txt) (sym m ∙ d)
   where
-    go : (o : Out) → sizeOf o ≡ Unescaped.NoRoom → Does step e t w e′ t′ r
+    go : (o : Out) → sizeOf o ≡ Unescaped.NoRoom → Does plan e t w e′ t′ r
     go (bad at) a = let z : _≡_ {A = ℕ} 0 1 = cc in absurd (omega arith)
     go (bytes l) a = let z : _≡_ {A = ℕ} 0 1 = cc in absurd (omega arith)
 

@@ -1,50 +1,59 @@
--- Steps one after another: what is midway through a reading, and the whole from its steps.
+-- Plans one after another: what is midway through a plan, and the whole from its parts.
 use Prim.Native.Nat.{ℕ}
 use mathlib.Core.Path.{_≡_, refl, _∙_, ap}
 use mathlib.Core.Bool.{Bool, true, false}
 use mathlib.Core.List.{List, [], _∷_}
 use Rattle.refusal.specs.declared.Refusal.{Refusal}
-use Rattle.readings.specs.Output.{Room, Output, Reading, finished, output, andThen, each}
+use Rattle.readings.specs.Output.{Room, Output, Reading, finished, refused, output}
+use Rattle.readings.specs.Plan.{Plan, end, perform, followedBy, oneByOne, endTest, Whole, withoutGroups, thenGroups}
+use Rattle.readings.proofs.Plans.Perform.{andThen, perform-followed}
 use Rattle.output.specs.declared.Written.{Written}
 use Rattle.output.specs.declared.Step.{Step}
-use Rattle.output.specs.Steps.{eachOf, tested}
-use Rattle.output.specs.Held.{roomOf, Holds, Ends, Does}
+use Rattle.output.specs.Held.{roomOf, Holds, Ends, Does, DoesWhole}
 
 -- an output that the buffers hold, from which the rest gives the whole
-pub record Reached (x : Reading) (rest : Output → Reading) (e0 t0 e t : List ℕ) (w : Written) : Type 0 where
+pub record Reached (x : Reading) (rest : Plan) (e0 t0 e t : List ℕ) (w : Written) : Type 0 where
   pub out : Output
   pub holds : Holds out e0 t0 e t w
-  pub goes : x ≡ rest out
+  pub goes : x ≡ perform (roomOf e0 t0) rest out
 
 -- midway: whatever the buffers held at first, they hold now what is written so far, and the rest is still to be done
-pub record Midway (whole rest : Room → Output → Reading) (e t : List ℕ) (w : Written) (e′ t′ : List ℕ) (w′ : Written) : Type 0 where
-  pub is : {e0 t0 : List ℕ} {out : Output} → Holds out e0 t0 e t w → Reached (whole (roomOf e0 t0) out) (rest (roomOf e0 t0)) e0 t0 e′ t′ w′
+pub record Midway (whole rest : Plan) (e t : List ℕ) (w : Written) (e′ t′ : List ℕ) (w′ : Written) : Type 0 where
+  pub is : {e0 t0 : List ℕ} {out : Output} → Holds out e0 t0 e t w → Reached (perform (roomOf e0 t0) whole out) rest e0 t0 e′ t′ w′
 
-pub midway-start : (f : Room → Output → Reading) (e t : List ℕ) (w : Written) → Midway f f e t w e t w
-midway-start f e t w = record { is = λ h. record { out = _; holds = h; goes = refl } }
+pub midway-start : (p : Plan) (e t : List ℕ) (w : Written) → Midway p p e t w e t w
+midway-start p e t w = record { is = λ h. record { out = _; holds = h; goes = refl } }
 
 pub ends-as : {x y : Reading} {e0 t0 e t : List ℕ} {r : Step} → x ≡ y → Ends y e0 t0 e t r → Ends x e0 t0 e t r
 ends-as p d = rw p d
 
-module _ {whole rest : Room → Output → Reading} {e t : List ℕ} {w : Written} {e₁ t₁ : List ℕ} {w₁ : Written}
-    (m : Midway whole rest e t w e₁ t₁ w₁) where
-  -- the rest is one step
+-- a plan that is another
+pub does-as : {f g : Plan} {e t : List ℕ} {w : Written} {e′ t′ : List ℕ} {r : Step} → f ≡ g → Does g e t w e′ t′ r → Does f e t w e′ t′ r
+does-as p d = rw p d
+
+-- one that begins with a plan
+begun : (room : Room) {rest : Plan} (step more : Plan) (out : Output) {x : Reading} → rest ≡ followedBy step more → perform room step out ≡ x
+    → perform room rest out ≡ andThen x (perform room more)
+begun room step more out p q =
+    ap (λ (z : Plan). perform room z out) p ∙ (perform-followed room step more out ∙ ap (λ (y : Reading). andThen y (perform room more)) q)
+
+module _ {whole rest : Plan} {e t : List ℕ} {w : Written} {e₁ t₁ : List ℕ} {w₁ : Written} (m : Midway whole rest e t w e₁ t₁ w₁) where
+  -- the rest is one plan
   pub midway-last : {e₂ t₂ : List ℕ} {r : Step} → Does rest e₁ t₁ w₁ e₂ t₂ r → Does whole e t w e₂ t₂ r
   midway-last d = record { is = λ h. let x = m .is h in ends-as (x .goes) (d .is (x .holds)) }
 
   -- the rest is nothing
-  pub midway-ends : ((room : Room) (out : Output) → rest room out ≡ finished out) → Does whole e t w e₁ t₁ (Step.Done w₁)
-  midway-ends f =
+  pub midway-ends : rest ≡ end → Does whole e t w e₁ t₁ (Step.Done w₁)
+  unfolding perform
+  midway-ends p =
       record {
         is = λ {e0} {t0} h.
             let x = m .is h in
-            ends-as (x .goes ∙ f (roomOf e0 t0) (x .out)) (record { is = refl; holds = x .holds });
+            ends-as (x .goes ∙ ap (λ (z : Plan). perform (roomOf e0 t0) z (x .out)) p) (record { is = refl; holds = x .holds });
       }
 
-  -- the rest begins with a step
-  module _ {step : Room → Output → Reading} (more : Room → Output → Reading)
-      (begins : (room : Room) (out : Output) → rest room out ≡ andThen (step room out) (more room))
-      {e₂ t₂ : List ℕ} {r : Step} (d : Does step e₁ t₁ w₁ e₂ t₂ r) where
+  -- the rest begins with a plan
+  module _ {step : Plan} (more : Plan) (begins : rest ≡ followedBy step more) {e₂ t₂ : List ℕ} {r : Step} (d : Does step e₁ t₁ w₁ e₂ t₂ r) where
     pub midway-goes : {w₂ : Written} → r ≡ Step.Done w₂ → Midway whole more e t w e₂ t₂ w₂
     midway-goes {w₂} q =
         record {
@@ -52,12 +61,7 @@ module _ {whole rest : Room → Output → Reading} {e t : List ℕ} {w : Writte
               let room = roomOf e0 t0 in
               let x = m .is h in
               let y = rw q at (d .is (x .holds)) in
-              let o = output (step room (x .out)) in
-              record {
-                out = o;
-                holds = y .holds;
-                goes = x .goes ∙ begins room (x .out) ∙ ap (λ (z : Reading). andThen z (more room)) (y .is);
-              };
+              record { out = output (perform room step (x .out)); holds = y .holds; goes = x .goes ∙ begun room step more (x .out) begins (y .is) };
         }
 
     pub midway-stops : {why : Refusal} {w₂ : Written} → r ≡ Step.Refused why w₂ → Does whole e t w e₂ t₂ (Step.Refused why w₂)
@@ -67,39 +71,65 @@ module _ {whole rest : Room → Output → Reading} {e t : List ℕ} {w : Writte
               let room = roomOf e0 t0 in
               let x = m .is h in
               let y = rw q at (d .is (x .holds)) in
-              ends-as (x .goes ∙ begins room (x .out) ∙ ap (λ (z : Reading). andThen z (more room)) (y .is))
-              (record { is = refl; holds = y .holds });
+              ends-as (x .goes ∙ begun room step more (x .out) begins (y .is)) (record { is = refl; holds = y .holds });
         }
-
--- a step that is another
-pub does-as : {f g : Room → Output → Reading} {e t : List ℕ} {w : Written} {e′ t′ : List ℕ} {r : Step}
-    → ((room : Room) (out : Output) → f room out ≡ g room out)
-    → Does g e t w e′ t′ r → Does f e t w e′ t′ r
-does-as p d = record { is = λ {e0} {t0} {out} h. ends-as (p (roomOf e0 t0) out) (d .is h) }
 
 -- the test at the end
 module _ (e t : List ℕ) (w : Written) where
-  pub tested-well : {ill : Bool} → ill ≡ false → Does (tested ill) e t w e t (Step.Done w)
-  unfolding tested
+  pub tested-well : {ill : Bool} → ill ≡ false → Does (endTest ill) e t w e t (Step.Done w)
+  unfolding perform
   tested-well q = rw q (record { is = λ h. record { is = refl; holds = h } })
 
-  pub tested-ill : {ill : Bool} → ill ≡ true → Does (tested ill) e t w e t (Step.Refused Refusal.IllFormed w)
-  unfolding tested
+  pub tested-ill : {ill : Bool} → ill ≡ true → Does (endTest ill) e t w e t (Step.Refused Refusal.IllFormed w)
+  unfolding perform
   tested-ill q = rw q (record { is = λ h. record { is = refl; holds = h } })
 
 -- ---- one after another, over a list
-module _ {A : Type 0} (f : A → Room → Output → Reading) {whole : Room → Output → Reading} {e t : List ℕ} {w : Written} {e₁ t₁ : List ℕ}
-    {w₁ : Written} where
-  pub each-ends : Midway whole (eachOf f []) e t w e₁ t₁ w₁ → Does whole e t w e₁ t₁ (Step.Done w₁)
-  unfolding eachOf each
-  each-ends m = midway-ends m (λ room out. refl)
+module _ {A : Type 0} (f : A → Plan) {whole : Plan} {e t : List ℕ} {w : Written} {e₁ t₁ : List ℕ} {w₁ : Written} where
+  pub each-ends : Midway whole (oneByOne f []) e t w e₁ t₁ w₁ → Does whole e t w e₁ t₁ (Step.Done w₁)
+  unfolding oneByOne
+  each-ends m = midway-ends m refl
 
-  module _ (a : A) (l : List A) (m : Midway whole (eachOf f (a ∷ l)) e t w e₁ t₁ w₁) {e₂ t₂ : List ℕ} {r : Step}
+  module _ (a : A) (l : List A) (m : Midway whole (oneByOne f (a ∷ l)) e t w e₁ t₁ w₁) {e₂ t₂ : List ℕ} {r : Step}
       (d : Does (f a) e₁ t₁ w₁ e₂ t₂ r) where
-    pub each-goes : {w₂ : Written} → r ≡ Step.Done w₂ → Midway whole (eachOf f l) e t w e₂ t₂ w₂
-    unfolding eachOf each
-    each-goes q = midway-goes m (eachOf f l) (λ room out. refl) d q
+    pub each-goes : {w₂ : Written} → r ≡ Step.Done w₂ → Midway whole (oneByOne f l) e t w e₂ t₂ w₂
+    unfolding oneByOne
+    each-goes q = midway-goes m (oneByOne f l) refl d q
 
     pub each-stops : {why : Refusal} {w₂ : Written} → r ≡ Step.Refused why w₂ → Does whole e t w e₂ t₂ (Step.Refused why w₂)
-    unfolding eachOf each
-    each-stops q = midway-stops m (eachOf f l) (λ room out. refl) d q
+    unfolding oneByOne
+    each-stops q = midway-stops m (oneByOne f l) refl d q
+
+-- ---- with groups
+pub whole-as : {f g : Whole} {e t : List ℕ} {w : Written} {e′ t′ : List ℕ} {r : Step} → f ≡ g → DoesWhole g e t w e′ t′ r → DoesWhole f e t w e′ t′ r
+whole-as p d = rw p d
+
+-- a plan without any
+pub alone-does : {p : Plan} {e t : List ℕ} {w : Written} {e′ t′ : List ℕ} {r : Step} → Does p e t w e′ t′ r → DoesWhole (withoutGroups p) e t w e′ t′ r
+unfolding perform
+alone-does {p} d = record { is = λ {e0} {t0} {out} h. ends-as (same e0 t0 (perform (roomOf e0 t0) p out)) (d .is h) }
+  where
+    same : (e0 t0 : List ℕ) (x : Reading) → thenGroups (roomOf e0 t0) end x ≡ x
+    same e0 t0 (finished out) = refl
+    same e0 t0 (refused why out) = refl
+
+-- one that begins with a plan
+module _ {step : Plan} (more groups : Plan) {e t : List ℕ} {w : Written} {e₁ t₁ : List ℕ} {r : Step} (d : Does step e t w e₁ t₁ r) where
+  pub whole-goes : {w₁ : Written} {e₂ t₂ : List ℕ} {last : Step} → r ≡ Step.Done w₁ → DoesWhole (record { asMet = more; groups = groups }) e₁ t₁ w₁ e₂ t₂ last
+      → DoesWhole (record { asMet = followedBy step more; groups = groups }) e t w e₂ t₂ last
+  whole-goes q d′ =
+      record {
+        is = λ {e0} {t0} {out} h.
+            let room = roomOf e0 t0 in
+            let y = rw q at (d .is h) in
+            ends-as (ap (thenGroups room groups) (begun room step more out refl (y .is))) (d′ .is (y .holds));
+      }
+
+  pub whole-stops : {why : Refusal} {w₁ : Written} → r ≡ Step.Refused why w₁ → DoesWhole (record { asMet = followedBy step more; groups = groups }) e t w e₁ t₁ (Step.Refused why w₁)
+  whole-stops q =
+      record {
+        is = λ {e0} {t0} {out} h.
+            let room = roomOf e0 t0 in
+            let y = rw q at (d .is h) in
+            ends-as (ap (thenGroups room groups) (begun room step more out refl (y .is))) (record { is = refl; holds = y .holds });
+      }

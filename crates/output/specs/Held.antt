@@ -1,4 +1,4 @@
--- What the lent buffers hold: what was written at the front, all else as before. And what a step of a reading leaves in them.
+-- What the lent buffers hold: what was written at the front, all else as before. And what a plan that is performed leaves in them.
 use Prim.Native.Nat.{ℕ, _+_, _*_, _/_, _^_, _≤_, _<_}
 use mathlib.Core.Path.{_≡_}
 use mathlib.Core.Bool.{Bool, false}
@@ -9,9 +9,10 @@ use Rattle.lists.specs.Tests.{pick}
 use Rattle.lists.specs.Overwrite.{overwritten}
 use Rattle.reference.specs.Text.{bytes, unescaped}
 use Rattle.readings.specs.Output.{Room, Output, Reading, finished, refused, output, numbersOf}
+use Rattle.readings.specs.Plan.{Plan, perform, Whole, thenGroups}
 use Rattle.output.specs.declared.Written.{Written}
 use Rattle.output.specs.declared.Step.{Step}
-use Rattle.output.specs.Steps.{plainOf}
+use Rattle.output.specs.Plans.{plainOf}
 
 -- the room of two buffers
 abbrev pub roomOf : List ℕ → List ℕ → Room
@@ -42,13 +43,18 @@ pub record Ends (x : Reading) (e0 t0 e t : List ℕ) (r : Step) : Type 0 where
   pub holds : Holds (output x) e0 t0 e t (writtenOf r)
 
 -- THE PROMISE of a function that writes: whatever the buffers held at first, if they hold an output as it is called, they end as the
--- definition's step from that output ends
-pub record Does (step : Room → Output → Reading) (e t : List ℕ) (w : Written) (e′ t′ : List ℕ) (r : Step) : Type 0 where
-  pub is : {e0 t0 : List ℕ} {out : Output} → Holds out e0 t0 e t w → Ends (step (roomOf e0 t0) out) e0 t0 e′ t′ r
+-- definition's plan ends that is performed from that output on
+pub record Does (plan : Plan) (e t : List ℕ) (w : Written) (e′ t′ : List ℕ) (r : Step) : Type 0 where
+  pub is : {e0 t0 : List ℕ} {out : Output} → Holds out e0 t0 e t w → Ends (perform (roomOf e0 t0) plan out) e0 t0 e′ t′ r
+
+-- the same of a plan with its groups
+pub record DoesWhole (whole : Whole) (e t : List ℕ) (w : Written) (e′ t′ : List ℕ) (r : Step) : Type 0 where
+  pub is : {e0 t0 : List ℕ} {out : Output} → Holds out e0 t0 e t w
+      → Ends (thenGroups (roomOf e0 t0) (whole .groups) (perform (roomOf e0 t0) (whole .asMet) out)) e0 t0 e′ t′ r
 
 -- the promise of a function that is not lent the texts, whatever they are
-pub record Enters (step : Room → Output → Reading) (e : List ℕ) (w : Written) (e′ : List ℕ) (r : Step) : Type 0 where
-  pub is : (t : List ℕ) → Does step e t w e′ t r
+pub record Enters (plan : Plan) (e : List ℕ) (w : Written) (e′ : List ℕ) (r : Step) : Type 0 where
+  pub is : (t : List ℕ) → Does plan e t w e′ t r
 
 -- ---- what a function that writes asks
 -- `fits`, in numbers: whether an entry and n text bytes more fit into buffers of these lengths
@@ -67,12 +73,12 @@ pub record Comes (txt : List ℕ) (n : ℕ) : Type 0 where
   pub is : unescaped txt ≡ bytes (plainOf (unescaped txt))
   pub size : n ≡ length (plainOf (unescaped txt))
 
--- ---- what a function over many steps asks and promises of the numbers alone
+-- ---- what a function over many entries asks and promises of the numbers alone
 -- what is counted lies in the buffers
 pub record Sound (e t : List ℕ) (w : Written) : Type 0 where
   pub entries : w .count * 6 ≤ length e
   pub texts : w .used ≤ length t
 
--- how many text bytes a step adds at most
-pub record Adds (step : Room → Output → Reading) (n : ℕ) : Type 0 where
-  pub most : (room : Room) (out : Output) → length (output (step room out) .texts) ≤ length (out .texts) + n
+-- how many text bytes a plan adds at most
+pub record Adds (plan : Plan) (n : ℕ) : Type 0 where
+  pub most : (room : Room) (out : Output) → length (output (perform room plan out) .texts) ≤ length (out .texts) + n

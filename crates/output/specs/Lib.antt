@@ -1,4 +1,4 @@
-pub mod Steps
+pub mod Plans
 pub mod Held
 pub mod Call
 pub mod Kept

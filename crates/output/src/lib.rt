@@ -9,7 +9,7 @@ ghost use lib.Seq.{sets};
 ghost use Rattle.lists.specs.Overwrite.{Stored};
 ghost use Rattle.reference.specs.Text.{unescaped};
 ghost use Rattle.readings.specs.Output.{sixNumbers};
-ghost use Rattle.output.specs.Steps.{entryOf, plainOf, entered, piece, failed, text, scalar, keyText, keyPiece, group};
+ghost use Rattle.output.specs.Plans.{entryOf, plainOf, entered, piece, failed, text, scalar, keyText, keyPiece, group};
 ghost use Rattle.output.specs.Held.{HasRoom, Does, Enters, Comes, Ready};
 ghost use Rattle.output.specs.Kept.{isKept, GroupLen, keptBytes, flat, Inside, Wide};
 use reference::Unescaped;

@@ -13,6 +13,7 @@ use Rattle.table.specs.Row.{rowsOf, toksOf}
 use Rattle.table.specs.Test.{decTable}
 use Rattle.document.specs.View.{View, view}
 use Rattle.document.specs.Scope.{Child, rootOf, childrenOf, Piece, pieceOf}
+use Rattle.readings.specs.Call.{Upload}
 use Rattle.readings.specs.Opening.{withTable, present}
 
 abbrev pub hasLocal : List ℕ → Child → Bool
@@ -35,12 +36,12 @@ findIn body v name root =
     pick (hasLocal name root) (gives (wholeBody body)) inside
 
 -- "Find. Lenient." .. "1 or 13 (13 also without a root)"
-unfoldable pub find : List ℕ → List ℕ → ℕ → List ℕ → Answer Piece
+unfoldable pub find : Upload → List ℕ → Answer Piece
 unfolding decTable view rootOf findIn
-find body table final name =
-    let v = view false body (rowsOf table) final in
-    withTable (decTable body table final)
-    (onward (present Refusal.NoSuchElement (rootOf (toksOf body (v .rows)))) (findIn body v name))
+find u name =
+    let v = view false (u .body) (rowsOf (u .rows)) (u .end) in
+    withTable (decTable (u .body) (u .rows) (u .end))
+    (onward (present Refusal.NoSuchElement (rootOf (toksOf (u .body) (v .rows)))) (findIn (u .body) v name))
 
 -- "It answers a part of the body": "An empty part means 1 or 13"
 abbrev pub partOf : Answer Piece → Piece

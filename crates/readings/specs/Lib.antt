@@ -1,11 +1,10 @@
+pub mod Call
 pub mod Output
+pub mod Plan
 pub mod Opening
 pub mod Structure
 pub mod Collection
 pub mod Scalar
 pub mod Find
-pub mod All
-pub mod Laws
-pub mod Conditions
+pub mod Shape
 pub mod Demand
-pub mod Examples

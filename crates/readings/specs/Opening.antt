@@ -11,7 +11,7 @@ use Rattle.document.specs.View.{View, view}
 use Rattle.document.specs.Scope.{Child, rootOf}
 use Rattle.sheet.specs.declared.ShapeDepth.{ShapeDepth}
 use Rattle.sheet.specs.Settings.{Settings, isStrict, tooDeep}
-use Rattle.readings.specs.Output.{Output, nothing, Reading, finished, refused, andThen, each}
+use Rattle.readings.specs.Call.{Upload}
 
 -- "1 table", by a decision of the rules
 abbrev pub withTable : {A P : Type 0} → Dec P → Answer A → Answer A
@@ -38,9 +38,10 @@ abbrev pub rooted : List ℕ → View → Answer Opened
 rooted body v = onward (present Refusal.NoRoot (rootOf (toksOf body (v .rows)))) (λ (c : Child). gives (record { seen = v; root = c }))
 
 -- "Scalar. 1, 4"
-unfoldable pub opened : Bool → List ℕ → List ℕ → ℕ → Answer Opened
+unfoldable pub opened : Bool → Upload → Answer Opened
 unfolding decTable view rootOf
-opened strict body table final = withTable (decTable body table final) (rooted body (view strict body (rowsOf table) final))
+opened strict u =
+    withTable (decTable (u .body) (u .rows) (u .end)) (rooted (u .body) (view strict (u .body) (rowsOf (u .rows)) (u .end)))
 
 -- a sheet beside it
 pub record Asked (S : Type 0) : Type 0 where
@@ -48,24 +49,16 @@ pub record Asked (S : Type 0) : Type 0 where
   pub opened : Opened
 
 -- "1, 2, 3, 4"
-unfoldable pub asked : {S : Type 0} → List ℕ → List ℕ → ℕ → Option S → Settings → ShapeDepth → Answer (Asked S)
+unfoldable pub asked : {S : Type 0} → Upload → Option S → Settings → ShapeDepth → Answer (Asked S)
 unfolding decTable view rootOf
-asked {S} body table final sheet settings depth =
-    withTable (decTable body table final)
+asked {S} u sheet settings depth =
+    withTable (decTable (u .body) (u .rows) (u .end))
     (onward (present Refusal.Sheet sheet) (λ (s : S).
     withDepth (tooDeep settings depth)
-    (onward (rooted body (view (isStrict settings depth) body (rowsOf table) final)) (λ (o : Opened). gives (record { sheet = s; opened = o })))))
+    (onward (rooted (u .body) (view (isStrict settings depth) (u .body) (rowsOf (u .rows)) (u .end)))
+    (λ (o : Opened). gives (record { sheet = s; opened = o })))))
 
--- a reading that goes on with what it asked; a refusal so early has written nothing
-abbrev pub reading : {A : Type 0} → Answer A → (A → Reading) → Reading
-reading (gives a) f = f a
-reading (refuses r) f = refused r nothing
-
--- "9 after the children", "9 last": a strict reading of an ill-formed body is refused
-abbrev pub endTest : Bool → Output → Reading
-endTest true out = refused Refusal.IllFormed out
-endTest false out = finished out
-
--- a collection: its children one after another, and "9 last"
-abbrev pub readAll : {A : Type 0} → View → (A → Output → Reading) → List A → Reading
-readAll v read l = andThen (each read l nothing) (endTest (v .illFormed))
+-- what is planned with what was asked, or with the refusal
+abbrev pub asking : {A B : Type 0} → Answer A → (A → B) → (Refusal → B) → B
+asking (gives a) f g = f a
+asking (refuses r) f g = g r

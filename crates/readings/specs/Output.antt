@@ -54,10 +54,6 @@ abbrev pub output : Reading → Output
 output (finished out) = out
 output (refused r out) = out
 
-abbrev pub andThen : Reading → (Output → Reading) → Reading
-andThen (finished out) f = f out
-andThen (refused r out) f = refused r out
-
 -- ---- what is told of a reading: its number, 0 where it finished; the entries, counted, as six numbers each; and the text bytes
 abbrev pub sixNumbers : Entry → List ℕ
 sixNumbers e = e .kind ∷ e .member ∷ e .keyStart ∷ e .keyLen ∷ e .start ∷ e .len ∷ []
@@ -79,21 +75,13 @@ outcome (refused r out) = number r
 abbrev pub told : Reading → Told
 told r = record { number = outcome r; count = length (output r .entries); entries = numbersOf (output r .entries); texts = output r .texts }
 
--- one after another, to the first refusal
-unfoldable pub each : {A : Type 0} → (A → Output → Reading) → List A → Output → Reading
-each f [] out = finished out
-each f (x ∷ l) out = andThen (f x out) (each f l)
-
--- ---- "An entry and its text are written only if both fit; else 10."
+-- ---- "An entry and its text are written only if both fit"
 abbrev pub fits : Room → List ℕ → Output → Bool
 fits room bytes out = pick (ltb (length (out .entries)) (room .entries)) (leb (length (out .texts) + length bytes) (room .bytes)) false
 
 -- an entry more, made with the place where its bytes begin in the text buffer, and its bytes
 abbrev pub written : (ℕ → Entry) → List ℕ → Output → Output
 written entry bytes out = record { entries = out .entries ++ entry (length (out .texts)) ∷ []; texts = out .texts ++ bytes }
-
-abbrev pub write : Room → (ℕ → Entry) → List ℕ → Output → Reading
-write room entry bytes out = pick (fits room bytes out) (finished (written entry bytes out)) (refused Refusal.NoRoom out)
 
 -- ---- the entries of each kind, made with the place where their bytes begin in the text buffer
 -- an entry outside maps
@@ -120,22 +108,3 @@ keyTextEntry key bytes at =
 abbrev pub keyPieceEntry : List ℕ → Piece → ℕ → Entry
 keyPieceEntry key piece at =
     record { kind = pieceKind; member = 0; keyStart = at; keyLen = length key; start = piece .start; len = piece .len }
-
--- ---- writing them
-abbrev pub writeText : Room → ℕ → List ℕ → Output → Reading
-writeText room member bytes = write room (textEntry member bytes) bytes
-
-abbrev pub writePiece : Room → ℕ → Piece → Output → Reading
-writePiece room member piece = write room (pieceEntry member piece) []
-
-abbrev pub writeGroup : Room → ℕ → List ℕ → Output → Reading
-writeGroup room member bytes = write room (groupEntry member bytes) bytes
-
-abbrev pub writeFailed : Room → ℕ → Refusal → Output → Reading
-writeFailed room member refusal = write room (failedEntry member refusal) []
-
-abbrev pub writeKeyText : Room → List ℕ → List ℕ → Output → Reading
-writeKeyText room key bytes = write room (keyTextEntry key bytes) (key ++ bytes)
-
-abbrev pub writeKeyPiece : Room → List ℕ → Piece → Output → Reading
-writeKeyPiece room key piece = write room (keyPieceEntry key piece) key

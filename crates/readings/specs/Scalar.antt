@@ -19,6 +19,7 @@ use Rattle.document.specs.Scope.{Child, rootOf}
 use Rattle.document.specs.Text.{textOf, wholeOf}
 use Rattle.sheet.specs.declared.ShapeDepth.{ShapeDepth}
 use Rattle.sheet.specs.Settings.{Settings, isStrict}
+use Rattle.readings.specs.Call.{Upload}
 use Rattle.readings.specs.Opening.{Opened, opened, present}
 
 -- ---- from a text: "A text taken from an entry is read by the same rules, with 10, 11 or 12 alone."
@@ -65,24 +66,24 @@ unlessIllFormed true a = refuses Refusal.IllFormed
 unlessIllFormed false a = gives a
 
 -- `take_text`: "1, 4; 6 to 9 as met; 9 after the rest"
-unfoldable pub scalarText : List ℕ → List ℕ → ℕ → Settings → ShapeDepth → Answer (List ℕ)
+unfoldable pub scalarText : Upload → Settings → ShapeDepth → Answer (List ℕ)
 unfolding opened textOf
-scalarText body table final settings depth =
-    onward (opened (isStrict settings depth) body table final) (λ (o : Opened).
+scalarText u settings depth =
+    onward (opened (isStrict settings depth) u) (λ (o : Opened).
     onward (textOf (o .seen .failure) (o .root)) (unlessIllFormed (o .seen .illFormed)))
 
 -- "10 for a string; 11 or 12"
-unfoldable pub booleanReading : List ℕ → List ℕ → ℕ → Settings → ShapeDepth → Answer Bool
+unfoldable pub booleanReading : Upload → Settings → ShapeDepth → Answer Bool
 unfolding scalarText booleanOf
-booleanReading body table final settings depth = onward (scalarText body table final settings depth) booleanOf
+booleanReading u settings depth = onward (scalarText u settings depth) booleanOf
 
-unfoldable pub integerReading : List ℕ → List ℕ → ℕ → Settings → ShapeDepth → Answer ℤ
+unfoldable pub integerReading : Upload → Settings → ShapeDepth → Answer ℤ
 unfolding scalarText integerOf
-integerReading body table final settings depth = onward (scalarText body table final settings depth) integerOf
+integerReading u settings depth = onward (scalarText u settings depth) integerOf
 
-unfoldable pub stringReading : List ℕ → List ℕ → ℕ → Settings → ShapeDepth → ℕ → Answer (List ℕ)
+unfoldable pub stringReading : Upload → Settings → ShapeDepth → ℕ → Answer (List ℕ)
 unfolding scalarText stringIn
-stringReading body table final settings depth room = onward (scalarText body table final settings depth) (stringIn room)
+stringReading u settings depth room = onward (scalarText u settings depth) (stringIn room)
 
 -- ---- "Whole text (added, no Rust reference). 1, 9, 4, 6 (any element inside the root), 10, nothing written then."
 abbrev pub passing : {A : Type 0} → Drained → Answer A → Answer A
@@ -90,8 +91,8 @@ passing Drained.Passes a = a
 passing Drained.Table a = refuses Refusal.Table
 passing (Drained.IllFormed row cause) a = refuses Refusal.IllFormed
 
-unfoldable pub wholeText : List ℕ → List ℕ → ℕ → ℕ → Answer (List ℕ)
+unfoldable pub wholeText : Upload → ℕ → Answer (List ℕ)
 unfolding drained rootOf wholeOf stringIn
-wholeText body table final room =
-    passing (drained body table final)
-    (onward (present Refusal.NoRoot (rootOf (toksOf body (rowsOf table)))) (λ (c : Child). onward (wholeOf c) (stringIn room)))
+wholeText u room =
+    passing (drained (u .body) (u .rows) (u .end))
+    (onward (present Refusal.NoRoot (rootOf (toksOf (u .body) (rowsOf (u .rows))))) (λ (c : Child). onward (wholeOf c) (stringIn room)))

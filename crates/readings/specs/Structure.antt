@@ -23,8 +23,10 @@ use Rattle.sheet.specs.declared.ShapeDepth.{ShapeDepth}
 use Rattle.sheet.specs.Settings.{Settings, testsRootName}
 use Rattle.sheet.specs.Sheet.{Structure, structureOf}
 use Rattle.sheet.specs.Names.{rootName, attributeName, Indexed, indexed, firstNamed, membersOf, resolve}
-use Rattle.readings.specs.Output.{Room, Output, nothing, Reading, finished, refused, andThen, each, writeText, writePiece, writeGroup, writeFailed}
-use Rattle.readings.specs.Opening.{Opened, Asked, asked, reading, endTest}
+use Rattle.readings.specs.Call.{Upload, Call}
+use Rattle.readings.specs.Output.{Room, Reading, textEntry, pieceEntry, groupEntry, failedEntry}
+use Rattle.readings.specs.Plan.{Plan, end, stop, one, followedBy, oneByOne, endTest, Whole, withoutGroups, performed}
+use Rattle.readings.specs.Opening.{Opened, Asked, asked, asking}
 
 -- ---- "attribute members in sheet order"
 -- `StartEl::attr`: the first attribute whose name matches
@@ -32,34 +34,34 @@ unfoldable pub attributeOf : List Attribute → List ℕ → Option (List ℕ)
 attributeOf [] key = none
 attributeOf (a ∷ rest) key = pick (nameMatches (a .name) key) (some (a .value)) (attributeOf rest key)
 
-abbrev pub writeFound : Room → ℕ → Option (List ℕ) → Output → Reading
-writeFound room index none out = finished out
-writeFound room index (some v) out = writeText room index v out
+abbrev pub foundPlan : ℕ → Option (List ℕ) → Plan
+foundPlan index none = end
+foundPlan index (some v) = one (textEntry index v) v
 
 -- an attribute member's text; other members have none here
-unfoldable pub readAttribute : Room → List Attribute → Indexed → Output → Reading
+unfoldable pub attributePlan : List Attribute → Indexed → Plan
 unfolding attributeOf
-readAttribute room attributes m out =
-    let written = writeFound room (m .index) (attributeOf attributes (attributeName (m .member))) out in
-    pick (m .member .attribute) written (finished out)
+attributePlan attributes m =
+    let found = foundPlan (m .index) (attributeOf attributes (attributeName (m .member))) in
+    pick (m .member .attribute) found end
 
 -- ---- "then children in body order"
 -- "A scalar that fails is an entry of kind 4."
-abbrev pub readScalar : Room → ℕ → Answer (List ℕ) → Output → Reading
-readScalar room index (gives bytes) out = writeText room index bytes out
-readScalar room index (refuses r) out = writeFailed room index r out
+abbrev pub scalarPlan : ℕ → Answer (List ℕ) → Plan
+scalarPlan index (gives bytes) = one (textEntry index bytes) bytes
+scalarPlan index (refuses r) = one (failedEntry index r) []
 
 -- a child by the member that its local name resolves to: a text, a piece, or kept for its group
-abbrev pub readMember : List ℕ → View → Room → Child → Option Indexed → Output → Reading
-readMember body v room c none out = finished out
-readMember body v room c (some m) out =
-    let piece = writePiece room (m .index) (pieceOf body v c) out in
-    let text = readScalar room (m .index) (textOf (v .failure) c) out in
-    pick (m .member .aggregate) (pick (m .member .flattened) (finished out) piece) text
+abbrev pub memberPlan : List ℕ → View → Child → Option Indexed → Plan
+memberPlan body v c none = end
+memberPlan body v c (some m) =
+    let piece = one (pieceEntry (m .index) (pieceOf body v c)) [] in
+    let text = scalarPlan (m .index) (textOf (v .failure) c) in
+    pick (m .member .aggregate) (pick (m .member .flattened) end piece) text
 
-unfoldable pub readChild : List ℕ → View → Structure → Room → Child → Output → Reading
+unfoldable pub childPlan : List ℕ → View → Structure → Child → Plan
 unfolding firstNamed indexed pieceOf textOf
-readChild body v s room c out = readMember body v room c (resolve s (c .start .name .local)) out
+childPlan body v s c = memberPlan body v c (resolve s (c .start .name .local))
 
 -- ---- "then the groups, in an order left open"
 -- the member that a child is kept for
@@ -90,15 +92,9 @@ unfoldable pub groupOf : List ℕ → View → Structure → List Child → ℕ 
 unfolding siblings
 groupOf body v s children i = ascii "<__flat>" ++ (siblings body v s i children ++ ascii "</__flat>")
 
--- "if all groups together do not fit, 10 and none is written"
-abbrev pub allOrNone : Output → Reading → Reading
-allOrNone before (finished out) = finished out
-allOrNone before (refused r out) = refused r before
-
-unfoldable pub readGroups : List ℕ → View → Structure → List Child → Room → List ℕ → Output → Reading
-unfolding groupOf each
-readGroups body v s children room order out =
-    allOrNone out (each (λ (i : ℕ). writeGroup room i (groupOf body v s children i)) order out)
+unfoldable pub groupPlan : List ℕ → View → Structure → List Child → ℕ → Plan
+unfolding groupOf
+groupPlan body v s children i = let bytes = groupOf body v s children i in one (groupEntry i bytes) bytes
 
 -- an order of the groups: each member that has siblings comes once, and no other does
 pub data Once {A : Type 0} : List A → Type 0 where
@@ -111,14 +107,16 @@ pub record GroupOrder (s : Structure) (children : List Child) (order : List ℕ)
 
 -- ---- the whole
 -- attributes, children, 9, groups
-unfoldable pub readMembers : List ℕ → Structure → Room → List ℕ → Opened → Reading
-unfolding each readAttribute readChild readGroups childrenOf
-readMembers body s room order o =
+unfoldable pub membersPlan : List ℕ → Structure → List ℕ → Opened → Whole
+unfolding oneByOne followedBy attributePlan childPlan groupPlan childrenOf
+membersPlan body s order o =
     let kids = childrenOf (o .root) in
-    andThen (each (readAttribute room (o .root .start .attributes)) (membersOf s) nothing) (λ (out : Output).
-    andThen (each (readChild body (o .seen) s room) kids out) (λ (out : Output).
-    andThen (endTest (o .seen .illFormed) out)
-    (readGroups body (o .seen) s kids room order)))
+    let attributes = oneByOne (attributePlan (o .root .start .attributes)) (membersOf s) in
+    let children = oneByOne (childPlan body (o .seen) s) kids in
+    record {
+      asMet = followedBy attributes (followedBy children (endTest (o .seen .illFormed)));
+      groups = oneByOne (groupPlan body (o .seen) s kids) order;
+    }
 
 -- the root element by its rows: to the row that closes it, whatever its name; to the end of the view where none does
 unfoldable pub rootPiece : List ℕ → Opened → Piece
@@ -127,38 +125,43 @@ rootPiece body o =
     let rows = drop (o .root .start .row) (o .seen .rows) in
     pieceTo body (o .seen) (o .root) (pick (isClosed 0 rows) (lastPosition 0 (take (closing 0 rows) rows)) (o .seen .ends))
 
-abbrev pub writeRoot : Room → Piece → Option Indexed → Output → Reading
-writeRoot room piece none out = finished out
-writeRoot room piece (some m) out = writePiece room (m .index) piece out
+abbrev pub rootPlan : Piece → Option Indexed → Plan
+rootPlan piece none = end
+rootPlan piece (some m) = one (pieceEntry (m .index) piece) []
 
 -- "Unwrapped: 9, then one piece (the root element alone ..) or none, 10."
-unfoldable pub readUnwrapped : List ℕ → Structure → Room → Opened → Reading
-unfolding firstNamed indexed rootPiece
-readUnwrapped body s room o =
-    andThen (endTest (o .seen .illFormed) nothing)
-    (writeRoot room (rootPiece body o) (resolve s (o .root .start .name .local)))
+unfoldable pub unwrappedPlan : List ℕ → Structure → Opened → Plan
+unfolding followedBy firstNamed indexed rootPiece
+unwrappedPlan body s o = followedBy (endTest (o .seen .illFormed)) (rootPlan (rootPiece body o) (resolve s (o .root .start .name .local)))
 
 -- "5 root name"
-abbrev pub withRootName : Bool → Bool → Reading → Reading
-withRootName false matches r = r
-withRootName true true r = r
-withRootName true false r = refused Refusal.RootName nothing
+abbrev pub withRootName : Bool → Bool → Whole → Whole
+withRootName false matches w = w
+withRootName true true w = w
+withRootName true false w = withoutGroups (stop Refusal.RootName)
 
-unfoldable pub readOpened : List ℕ → Settings → ShapeDepth → Room → List ℕ → Asked Structure → Reading
-unfolding nameMatches readMembers readUnwrapped
-readOpened body settings depth room order a =
+unfoldable pub openedPlan : List ℕ → Settings → ShapeDepth → List ℕ → Asked Structure → Whole
+unfolding nameMatches membersPlan unwrappedPlan
+openedPlan body settings depth order a =
     let s = a .sheet in
-    let unwrapped = readUnwrapped body s room (a .opened) in
-    let wrapped = readMembers body s room order (a .opened) in
+    let unwrapped = withoutGroups (unwrappedPlan body s (a .opened)) in
+    let wrapped = membersPlan body s order (a .opened) in
     withRootName (testsRootName settings depth) (nameMatches (a .opened .root .start .name) (rootName s))
     (pick (s .unwrapped) unwrapped wrapped)
 
 -- "Structure. 1, 2, 3, 4, 5, then as met: 10, and 9 after the children."
-unfoldable pub structureReading : List ℕ → List ℕ → ℕ → List ℕ → Settings → ShapeDepth → Room → List ℕ → Reading
-unfolding asked structureOf readOpened
-structureReading body table final sheet settings depth room order =
-    reading (asked body table final (structureOf sheet) settings depth) (readOpened body settings depth room order)
+unfoldable pub structurePlan : Upload → Call → List ℕ → Whole
+unfolding asked structureOf openedPlan
+structurePlan u call order =
+    asking (asked u (structureOf (call .sheet)) (call .settings) (call .depth)) (openedPlan (u .body) (call .settings) (call .depth) order)
+    (λ (r : Refusal). withoutGroups (stop r))
 
--- what the order must be that a program chooses: of the groups of the sheet that is read and of the root's children, where the reading comes so far
-pub record OrderFor (body table : List ℕ) (final : ℕ) (sheet : List ℕ) (settings : Settings) (depth : ShapeDepth) (order : List ℕ) : Type 0 where
-  pub is : (a : Asked Structure) → asked body table final (structureOf sheet) settings depth ≡ gives a → GroupOrder (a .sheet) (childrenOf (a .opened .root)) order
+unfoldable pub structureReading : Upload → Call → List ℕ → Room → Reading
+unfolding performed structurePlan
+structureReading u call order room = performed room (structurePlan u call order)
+
+-- what the order must be that a program chooses: of the groups of the sheet that is read and of the root's children, where the reading
+-- comes so far
+pub record OrderFor (u : Upload) (call : Call) (order : List ℕ) : Type 0 where
+  pub is : (a : Asked Structure) → asked u (structureOf (call .sheet)) (call .settings) (call .depth) ≡ gives a
+      → GroupOrder (a .sheet) (childrenOf (a .opened .root)) order

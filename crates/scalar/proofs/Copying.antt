@@ -27,6 +27,7 @@ use Rattle.document.specs.View as doc
 use Rattle.document.specs.Passed.View.{view-passed}
 use Rattle.document.specs.Scope.{Child, rootOf}
 use Rattle.document.specs.Text.{wholeOf}
+use Rattle.readings.specs.Call.{uploaded}
 use Rattle.readings.specs.Opening.{Opened, present, rooted}
 use Rattle.readings.specs.Scalar.{stringIn, wholeText}
 use Rattle.decode.specs.declared.reader.ScopeRow.{ScopeRow}
@@ -166,7 +167,7 @@ module _ (body t : List ℕ) (final : ℕ) {d : Drained} (e : d ≡ drained body
 
   -- all rows are seen, so that the root is the table's
   pub whole-passes : {old new : List ℕ} {r : Copied} → d ≡ Drained.Passes → CopyIs (rootText body t final (length old)) old new r
-      → CopyIs (wholeText body t final (length old)) old new r
+      → CopyIs (wholeText (uploaded body t final) (length old)) old new r
   unfolding wholeText rootText
   whole-passes {old} {new} {r} h x =
       rw (← e, h) (rw (view-passed body t final (sym e ∙ h) false, through (rootOf (toksOf body (rowsOf t)))) at x)
@@ -178,12 +179,12 @@ module _ (body t : List ℕ) (final : ℕ) {d : Drained} (e : d ≡ drained body
       through none = refl
       through (some c) = refl
 
-  pub whole-table : (old : List ℕ) → d ≡ Drained.Table → CopyIs (wholeText body t final (length old)) old old (Copied.Refused Refusal.Table)
+  pub whole-table : (old : List ℕ) → d ≡ Drained.Table → CopyIs (wholeText (uploaded body t final) (length old)) old old (Copied.Refused Refusal.Table)
   unfolding wholeText
   whole-table old h = rw (← e, h) (record { number = refl; buffer = refl })
 
   pub whole-ill : (old : List ℕ) {k : ℕ} {c : Cause} → d ≡ Drained.IllFormed k c
-      → CopyIs (wholeText body t final (length old)) old old (Copied.Refused Refusal.IllFormed)
+      → CopyIs (wholeText (uploaded body t final) (length old)) old old (Copied.Refused Refusal.IllFormed)
   unfolding wholeText
   whole-ill old h = rw (← e, h) (record { number = refl; buffer = refl })
 

@@ -23,6 +23,7 @@ use Rattle.document.specs.Laws.Short.{cut-short}
 use Rattle.sheet.specs.declared.ShapeDepth.{ShapeDepth}
 use Rattle.sheet.specs.Settings.{isStrict}
 use Rattle.sheet.specs.Settings as sheet
+use Rattle.readings.specs.Call.{uploaded}
 use Rattle.readings.specs.Opening.{opened}
 use Rattle.readings.specs.Scalar.{booleanOf, integerOf, stringIn, unlessIllFormed, scalarText}
 use Rattle.readings.specs.Scalar.{booleanReading, integerReading, stringReading}
@@ -112,7 +113,7 @@ text-is body t v s c i z = record { same = rw (i .same) at (z .same); rows = z .
 
 pub ruleset text-at-laws = (needs, rows-in, text-is)
 
-module _ (strict : Bool) (body t : List ℕ) (final : ℕ) {r : Opening} (x : OpeningIs body t (opened strict body t final) r) where
+module _ (strict : Bool) (body t : List ℕ) (final : ℕ) {r : Opening} (x : OpeningIs body t (opened strict (uploaded body t final)) r) where
   pub text-refused : {why : Refusal} → r ≡ Opening.Refused why → TextRead body t (Text.Refused why) (readText strict body t final)
   text-refused {why} e = no-row why (rw (opened-why x e))
 
@@ -248,20 +249,20 @@ pub ruleset string-at-laws = (needs, row-span, string-row, string-empty, string-
 -- ---- of a body
 module _ (body t : List ℕ) (final : ℕ) (s : sheet.Settings) (d : ShapeDepth) {strict : Bool} {r : Text} (e : strict ≡ isStrict s d)
     (x : TextRead body t r (readText strict body t final)) where
-  taken : textAt body t r ≡ scalarText body t final s d
+  taken : textAt body t r ≡ scalarText (uploaded body t final) s d
   unfolding scalarText
   taken = rw e at (x .same)
 
-  pub boolean-read : {a : Answer Bool} → a ≡ onward (textAt body t r) booleanOf → a ≡ booleanReading body t final s d
+  pub boolean-read : {a : Answer Bool} → a ≡ onward (textAt body t r) booleanOf → a ≡ booleanReading (uploaded body t final) s d
   unfolding booleanReading
   boolean-read y = rw taken at y
 
-  pub integer-read : {a : Answer ℤ} → a ≡ onward (textAt body t r) integerOf → a ≡ integerReading body t final s d
+  pub integer-read : {a : Answer ℤ} → a ≡ onward (textAt body t r) integerOf → a ≡ integerReading (uploaded body t final) s d
   unfolding integerReading
   integer-read y = rw taken at y
 
   pub string-read : {old new : List ℕ} {c : Copied} → CopyIs (onward (textAt body t r) (stringIn (length old))) old new c
-      → CopyIs (stringReading body t final s d (length old)) old new c
+      → CopyIs (stringReading (uploaded body t final) s d (length old)) old new c
   unfolding stringReading
   string-read y = rw taken at y
 

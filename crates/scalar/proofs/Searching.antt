@@ -19,9 +19,10 @@ use Rattle.table.specs.Test.{decTable}
 use Rattle.document.specs.View.{view}
 use Rattle.document.specs.Scope.{Child, children, childrenOf, pieceOf, rootOf}
 use Rattle.document.specs.Scope as scope
+use Rattle.readings.specs.Call.{uploaded}
 use Rattle.readings.specs.Opening.{Opened, withTable, present, opened}
 use Rattle.readings.specs.Find.{firstChild, findIn, find, partOf, refusalOf}
-use Rattle.readings.specs.Laws.Find.{part-within}
+use Rattle.readings.proofs.Laws.Find.{part-within}
 use Rattle.decode.specs.declared.reader.ScopeRow.{ScopeRow}
 use Rattle.decode.specs.declared.reader.Cursor.{Cursor}
 use Rattle.decode.specs.declared.reader.Past.{Past}
@@ -128,7 +129,7 @@ searched body name (gives o) = findIn body (o .seen) name (o .root)
 searched body name (refuses why) = refuses (absentAs why)
 
 module _ (body t : List ℕ) (final : ℕ) (name : List ℕ) where
-  find-opened : find body t final name ≡ searched body name (opened false body t final)
+  find-opened : find (uploaded body t final) name ≡ searched body name (opened false (uploaded body t final))
   unfolding find opened
   find-opened = go (decTable body t final) (rootOf (toksOf body (view false body (rowsOf t) final .rows)))
     where
@@ -140,38 +141,38 @@ module _ (body t : List ℕ) (final : ℕ) (name : List ℕ) where
       go (yes a) (some c) = refl
       go (no a) r = refl
 
-  module _ {r : Opening} (x : OpeningIs body t (opened false body t final) r) where
+  module _ {r : Opening} (x : OpeningIs body t (opened false (uploaded body t final)) r) where
     pub find-refused : {why f : Refusal} → r ≡ Opening.Refused why → f ≡ absentAs why
-        → FindingIs (Finding.Refused f) (find body t final name)
+        → FindingIs (Finding.Refused f) (find (uploaded body t final) name)
     find-refused e q = record { same = rw (find-opened, opened-why x e, q) }
 
     pub find-found : {v : View} {s : StartRow} {c : Cursor} {a : Finding} → r ≡ Opening.Found v s c
         → FindingIs a (findIn body (viewAt t v) name (childAt body t (v .count) s c))
-        → FindingIs a (find body t final name)
+        → FindingIs a (find (uploaded body t final) name)
     find-found e z = record { same = rw (find-opened, opened-is x e) (z .same) }
 
 pub ruleset finding-laws = (opened-laws, find-refused, find-found)
 
 -- ---- its part and its number
-module _ (body t : List ℕ) (final : ℕ) (name : List ℕ) {x : Finding} (y : FindingIs x (find body t final name)) where
+module _ (body t : List ℕ) (final : ℕ) (name : List ℕ) {x : Finding} (y : FindingIs x (find (uploaded body t final) name)) where
   module _ {p : Piece} (e : x ≡ Finding.Part p) where
-    some-part : gives (pieceAt p) ≡ find body t final name
+    some-part : gives (pieceAt p) ≡ find (uploaded body t final) name
     some-part = rw e at (y .same)
 
-    pub part-some : PartIs body p (partOf (find body t final name))
+    pub part-some : PartIs body p (partOf (find (uploaded body t final) name))
     part-some = record { start = rw (← some-part); len = rw (← some-part); within = part-within body t final name }
 
-    pub number-some : 0 ≡ refusalOf (find body t final name)
+    pub number-some : 0 ≡ refusalOf (find (uploaded body t final) name)
     number-some = rw (← some-part)
 
   module _ {f : Refusal} (e : x ≡ Finding.Refused f) where
-    no-part : refuses f ≡ find body t final name
+    no-part : refuses f ≡ find (uploaded body t final) name
     no-part = rw e at (y .same)
 
-    pub part-none : PartIs body (record { start = 0; len = 0 }) (partOf (find body t final name))
+    pub part-none : PartIs body (record { start = 0; len = 0 }) (partOf (find (uploaded body t final) name))
     part-none = record { start = rw (← no-part); len = rw (← no-part); within = part-within body t final name }
 
-    pub number-none : {n : ℕ} → n ≡ number f → n ≡ refusalOf (find body t final name)
+    pub number-none : {n : ℕ} → n ≡ number f → n ≡ refusalOf (find (uploaded body t final) name)
     number-none q = rw (← no-part) q
 
 pub ruleset part-laws = (needs, part-some, part-none, number-some, number-none)

@@ -6,6 +6,7 @@ use mathlib.Core.List.{List}
 use lib.ListN.{length}
 use Rattle.refusal.specs.Answer.{Answer, onward}
 use Rattle.document.specs.Text.{textOf}
+use Rattle.readings.specs.Call.{uploaded}
 use Rattle.readings.specs.Opening.{Opened, opened}
 use Rattle.readings.specs.Scalar.{unlessIllFormed}
 use Rattle.decode.specs.declared.reader.Cursor.{Cursor}
@@ -49,4 +50,4 @@ abbrev pub rootsText : Opened → Answer (List ℕ)
 rootsText o = onward (textOf (o .seen .failure) (o .root)) (unlessIllFormed (o .seen .illFormed))
 
 abbrev pub readText : Bool → List ℕ → List ℕ → ℕ → Answer (List ℕ)
-readText strict body t final = onward (opened strict body t final) rootsText
+readText strict body t final = onward (opened strict (uploaded body t final)) rootsText

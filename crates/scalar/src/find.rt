@@ -8,6 +8,7 @@ ghost use Rattle.document.specs.Scope.{childrenOf};
 ghost use Rattle.decode.specs.Rows.{InTable, Readable, nameAt};
 ghost use Rattle.decode.specs.Reader.{HasRow, Outside, childAt};
 ghost use Rattle.decode.specs.View.{Viewed, viewAt};
+ghost use Rattle.readings.specs.Call.{uploaded};
 ghost use Rattle.readings.specs.Find as readings;
 ghost use Rattle.readings.specs.Find.{findIn, partOf, refusalOf};
 ghost use Rattle.opening.specs.Opening.{RootAt};
@@ -125,7 +126,7 @@ fn absent(why: Refusal) -> Refusal
 
 // What the search finds: a part of the body, or 1 or 13.
 pub fn finding_of(body: &[u8], rows: &[u32], end: u32, name: &[u8]) -> Finding
-    ensures { λ r. ⌜ FindingIs r (readings.find (now (body .entry)) (now (rows .entry)) end (now (name .entry))) ⌝ }
+    ensures { λ r. ⌜ FindingIs r (readings.find (uploaded (now (body .entry)) (now (rows .entry)) end) (now (name .entry))) ⌝ }
 {
     match opening::open(false, body, rows, end) {
         Opening::Refused(why) => Finding::Refused(absent(why)),
@@ -135,7 +136,7 @@ pub fn finding_of(body: &[u8], rows: &[u32], end: u32, name: &[u8]) -> Finding
 
 // Where the part starts, and its length; both are 0 where there is none.
 fn part_of(body: &[u8], rows: &[u32], end: u32, name: &[u8]) -> Piece
-    ensures { λ r. ⌜ PartIs (now (body .entry)) r (partOf (readings.find (now (body .entry)) (now (rows .entry)) end (now (name .entry)))) ⌝ }
+    ensures { λ r. ⌜ PartIs (now (body .entry)) r (partOf (readings.find (uploaded (now (body .entry)) (now (rows .entry)) end) (now (name .entry)))) ⌝ }
 {
     match finding_of(body, rows, end, name) {
         Finding::Part(piece) => piece,
@@ -145,7 +146,7 @@ fn part_of(body: &[u8], rows: &[u32], end: u32, name: &[u8]) -> Piece
 
 // The part of the body that has the name; an empty part where there is none.
 pub fn find<'a, 'b>(body: &'a [u8], rows: &[u32], end: u32, name: &'b [u8]) -> &'a [u8]
-    ensures { λ r. ⌜ now r ≡ cut (now (body .entry)) (partOf (readings.find (now (body .entry)) (now (rows .entry)) end (now (name .entry))) .start) (partOf (readings.find (now (body .entry)) (now (rows .entry)) end (now (name .entry))) .len) ⌝ }
+    ensures { λ r. ⌜ now r ≡ cut (now (body .entry)) (partOf (readings.find (uploaded (now (body .entry)) (now (rows .entry)) end) (now (name .entry))) .start) (partOf (readings.find (uploaded (now (body .entry)) (now (rows .entry)) end) (now (name .entry))) .len) ⌝ }
 {
     let part = part_of(body, rows, end, name);
     let from = part.start;
@@ -155,7 +156,7 @@ pub fn find<'a, 'b>(body: &'a [u8], rows: &[u32], end: u32, name: &'b [u8]) -> &
 
 // The sister question, why the part is empty: 1 or 13; 0 where it is not.
 pub fn find_number(body: &[u8], rows: &[u32], end: u32, name: &[u8]) -> u32
-    ensures { λ r. ⌜ r ≡ refusalOf (readings.find (now (body .entry)) (now (rows .entry)) end (now (name .entry))) ⌝ }
+    ensures { λ r. ⌜ r ≡ refusalOf (readings.find (uploaded (now (body .entry)) (now (rows .entry)) end) (now (name .entry))) ⌝ }
 {
     match finding_of(body, rows, end, name) {
         Finding::Part(_) => 0,

@@ -8,6 +8,7 @@ ghost use Rattle.refusal.specs.Answer.{onward};
 ghost use Rattle.reference.specs.Text.{unescaped};
 ghost use Rattle.document.specs.Text.{unescapedText};
 ghost use Rattle.decode.specs.Text.{textAt};
+ghost use Rattle.readings.specs.Call.{uploaded};
 ghost use Rattle.readings.specs.Scalar.{booleanOf, booleanReading, integerOf, integerReading, stringIn, stringReading, unlessIllFormed};
 ghost use Rattle.codec.specs.Settings.{settingsOf};
 ghost use Rattle.opening.specs.Opening.{RootAt};
@@ -111,7 +112,7 @@ pub fn read_boolean(
     settings: Settings,
     depth: ShapeDepth,
 ) -> Boolean
-    ensures { λ r. ⌜ booleanAs r ≡ booleanReading (now (body .entry)) (now (rows .entry)) end (settingsOf settings) depth ⌝ }
+    ensures { λ r. ⌜ booleanAs r ≡ booleanReading (uploaded (now (body .entry)) (now (rows .entry)) end) (settingsOf settings) depth ⌝ }
 {
     let strict = is_strict(settings, depth);
     let text = take_text(strict, body, rows, end);
@@ -163,7 +164,7 @@ pub fn read_integer(
     settings: Settings,
     depth: ShapeDepth,
 ) -> Integer
-    ensures { λ r. ⌜ integerAs r ≡ integerReading (now (body .entry)) (now (rows .entry)) end (settingsOf settings) depth ⌝ }
+    ensures { λ r. ⌜ integerAs r ≡ integerReading (uploaded (now (body .entry)) (now (rows .entry)) end) (settingsOf settings) depth ⌝ }
 {
     let strict = is_strict(settings, depth);
     let text = take_text(strict, body, rows, end);
@@ -202,7 +203,7 @@ pub fn read_string(
     depth: ShapeDepth,
     out: &mut [u8],
 ) -> Copied
-    ensures { λ r. ⌜ CopyIs (stringReading (now (body .entry)) (now (rows .entry)) end (settingsOf settings) depth (length (now (out .entry)))) (now (out .entry)) (now (out .exit)) r ⌝ }
+    ensures { λ r. ⌜ CopyIs (stringReading (uploaded (now (body .entry)) (now (rows .entry)) end) (settingsOf settings) depth (length (now (out .entry)))) (now (out .entry)) (now (out .exit)) r ⌝ }
 {
     let strict = is_strict(settings, depth);
     let text = take_text(strict, body, rows, end);

@@ -9,6 +9,7 @@ ghost use Rattle.document.specs.Text.{wholeOf};
 ghost use Rattle.decode.specs.Rows.{InTable, Readable, valueAt};
 ghost use Rattle.decode.specs.Reader.{HasRow, ScopeIn, bytesOf, childAt};
 ghost use Rattle.decode.specs.View.{Viewed};
+ghost use Rattle.readings.specs.Call.{uploaded};
 ghost use Rattle.readings.specs.Scalar.{wholeText};
 ghost use Rattle.unescape.specs.Loops.{sizeOf};
 ghost use Rattle.opening.specs.Opening.{RootAt};
@@ -216,7 +217,7 @@ fn root_text(body: &[u8], rows: &[u32], end: usize, out: &mut [u8]) -> Copied
 
 // The whole text of a body: 1, 9, 4, 6 or 10, or how many bytes were written.
 pub fn whole_text(body: &[u8], rows: &[u32], end: u32, out: &mut [u8]) -> Copied
-    ensures { λ r. ⌜ CopyIs (wholeText (now (body .entry)) (now (rows .entry)) end (length (now (out .entry)))) (now (out .entry)) (now (out .exit)) r ⌝ }
+    ensures { λ r. ⌜ CopyIs (wholeText (uploaded (now (body .entry)) (now (rows .entry)) end) (length (now (out .entry)))) (now (out .entry)) (now (out .exit)) r ⌝ }
 {
     match drain(body, rows, end) {
         Drained::Passes => root_text(body, rows, end as usize, out),

@@ -21,8 +21,9 @@ use Rattle.document.specs.Reader.{depth, depthAfter, less}
 use Rattle.document.specs.Scope as scope
 use Rattle.sheet.specs.Sheet.{Structure}
 use Rattle.sheet.specs.Names.{Indexed, resolve}
-use Rattle.readings.specs.Output.{Room, Output, Reading, writePiece}
-use Rattle.readings.specs.Structure.{rootPiece, writeRoot}
+use Rattle.readings.specs.Output.{pieceEntry}
+use Rattle.readings.specs.Plan.{Plan, endTest, one, followedBy}
+use Rattle.readings.specs.Structure.{rootPiece, rootPlan, unwrappedPlan}
 use Rattle.decode.specs.Rows.{nameAt}
 use Rattle.decode.specs.declared.reader.StartRow.{StartRow}
 use Rattle.decode.specs.declared.reader.Cursor.{Cursor}
@@ -38,11 +39,11 @@ use Rattle.codec.specs.Structure.{saidBy, foundIn, Resolved}
 use Rattle.codec.proofs.Resolving.{found-low}
 use Rattle.output.specs.declared.Written.{Written}
 use Rattle.output.specs.declared.Step.{Step}
-use Rattle.output.specs.Steps.{piece, tested}
+use Rattle.output.specs.Plans.{piece}
 use Rattle.output.specs.Held.{Enters}
 use Rattle.output.proofs.Then.{midway-start, midway-stops, tested-ill, does-as}
 use Rattle.structure.specs.Steps.{openedAt}
-use Rattle.structure.specs.Unwrapped.{endFrom, EndIs, RootPieceIs, rootStep, unwrappedStep}
+use Rattle.structure.specs.Unwrapped.{endFrom, EndIs, RootPieceIs, rootAs}
 use Rattle.structure.proofs.Loops.{given-index, idle-does}
 
 -- ---- how many elements are open after a row of a kind
@@ -153,39 +154,37 @@ pub ruleset piece-laws = (needs, root-piece)
 module _ (body t : List ℕ) (v : View) (s : StartRow) (c : Cursor) where
   pub root-written : {p : Piece} (member : ℕ) {e e′ : List ℕ} {w : Written} {r : Step} → RootPieceIs body t v s p
       → Enters (piece member (p .start) (p .len)) e w e′ r
-      → Enters (rootStep body (openedAt body t v s c) member) e w e′ r
-  unfolding rootStep piece
+      → Enters (rootAs body (openedAt body t v s c) member) e w e′ r
+  unfolding rootAs piece
   root-written member y d = record {
-    is = λ x. does-as (λ room out. ap (λ (q : scope.Piece). writePiece room member q out) (sym (y .is c)))
-        (d .is x);
+    is = λ x. does-as (ap (λ (q : scope.Piece). one (pieceEntry member q) []) (sym (y .is c))) (d .is x);
   }
 
   pub unwrapped-ill : (st : Structure) (e : List ℕ) (w : Written) → v .«ill_formed» ≡ true
-      → Enters (unwrappedStep body st (openedAt body t v s c)) e w e (Step.Refused Refusal.IllFormed w)
-  unfolding unwrappedStep
+      → Enters (unwrappedPlan body st (openedAt body t v s c)) e w e (Step.Refused Refusal.IllFormed w)
+  unfolding unwrappedPlan
   unwrapped-ill st e w p =
-      let more : Room → Output → Reading = λ room out. writeRoot room (rootPiece body (openedAt body t v s c))
-      (resolve st (nameAt body t (s .row) .local)) out in
+      let more = rootPlan (rootPiece body (openedAt body t v s c)) (resolve st (nameAt body t (s .row) .local)) in
       record {
-        is = λ x. midway-stops (midway-start (unwrappedStep body st (openedAt body t v s c)) e x w) {step = tested (v .«ill_formed»)}
-            more (λ room out. refl) (tested-ill e x w p) refl;
+        is = λ x. midway-stops (midway-start (unwrappedPlan body st (openedAt body t v s c)) e x w) {step = endTest (v .«ill_formed»)}
+            more refl (tested-ill e x w p) refl;
       }
 
   module _ {sheet members : List ℕ} {f : Found} (p : v .«ill_formed» ≡ false)
       (y : Resolved sheet members (nameAt body t (s .row) .local) f) where
-    as-root : {o : Option Indexed} → foundIn (saidBy sheet .members) f ≡ o → (room : Room) (out : Output)
-        → unwrappedStep body (saidBy sheet) (openedAt body t v s c) room out ≡ writeRoot room (rootPiece body (openedAt body t v s c)) o out
-    unfolding unwrappedStep tested
-    as-root q room out = rw (p, y .is, q)
+    as-root : {o : Option Indexed} → foundIn (saidBy sheet .members) f ≡ o
+        → unwrappedPlan body (saidBy sheet) (openedAt body t v s c) ≡ rootPlan (rootPiece body (openedAt body t v s c)) o
+    unfolding unwrappedPlan followedBy
+    as-root q = rw (p, y .is, q)
 
     pub unwrapped-nothing : (e : List ℕ) (w : Written) → f ≡ Found.Nothing
-        → Enters (unwrappedStep body (saidBy sheet) (openedAt body t v s c)) e w e (Step.Done w)
+        → Enters (unwrappedPlan body (saidBy sheet) (openedAt body t v s c)) e w e (Step.Done w)
     unwrapped-nothing e w q = record { is = λ x. idle-does e x w (as-root (ap (foundIn (saidBy sheet .members)) q)) }
 
     pub unwrapped-root : {i : ℕ} {e e′ : List ℕ} {w : Written} {r : Step} → f ≡ Found.At i
-        → Enters (rootStep body (openedAt body t v s c) i) e w e′ r
-        → Enters (unwrappedStep body (saidBy sheet) (openedAt body t v s c)) e w e′ r
-    unfolding rootStep
+        → Enters (rootAs body (openedAt body t v s c) i) e w e′ r
+        → Enters (unwrappedPlan body (saidBy sheet) (openedAt body t v s c)) e w e′ r
+    unfolding rootAs
     unwrapped-root q d = record { is = λ x. does-as (as-root (ap (foundIn (saidBy sheet .members)) q)) (d .is x) }
 
 pub ruleset root-laws = (needs, root-written)

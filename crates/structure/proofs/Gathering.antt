@@ -17,14 +17,13 @@ use Rattle.document.specs.View.{View}
 use Rattle.document.specs.Scope.{Child}
 use Rattle.sheet.specs.Sheet.{Member, Structure}
 use Rattle.sheet.specs.Names.{indexed}
-use Rattle.readings.specs.Output.{Room, Output}
-use Rattle.readings.specs.Structure.{groupOf}
-use Rattle.readings.specs.Conditions.Groups.{together}
-use Rattle.readings.specs.Laws.Order.{grouped, memberOrder}
+use Rattle.readings.specs.Plan.{oneByOne}
+use Rattle.readings.specs.Structure.{groupOf, groupPlan}
+use Rattle.readings.proofs.Laws.Order.{grouped, memberOrder}
 use Rattle.output.specs.declared.Written.{Written}
 use Rattle.output.specs.declared.Step.{Step}
-use Rattle.output.specs.Steps.{group, groups, groupSteps, eachOf}
-use Rattle.output.specs.Held.{Does, Ready}
+use Rattle.output.specs.Plans.{group, groups, together}
+use Rattle.output.specs.Held.{Does, DoesWhole, Ready}
 use Rattle.output.specs.Kept.{keptFor, isKept, lengths, keptLen, GroupLen, flat, Inside}
 use Rattle.output.proofs.Then.{does-as}
 use Rattle.output.proofs.Sound.{group-adds}
@@ -32,7 +31,7 @@ use Rattle.output.proofs.Kept.{flat-length}
 use Rattle.output.proofs.AllOrNone.{groups-too-many, groups-too-long, groups-all, groups-never}
 use Rattle.structure.specs.declared.groups.Sum.{Sum}
 use Rattle.structure.specs.Steps.{Begins, afterChildren}
-use Rattle.structure.specs.Groups.{KeptIn, GroupsKept, flatStep, keptFrom, SumIs, GroupsIs}
+use Rattle.structure.specs.Groups.{KeptIn, GroupsKept, flatPlan, keptFrom, SumIs, GroupsIs}
 use Rattle.structure.proofs.Loops.{OneByOne, one-start, one-ends, one-stops, one-goes}
 
 -- ---- each child that is kept is in one group: those of the members before n are no longer together than all that is kept
@@ -175,7 +174,7 @@ pub ruleset sum-laws = (needs, kept-small, sum-start, sum-end, sum-without, sum-
 pub record GroupsAt (body kept : List ℕ) (n : ℕ) (e x : List ℕ) (w : Written) (e₁ x₁ : List ℕ) (w₁ : Written) (i : ℕ) : Type 0 where
   pub inside : KeptIn body kept
   pub low : i ≤ n
-  pub one : OneByOne (flatStep body kept) (keptFrom kept 0 n) (keptFrom kept i (n - i)) (afterChildren + (below kept i + i * 17)) e x w e₁
+  pub one : OneByOne (flatPlan body kept) (keptFrom kept 0 n) (keptFrom kept i (n - i)) (afterChildren + (below kept i + i * 17)) e x w e₁
       x₁ w₁
 
 pub groups-start : {body kept : List ℕ} (n : ℕ) {e x : List ℕ} {w : Written} → KeptIn body kept → Begins afterChildren e x w
@@ -183,7 +182,7 @@ pub groups-start : {body kept : List ℕ} (n : ℕ) {e x : List ℕ} {w : Writte
 groups-start {body} {kept} n q b =
     let z : n - 0 ≡ n = omega arith in
     let b₀ : Begins (afterChildren + (below kept 0 + 0 * 17)) _ _ _ = record { sound = b .sound; small = omega (arith, b .small) } in
-    record { inside = q; low = omega arith; one = rw z (one-start (flatStep body kept) (keptFrom kept 0 n) b₀) }
+    record { inside = q; low = omega arith; one = rw z (one-start (flatPlan body kept) (keptFrom kept 0 n) b₀) }
 
 module _ {body kept : List ℕ} {n : ℕ} {e x : List ℕ} {w : Written} {e₁ x₁ : List ℕ} {w₁ : Written} {i : ℕ}
     (a : GroupsAt body kept n e x w e₁ x₁ w₁ i) where
@@ -193,7 +192,7 @@ module _ {body kept : List ℕ} {n : ℕ} {e x : List ℕ} {w : Written} {e₁ x
         (arith, a .one .begins .small, flat-length body kept i (a .inside .inside), len-most (a .inside) i);
   }
 
-  pub groups-end : n ≤ i → Does (eachOf (flatStep body kept) (keptFrom kept 0 n)) e x w e₁ x₁ (Step.Done w₁)
+  pub groups-end : n ≤ i → Does (oneByOne (flatPlan body kept) (keptFrom kept 0 n)) e x w e₁ x₁ (Step.Done w₁)
   groups-end h = one-ends (rw (from-end kept h) at (a .one))
 
   module _ (h : i < n) {u : Bool} (f : u ≡ isKept kept i) where
@@ -212,18 +211,18 @@ module _ {body kept : List ℕ} {n : ℕ} {e x : List ℕ} {w : Written} {e₁ x
         }
 
     module _ (p : u ≡ true) {e₂ x₂ : List ℕ} {got : Step} (d : Does (group i (flat body kept i)) e₁ x₁ w₁ e₂ x₂ got) where
-      here : OneByOne (flatStep body kept) (keptFrom kept 0 n) (i ∷ keptFrom kept (i + 1) (n - (i + 1)))
+      here : OneByOne (flatPlan body kept) (keptFrom kept 0 n) (i ∷ keptFrom kept (i + 1) (n - (i + 1)))
           (afterChildren + (below kept i + i * 17)) e x w e₁ x₁ w₁
       here = rw (from-with kept h (sym f ∙ p)) at (a .one)
 
       pub groups-stop : {why : Refusal} {w₂ : Written} → got ≡ Step.Refused why w₂
-          → Does (eachOf (flatStep body kept) (keptFrom kept 0 n)) e x w e₂ x₂ (Step.Refused why w₂)
-      unfolding flatStep
+          → Does (oneByOne (flatPlan body kept) (keptFrom kept 0 n)) e x w e₂ x₂ (Step.Refused why w₂)
+      unfolding flatPlan
       groups-stop j = one-stops here d j
 
       pub groups-on : {w₂ : Written} → length e₂ ≡ length e₁ → length x₂ ≡ length x₁ → got ≡ Step.Done w₂
           → GroupsAt body kept n e x w e₂ x₂ w₂ (i + 1)
-      unfolding flatStep
+      unfolding flatPlan
       groups-on v k j =
           record {
             inside = a .inside;
@@ -248,9 +247,9 @@ module _ {body : List ℕ} {v : View} {st : Structure} {kids : List Child} {kept
   bytes-are : (l : List ℕ) → together (flat body kept) l ≡ together (groupOf body v st kids) l
   bytes-are l = ap (λ (g : ℕ → List ℕ). together g l) (fun-ext (k .flat))
 
-  steps-are : (l : List ℕ) (room : Room) (out : Output) → groupSteps body v st kids l room out ≡ eachOf (flatStep body kept) l room out
-  unfolding groupSteps flatStep
-  steps-are l room out = ap (λ (g : ℕ → List ℕ). eachOf (λ (i : ℕ). group i (g i)) l room out) (sym (fun-ext (k .flat)))
+  plans-are : (l : List ℕ) → oneByOne (groupPlan body v st kids) l ≡ oneByOne (flatPlan body kept) l
+  unfolding groupPlan flatPlan group
+  plans-are l = ap (λ (g : ℕ → List ℕ). oneByOne (λ (i : ℕ). group i (g i)) l) (sym (fun-ext (k .flat)))
 
 module _ {body kept : List ℕ} {n : ℕ} {sum : Sum} (z : SumIs body kept n sum) {e x : List ℕ} {w : Written}
     (b : Begins afterChildren e x w) where
@@ -271,15 +270,15 @@ module _ {body kept : List ℕ} {n : ℕ} {sum : Sum} (z : SumIs body kept n sum
       }
 
   pub all-written : {e′ x′ : List ℕ} {r : Step} → sum .entries ≤ length e / 6 - w .count → sum .bytes ≤ length x - w .used
-      → Does (eachOf (flatStep body kept) (keptFrom kept 0 n)) e x w e′ x′ r → GroupsIs body kept n e x w e′ x′ r
+      → Does (oneByOne (flatPlan body kept) (keptFrom kept 0 n)) e x w e′ x′ r → GroupsIs body kept n e x w e′ x′ r
   all-written {e′} {x′} {r} p q d = record {
     is = λ v st kids k m. go v st kids k m r
-        (does-as (steps-are k (memberOrder st kids)) (rw (order-is k m) at d));
+        (does-as (plans-are k (memberOrder st kids)) (rw (order-is k m) at d));
   }
     where
       go : (v : View) (st : Structure) (kids : List Child) → GroupsKept body v st kids kept → length (st .members) ≡ n → (r : Step)
-          → Does (groupSteps body v st kids (memberOrder st kids)) e x w e′ x′ r
-          → Does (groups body v st kids (memberOrder st kids)) e x w e′ x′ r
+          → Does (oneByOne (groupPlan body v st kids) (memberOrder st kids)) e x w e′ x′ r
+          → DoesWhole (groups body v st kids (memberOrder st kids)) e x w e′ x′ r
       go v st kids k m (Step.Done w′) d = groups-all body v st kids (memberOrder st kids) d
       go v st kids k m (Step.Refused why w′) d =
           let o = rw (order-is k m) at (z .bytes) in

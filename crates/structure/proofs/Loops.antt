@@ -1,4 +1,4 @@
--- Laws of steps, said once for attributes, children and groups: a step that does nothing, a step that is another, and steps one after
+-- Laws of plans, said once for attributes, children and groups: a plan that does nothing, a plan that is another, and plans one after
 -- another over a list.
 use Prim.Native.Nat.{ℕ, _+_, _*_, _^_, _≤_, _<_}
 use mathlib.Core.Path.{_≡_, refl, _∙_}
@@ -9,14 +9,13 @@ use mir.Syntax.{w32}
 use lib.ListN.{length, getD}
 use Rattle.refusal.specs.declared.Refusal.{Refusal}
 use Rattle.document.specs.Laws.Short.{cut-short}
-use Rattle.readings.specs.Output.{Room, Output, Reading, finished}
+use Rattle.readings.specs.Plan.{Plan, end, perform, oneByOne}
 use Rattle.decode.specs.Rows.{valueAt}
 use Rattle.decode.specs.declared.view.View.{View}
 use Rattle.decode.specs.View.{Viewed}
 use Rattle.output.specs.declared.Written.{Written}
 use Rattle.output.specs.declared.Step.{Step}
-use Rattle.output.specs.Steps.{eachOf}
-use Rattle.output.specs.Held.{roomOf, Does, Ready, Adds}
+use Rattle.output.specs.Held.{Does, Ready, Adds}
 use Rattle.output.proofs.Then.{Midway, midway-start, each-goes, each-stops, each-ends, does-as}
 use Rattle.output.proofs.Sound.{sound-next, used-next}
 use Rattle.structure.specs.Steps.{Given, Space, Wrote, Begins, DoesWithin}
@@ -37,58 +36,54 @@ module _ {body t : List ℕ} {w : Written} (q : Space body t w) where
   pub value-ready : (k : ℕ) {l : List ℕ} → l ≡ valueAt body t k → Ready w (length l)
   value-ready k e = record { small = omega (arith, q .small, value-short k e) }
 
--- ---- one step
-pub adds-as : {f g : Room → Output → Reading} {n : ℕ} → ((room : Room) (out : Output) → f room out ≡ g room out) → n ≤ 65536 → Adds g n
-    → Adds f 65536
-adds-as p h a = record { most = λ room out. rw (p room out) (omega (arith, a .most room out)) }
+-- ---- one plan
+pub adds-as : {f g : Plan} {n : ℕ} → f ≡ g → n ≤ 65536 → Adds g n → Adds f 65536
+adds-as p h a = rw p (record { most = λ room out. omega (arith, a .most room out) })
 
-pub idle-does : {step : Room → Output → Reading} (e x : List ℕ) (w : Written)
-    → ((room : Room) (out : Output) → step room out ≡ finished out)
-    → Does step e x w e x (Step.Done w)
-idle-does e x w p = record { is = λ {e0} {t0} {out} h. rw (p (roomOf e0 t0) out) (record { is = refl; holds = h }) }
+pub idle-does : {plan : Plan} (e x : List ℕ) (w : Written) → plan ≡ end → Does plan e x w e x (Step.Done w)
+unfolding perform
+idle-does e x w p = rw p (record { is = λ h. record { is = refl; holds = h } })
 
-pub idle-adds : {step : Room → Output → Reading} → ((room : Room) (out : Output) → step room out ≡ finished out) → Adds step 65536
-idle-adds p = record { most = λ room out. rw (p room out) (omega arith) }
+pub idle-adds : {plan : Plan} → plan ≡ end → Adds plan 65536
+unfolding perform
+idle-adds p = rw p (record { most = λ room out. omega arith })
 
-pub idle-wrote : {step : Room → Output → Reading} (e x : List ℕ) (w : Written)
-    → ((room : Room) (out : Output) → step room out ≡ finished out)
-    → Wrote step e x w e x (Step.Done w)
+pub idle-wrote : {plan : Plan} (e x : List ℕ) (w : Written) → plan ≡ end → Wrote plan e x w e x (Step.Done w)
 idle-wrote e x w p = record { does = idle-does e x w p; adds = idle-adds p }
 
-pub wrote-as : {f g : Room → Output → Reading} {n : ℕ} {e x e′ x′ : List ℕ} {w : Written} {r : Step}
-    → ((room : Room) (out : Output) → f room out ≡ g room out)
+pub wrote-as : {f g : Plan} {n : ℕ} {e x e′ x′ : List ℕ} {w : Written} {r : Step} → f ≡ g
     → n ≤ 65536 → Adds g n → Does g e x w e′ x′ r → Wrote f e x w e′ x′ r
 wrote-as p h a d = record { does = does-as p d; adds = adds-as p h a }
 
 -- ---- many
-module _ {limit : ℕ} {step : Room → Output → Reading} {e x e′ x′ : List ℕ} {w w₁ : Written} where
-  pub within-done : Does step e x w e′ x′ (Step.Done w₁) → Begins limit e′ x′ w₁ → DoesWithin limit step e x w e′ x′ (Step.Done w₁)
+module _ {limit : ℕ} {plan : Plan} {e x e′ x′ : List ℕ} {w w₁ : Written} where
+  pub within-done : Does plan e x w e′ x′ (Step.Done w₁) → Begins limit e′ x′ w₁ → DoesWithin limit plan e x w e′ x′ (Step.Done w₁)
   within-done d b = record { does = d; done = λ w′ z. (let y : w₁ ≡ w′ = cc in rw (← y) b) }
 
-  pub within-refused : {why : Refusal} → Does step e x w e′ x′ (Step.Refused why w₁)
-      → DoesWithin limit step e x w e′ x′ (Step.Refused why w₁)
+  pub within-refused : {why : Refusal} → Does plan e x w e′ x′ (Step.Refused why w₁)
+      → DoesWithin limit plan e x w e′ x′ (Step.Refused why w₁)
   within-refused d = record { does = d; done = λ w′ q. (let f : _≡_ {A = ℕ} 0 1 = cc in absurd (omega arith)) }
 
 -- some of a list are done, l is left, and no more is used than a limit
-pub record OneByOne {A : Type 0} (f : A → Room → Output → Reading) (all l : List A) (limit : ℕ) (e x : List ℕ) (w : Written)
+pub record OneByOne {A : Type 0} (f : A → Plan) (all l : List A) (limit : ℕ) (e x : List ℕ) (w : Written)
     (e₁ x₁ : List ℕ) (w₁ : Written) : Type 0 where
-  pub mid : Midway (eachOf f all) (eachOf f l) e x w e₁ x₁ w₁
+  pub mid : Midway (oneByOne f all) (oneByOne f l) e x w e₁ x₁ w₁
   pub begins : Begins limit e₁ x₁ w₁
   pub sameEntries : length e₁ ≡ length e
   pub sameTexts : length x₁ ≡ length x
 
-pub one-start : {A : Type 0} (f : A → Room → Output → Reading) (all : List A) {limit : ℕ} {e x : List ℕ} {w : Written} → Begins limit e x w
+pub one-start : {A : Type 0} (f : A → Plan) (all : List A) {limit : ℕ} {e x : List ℕ} {w : Written} → Begins limit e x w
     → OneByOne f all all limit e x w e x w
-one-start f all {e = e} {x} {w} b = record { mid = midway-start (eachOf f all) e x w; begins = b; sameEntries = refl; sameTexts = refl }
+one-start f all {e = e} {x} {w} b = record { mid = midway-start (oneByOne f all) e x w; begins = b; sameEntries = refl; sameTexts = refl }
 
-module _ {A : Type 0} {f : A → Room → Output → Reading} {all : List A} {limit : ℕ} {e x : List ℕ} {w : Written} {e₁ x₁ : List ℕ}
+module _ {A : Type 0} {f : A → Plan} {all : List A} {limit : ℕ} {e x : List ℕ} {w : Written} {e₁ x₁ : List ℕ}
     {w₁ : Written} where
-  pub one-ends : OneByOne f all [] limit e x w e₁ x₁ w₁ → Does (eachOf f all) e x w e₁ x₁ (Step.Done w₁)
+  pub one-ends : OneByOne f all [] limit e x w e₁ x₁ w₁ → Does (oneByOne f all) e x w e₁ x₁ (Step.Done w₁)
   one-ends o = each-ends f (o .mid)
 
   module _ {a : A} {l : List A} (o : OneByOne f all (a ∷ l) limit e x w e₁ x₁ w₁) {e₂ x₂ : List ℕ} {got : Step}
       (d : Does (f a) e₁ x₁ w₁ e₂ x₂ got) where
-    pub one-stops : {why : Refusal} {w₂ : Written} → got ≡ Step.Refused why w₂ → Does (eachOf f all) e x w e₂ x₂ (Step.Refused why w₂)
+    pub one-stops : {why : Refusal} {w₂ : Written} → got ≡ Step.Refused why w₂ → Does (oneByOne f all) e x w e₂ x₂ (Step.Refused why w₂)
     one-stops j = each-stops f a l (o .mid) d j
 
     pub one-goes : {n limit′ : ℕ} {w₂ : Written} → Adds (f a) n → got ≡ Step.Done w₂ → length e₂ ≡ length e₁ → length x₂ ≡ length x₁

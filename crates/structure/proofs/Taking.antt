@@ -17,8 +17,9 @@ use Rattle.document.specs.Scope as scope
 use Rattle.document.specs.Text.{textOf}
 use Rattle.sheet.specs.Sheet.{Structure}
 use Rattle.sheet.specs.Names.{Indexed, resolve}
-use Rattle.readings.specs.Output.{Room, Output, finished, refused, output, fits, written, writePiece, failedEntry}
-use Rattle.readings.specs.Structure.{readMember, readChild, flatMember}
+use Rattle.readings.specs.Output.{Output, finished, refused, output, fits, written, pieceEntry, failedEntry}
+use Rattle.readings.specs.Plan.{end, perform, one, oneByOne}
+use Rattle.readings.specs.Structure.{memberPlan, childPlan, flatMember}
 use Rattle.decode.specs.Rows.{InTable, nameAt, valueAt}
 use Rattle.decode.specs.declared.reader.ScopeRow.{ScopeRow}
 use Rattle.decode.specs.declared.reader.Cursor.{Cursor}
@@ -40,7 +41,7 @@ use Rattle.codec.specs.Structure.{saidBy, foundIn, MemberRead, Resolved}
 use Rattle.codec.proofs.Resolving.{member-said, found-low}
 use Rattle.output.specs.declared.Written.{Written}
 use Rattle.output.specs.declared.Step.{Step}
-use Rattle.output.specs.Steps.{piece, scalar, failed, eachOf}
+use Rattle.output.specs.Plans.{piece, scalar, failed}
 use Rattle.output.specs.Held.{Does, Enters, Adds}
 use Rattle.output.proofs.Then.{does-as}
 use Rattle.output.proofs.Sound.{scalar-adds, piece-adds}
@@ -49,7 +50,7 @@ use Rattle.opening.specs.Level.{left}
 use Rattle.opening.proofs.Level.{found-in, found-start, found-outside, none-left, one-left, less-left}
 use Rattle.structure.specs.declared.children.Taken.{Taken}
 use Rattle.structure.specs.Steps.{Given, Space, Wrote, Begins, afterAttributes, afterChildren}
-use Rattle.structure.specs.Children.{scalarStep, memberStep, childStep, takenOf, stepOf, KeptRoom, flatIf, Keeping, passed, kept, TakenAs, AllTaken, ChildrenTaken}
+use Rattle.structure.specs.Children.{scalarOf, memberOf, takenOf, stepOf, KeptRoom, flatIf, Keeping, passed, kept, TakenAs, AllTaken, ChildrenTaken}
 use Rattle.structure.proofs.Loops.{given-index, viewed-space, value-short, value-ready, adds-as, idle-does, idle-adds, wrote-as, OneByOne, one-start, one-ends, one-stops, one-goes}
 
 -- ---- a step, and how many are kept
@@ -71,7 +72,7 @@ count-of (Step.Refused why w) count e = let z : _≡_ {A = ℕ} 0 1 = cc in absu
 
 -- ---- a first text
 pub failed-adds : (member : ℕ) (why : Refusal) → Adds (failed member why) 0
-unfolding failed
+unfolding failed perform
 failed-adds member why = record { most = λ room out. go (fits room [] out) out }
   where
     go : (b : Bool) (out : Output) → length (output
@@ -85,25 +86,25 @@ text-row i e = rw e at i
 
 module _ {body t : List ℕ} {w : Written} (q : Space body t w) (text : Text) (member : ℕ) {e x e′ x′ : List ℕ} {r : Step} where
   pub put-row : {k : ℕ} {l : List ℕ} → text ≡ Text.Row k → l ≡ valueAt body t k → Does (scalar member l) e x w e′ x′ r
-      → Wrote (scalarStep member (textAt body t text)) e x w e′ x′ r
-  unfolding scalarStep scalar
-  put-row {k} {l} p f d = rw (p, ← f) (wrote-as (λ room out. refl) (value-short q k f) (scalar-adds member l) d)
+      → Wrote (scalarOf member (textAt body t text)) e x w e′ x′ r
+  unfolding scalarOf scalar
+  put-row {k} {l} p f d = rw (p, ← f) (wrote-as refl (value-short q k f) (scalar-adds member l) d)
 
-  pub put-empty : text ≡ Text.Empty → Does (scalar member []) e x w e′ x′ r → Wrote (scalarStep member (textAt body t text)) e x w e′ x′ r
-  unfolding scalarStep scalar unescaped decode
-  put-empty p d = rw p (wrote-as (λ room out. refl) (omega arith) (scalar-adds member []) d)
+  pub put-empty : text ≡ Text.Empty → Does (scalar member []) e x w e′ x′ r → Wrote (scalarOf member (textAt body t text)) e x w e′ x′ r
+  unfolding scalarOf scalar unescaped decode
+  put-empty p d = rw p (wrote-as refl (omega arith) (scalar-adds member []) d)
 
 pub put-refused : (body t : List ℕ) (text : Text) (member : ℕ) {e e′ : List ℕ} (x : List ℕ) {w : Written} {r : Step} {why : Refusal} → text
     ≡ Text.Refused why
-    → Enters (failed member why) e w e′ r → Wrote (scalarStep member (textAt body t text)) e x w e′ x r
-unfolding scalarStep failed
-put-refused body t text member x {why = why} p d = rw p (wrote-as (λ room out. refl) (omega arith) (failed-adds member why) (d .is x))
+    → Enters (failed member why) e w e′ r → Wrote (scalarOf member (textAt body t text)) e x w e′ x r
+unfolding scalarOf failed
+put-refused body t text member x {why = why} p d = rw p (wrote-as refl (omega arith) (failed-adds member why) (d .is x))
 
 pub ruleset put-laws = (needs, value-span, value-ready, text-row, put-row, put-empty, put-refused)
 
 pub scalar-read : {body t : List ℕ} {text : Text} {a : Answer (List ℕ)} (member : ℕ) {e x e′ x′ : List ℕ} {w : Written} {r : Step}
     → TextIs body t text a
-    → Wrote (scalarStep member (textAt body t text)) e x w e′ x′ r → Wrote (scalarStep member a) e x w e′ x′ r
+    → Wrote (scalarOf member (textAt body t text)) e x w e′ x′ r → Wrote (scalarOf member a) e x w e′ x′ r
 scalar-read member y d = rw (y .same) at d
 
 pub ruleset scalar-laws = (needs, scalar-read)
@@ -114,19 +115,18 @@ module _ (body t : List ℕ) (v : View) (s : StartRow) (c : Cursor) (index : ℕ
   child = childAt body t (v .count) s c
 
   abbrev As : List ℕ → List ℕ → Written → List ℕ → ℕ → List ℕ → List ℕ → List ℕ → Taken → Type 0
-  As = TakenAs body t v s c (memberStep body (viewAt t v) child index (m .aggregate) (m .flattened))
+  As = TakenAs body t v s c (memberOf body (viewAt t v) child index (m .aggregate) (m .flattened))
       (flatIf (m .aggregate) (m .flattened) index)
 
   pub member-kept : {p : Piece} (e x : List ℕ) (w : Written) {l l′ : List ℕ} {count : ℕ} → m .aggregate ≡ true → m .flattened ≡ true
       → PieceIs body t v s c p
       → l′ ≡ sets l (count * 3) (index ∷ p .start ∷ p .len ∷ [])
-      → TakenAs body t v s c (memberStep body (viewAt t v) (childAt body t (v .count) s c) index (m .aggregate) (m .flattened))
+      → TakenAs body t v s c (memberOf body (viewAt t v) (childAt body t (v .count) s c) index (m .aggregate) (m .flattened))
       (flatIf (m .aggregate) (m .flattened) index)
       e x w l count e x l′ (Taken.Done w (count + 1))
-  unfolding memberStep
+  unfolding memberOf
   member-kept {p} e x w {l} {l′} {count} a f y q =
-      let idle : (room : Room) (out : Output) → memberStep body (viewAt t v) child index (m .aggregate) (m .flattened) room out
-      ≡ finished out = λ room out. rw (a, f) in
+      let idle : memberOf body (viewAt t v) child index (m .aggregate) (m .flattened) ≡ end = rw (a, f) in
       record {
         does = idle-does e x w idle;
         adds = idle-adds idle;
@@ -140,7 +140,7 @@ module _ (body t : List ℕ) (v : View) (s : StartRow) (c : Cursor) (index : ℕ
       (q : r ≡ takenOf step count) where
     -- the flags say that it waits for no group
     not-kept : flatIf (m .aggregate) (m .flattened) index ≡ none
-        → Wrote (memberStep body (viewAt t v) child index (m .aggregate) (m .flattened)) e x w e′ x′ step
+        → Wrote (memberOf body (viewAt t v) child index (m .aggregate) (m .flattened)) e x w e′ x′ step
         → As e x w l count e′ x′ l r
     not-kept o d =
         record {
@@ -151,22 +151,22 @@ module _ (body t : List ℕ) (v : View) (s : StartRow) (c : Cursor) (index : ℕ
 
     pub member-piece : {p : Piece} → m .aggregate ≡ true → m .flattened ≡ false → PieceIs body t v s c p
         → Enters (piece index (p .start) (p .len)) e w e′ step → x′ ≡ x
-        → TakenAs body t v s c (memberStep body (viewAt t v) (childAt body t (v .count) s c) index (m .aggregate) (m .flattened))
+        → TakenAs body t v s c (memberOf body (viewAt t v) (childAt body t (v .count) s c) index (m .aggregate) (m .flattened))
         (flatIf (m .aggregate) (m .flattened) index)
         e x w l count e′ x′ l r
-    unfolding memberStep piece
+    unfolding memberOf piece
     member-piece {p} a f y d u =
-        not-kept (rw (a, f)) (rw u (wrote-as (λ room out. rw (a, f) (ap (λ (z : scope.Piece). writePiece room index z out) (sym (y .is))))
+        not-kept (rw (a, f)) (rw u (wrote-as (rw (a, f) (ap (λ (z : scope.Piece). one (pieceEntry index z) []) (sym (y .is))))
         (omega arith)
         (piece-adds index (p .start) (p .len)) (d .is x)))
 
     pub member-text : m .aggregate ≡ false
-        → Wrote (scalarStep index (textOf (failureAt (v .failure)) (childAt body t (v .count) s c))) e x w e′ x′ step
-        → TakenAs body t v s c (memberStep body (viewAt t v) (childAt body t (v .count) s c) index (m .aggregate) (m .flattened))
+        → Wrote (scalarOf index (textOf (failureAt (v .failure)) (childAt body t (v .count) s c))) e x w e′ x′ step
+        → TakenAs body t v s c (memberOf body (viewAt t v) (childAt body t (v .count) s c) index (m .aggregate) (m .flattened))
         (flatIf (m .aggregate) (m .flattened) index)
         e x w l count e′ x′ l r
-    unfolding memberStep scalarStep
-    member-text a d = not-kept (rw a) (wrote-as (λ room out. rw a) (omega arith) (d .adds) (d .does))
+    unfolding memberOf scalarOf
+    member-text a d = not-kept (rw a) (wrote-as (rw a) (omega arith) (d .adds) (d .does))
 
 pub ruleset member-laws = (needs, member-kept, member-piece, member-text)
 
@@ -180,14 +180,13 @@ pub ruleset row-laws = (needs, local-span, row-resolved)
 
 module _ (body t : List ℕ) (v : View) (s : StartRow) (c : Cursor) {sheet members : List ℕ} {f : Found}
     (y : Resolved sheet members (nameAt body t (s .row) .local) f) where
-  as-member : {o : Option Indexed} → foundIn (saidBy sheet .members) f ≡ o → (room : Room) (out : Output)
-      → childStep body (viewAt t v) (saidBy sheet) (childAt body t (v .count) s c) room out
-      ≡ readMember body (viewAt t v) room (childAt body t (v .count) s c) o out
-  unfolding childStep readChild
-  as-member p room out = rw (y .is, p)
+  as-member : {o : Option Indexed} → foundIn (saidBy sheet .members) f ≡ o
+      → childPlan body (viewAt t v) (saidBy sheet) (childAt body t (v .count) s c) ≡ memberPlan body (viewAt t v) (childAt body t (v .count) s c) o
+  unfolding childPlan
+  as-member p = rw (y .is, p)
 
   pub child-nothing : (e x : List ℕ) (w : Written) (l : List ℕ) (count : ℕ) → f ≡ Found.Nothing
-      → TakenAs body t v s c (childStep body (viewAt t v) (saidBy sheet) (childAt body t (v .count) s c))
+      → TakenAs body t v s c (childPlan body (viewAt t v) (saidBy sheet) (childAt body t (v .count) s c))
       (flatMember (resolve (saidBy sheet) (nameAt body t (s .row) .local))) e x w l count e x l (Taken.Done w count)
   child-nothing e x w l count p =
       let idle = as-member (ap (foundIn (saidBy sheet .members)) p) in
@@ -196,17 +195,17 @@ module _ (body t : List ℕ) (v : View) (s : StartRow) (c : Cursor) {sheet membe
   pub child-member : {i : ℕ} {m : Member} {e x : List ℕ} {w : Written} {l : List ℕ} {count : ℕ} {e′ x′ l′ : List ℕ} {r : Taken} → f
       ≡ Found.At i
       → Given body t v sheet members → MemberRead members i m
-      → TakenAs body t v s c (memberStep body (viewAt t v) (childAt body t (v .count) s c) i (m .aggregate) (m .flattened))
+      → TakenAs body t v s c (memberOf body (viewAt t v) (childAt body t (v .count) s c) i (m .aggregate) (m .flattened))
       (flatIf (m .aggregate) (m .flattened) i)
       e x w l count e′ x′ l′ r
-      → TakenAs body t v s c (childStep body (viewAt t v) (saidBy sheet) (childAt body t (v .count) s c))
+      → TakenAs body t v s c (childPlan body (viewAt t v) (saidBy sheet) (childAt body t (v .count) s c))
       (flatMember (resolve (saidBy sheet) (nameAt body t (s .row) .local))) e x w l count e′ x′ l′ r
-  unfolding memberStep
+  unfolding memberOf
   child-member {i} {m} {l = l} {count} {l′ = l′} p g u d =
       let a = member-said (g .said) u (y .low i p) in
-      let same : (room : Room) (out : Output) → childStep body (viewAt t v) (saidBy sheet) (childAt body t (v .count) s c) room out
-      ≡ memberStep body (viewAt t v) (childAt body t (v .count) s c) i (m .aggregate) (m .flattened) room out
-      = λ room out. rw (← a .aggregate, ← a .flattened) (as-member (ap (foundIn (saidBy sheet .members)) p) room out) in
+      let same : childPlan body (viewAt t v) (saidBy sheet) (childAt body t (v .count) s c)
+      ≡ memberOf body (viewAt t v) (childAt body t (v .count) s c) i (m .aggregate) (m .flattened)
+      = rw (← a .aggregate, ← a .flattened) (as-member (ap (foundIn (saidBy sheet .members)) p)) in
       let flat : flatMember (resolve (saidBy sheet) (nameAt body t (s .row) .local))
       ≡ flatIf (m .aggregate) (m .flattened) i = rw (y .is, p, a .aggregate, a .flattened) in
       record {
@@ -225,7 +224,7 @@ pub record ChildrenAt (body t : List ℕ) (v : View) (st : Structure) (s : Scope
   pub stands : Outside body t (v .count) (c .depth .0) (c .row)
   pub few : count * 2 ≤ c .row
   pub same : length l ≡ length l₀
-  pub one : OneByOne (childStep body (viewAt t v) st) (left body t (v .count) s c₀) (left body t (v .count) s c)
+  pub one : OneByOne (childPlan body (viewAt t v) st) (left body t (v .count) s c₀) (left body t (v .count) s c)
       (afterAttributes + c .row * 65536) e x w e₁ x₁ w₁
   pub keeps : Keeps body (viewAt t v) st l count (left body t (v .count) s c) (left body t (v .count) s c₀)
 
@@ -240,7 +239,7 @@ children-start {body} {t} {v} st s c l g h o b =
       stands = o;
       few = omega arith;
       same = refl;
-      one = one-start (childStep body (viewAt t v) st) (left body t (v .count) s c)
+      one = one-start (childPlan body (viewAt t v) st) (left body t (v .count) s c)
           (record { sound = b .sound; small = omega (arith, b .small) });
       keeps = keeps-start body (viewAt t v) st l (left body t (v .count) s c);
     }
@@ -258,7 +257,7 @@ all-taken {l = l} {n} q h b k =
     }
 
 all-done : {body t : List ℕ} {v : View} {st : Structure} {kids : List Child} {e x e′ x′ : List ℕ} {w w₁ : Written} {l : List ℕ} {n : ℕ}
-    → Does (eachOf (childStep body (viewAt t v) st) kids) e x w e′ x′ (Step.Done w₁) → AllTaken body t v st kids e′ x′ w₁ l n
+    → Does (oneByOne (childPlan body (viewAt t v) st) kids) e x w e′ x′ (Step.Done w₁) → AllTaken body t v st kids e′ x′ w₁ l n
     → ChildrenTaken body t v st kids e x w e′ x′ l (Taken.Done w₁ n)
 all-done {w₁ = w₁} {n = n} d a = record { does = d; done = λ w′ m z. (let y : w₁ ≡ w′ = cc in let u : n ≡ m = cc in rw (← y, ← u) a) }
 
@@ -288,10 +287,10 @@ module _ {body t : List ℕ} {v : View} {st : Structure} {s : ScopeRow} {c₀ : 
           record { room = omega (arith, two-rows, a .few, a .same, a .wide); few = omega (arith, two-rows, a .few, a .viewed .few) }
 
       module _ {e₂ x₂ l₂ : List ℕ} {got : Taken}
-          (d : TakenAs body t v st₁ i (childStep body (viewAt t v) st (childAt body t (v .count) st₁ i))
+          (d : TakenAs body t v st₁ i (childPlan body (viewAt t v) st (childAt body t (v .count) st₁ i))
           (flatMember (resolve st (nameAt body t (st₁ .row) .local)))
           e₁ x₁ w₁ l count e₂ x₂ l₂ got) where
-        here : OneByOne (childStep body (viewAt t v) st) (left body t (v .count) s c₀)
+        here : OneByOne (childPlan body (viewAt t v) st) (left body t (v .count) s c₀)
             (childAt body t (v .count) st₁ i ∷ left body t (v .count) s (p .at))
             (afterAttributes + c .row * 65536) e x w e₁ x₁ w₁
         here = rw (one-left n q y) at (a .one)
@@ -354,7 +353,7 @@ module _ (body t : List ℕ) (v : View) (st : Structure) (s : StartRow) (c : Cur
       → ChildrenTaken body t v st (childrenOf (childAt body t (v .count) s c)) e x w e x l (Taken.Done w 0)
   unfolding childrenOf children
   inside-closed l q g b =
-      rw q (all-done (one-ends (one-start (childStep body (viewAt t v) st) [] b)) (all-taken (g .viewed) (omega arith)
+      rw q (all-done (one-ends (one-start (childPlan body (viewAt t v) st) [] b)) (all-taken (g .viewed) (omega arith)
       (record { sound = b .sound; small = omega (arith, b .small) }) (keeps-start body (viewAt t v) st l [])))
 
   pub inside-open : {e′ x′ l′ : List ℕ} {r : Taken} → s .closed ≡ false

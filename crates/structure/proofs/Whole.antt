@@ -16,8 +16,9 @@ use Rattle.document.specs.Names.{nameMatches}
 use Rattle.document.specs.Scope.{Child, childrenOf}
 use Rattle.sheet.specs.Sheet.{Structure}
 use Rattle.sheet.specs.Names.{rootName}
-use Rattle.readings.specs.Output.{Room, Output, Reading}
-use Rattle.readings.specs.Laws.Order.{memberOrder}
+use Rattle.readings.specs.Plan.{Plan, stop, perform, oneByOne, endTest, Whole}
+use Rattle.readings.specs.Structure.{groupPlan, membersPlan, unwrappedPlan}
+use Rattle.readings.proofs.Laws.Order.{memberOrder}
 use Rattle.decode.specs.Rows.{InTable, nameAt}
 use Rattle.decode.specs.declared.reader.StartRow.{StartRow}
 use Rattle.decode.specs.declared.reader.Cursor.{Cursor}
@@ -29,19 +30,18 @@ use Rattle.codec.specs.declared.structure.StructureSheet.{StructureSheet}
 use Rattle.codec.specs.Structure.{saidBy, StructureSaid}
 use Rattle.output.specs.declared.Written.{Written}
 use Rattle.output.specs.declared.Step.{Step}
-use Rattle.output.specs.Steps.{groups}
-use Rattle.output.specs.Held.{Does, Enters}
-use Rattle.output.proofs.Then.{midway-start, midway-goes, midway-stops, midway-last, tested-well, tested-ill, does-as}
+use Rattle.output.specs.Plans.{groups}
+use Rattle.output.specs.Held.{DoesWhole, Enters}
+use Rattle.output.proofs.Then.{whole-goes, whole-stops, alone-does, whole-as}
 use Rattle.output.proofs.Room.{stays}
 use Rattle.output.proofs.Sound.{sound-nothing}
 use Rattle.opening.specs.Opening.{RootAt}
 use Rattle.structure.specs.declared.children.Taken.{Taken}
 use Rattle.structure.specs.Steps.{Given, Begins, DoesWithin, openedAt, afterAttributes, afterChildren}
-use Rattle.structure.specs.Attributes.{attributesStep}
+use Rattle.structure.specs.Attributes.{attributesPlan}
 use Rattle.structure.specs.Children.{stepOf, ChildrenTaken}
 use Rattle.structure.specs.Groups.{KeptIn, GroupsIs}
-use Rattle.structure.specs.Unwrapped.{unwrappedStep}
-use Rattle.structure.specs.Structure.{groupsStep, contentStep, membersStep, isOther, structureStep, ContentIs, none-written}
+use Rattle.structure.specs.Structure.{contentPlan, isOther, rootedPlan, ContentIs, none-written}
 use Rattle.structure.specs.Structure.{MembersAre, StructureIs}
 
 -- ---- children, then 9, then groups
@@ -62,45 +62,36 @@ module _ {body t : List ℕ} {v : View} {st : Structure} {kids : List Child} {e 
 module _ {body t : List ℕ} {v : View} {st : Structure} (s : StartRow) (c : Cursor) {e x : List ℕ} {w : Written} {e₁ x₁ l : List ℕ}
     {got : Taken}
     (k : ChildrenTaken body t v st (childrenOf (childAt body t (v .count) s c)) e x w e₁ x₁ l got) where
+  -- what comes after the children
+  abbrev order : List ℕ
+  order = memberOrder st (childrenOf (childAt body t (v .count) s c))
+
+  abbrev gathered : Plan
+  gathered = oneByOne (groupPlan body (viewAt t v) st (childrenOf (childAt body t (v .count) s c))) order
+
   pub content-refused : {why : Refusal} {w₁ : Written} → got ≡ Taken.Refused why w₁
       → ContentIs body t v st s c e x w e₁ x₁ (Step.Refused why w₁)
-  unfolding contentStep
-  content-refused q =
-      record {
-        does = midway-stops (midway-start (contentStep body st (openedAt body t v s c)) e x w) (groupsStep body st (openedAt body t v s c))
-            (λ room out. refl) (k .does)
-            (ap stepOf q);
-      }
+  unfolding contentPlan
+  content-refused q = record { does = whole-stops (endTest (v .«ill_formed»)) gathered (k .does) (ap stepOf q) }
 
   module _ {w₁ : Written} {n : ℕ} (q : got ≡ Taken.Done w₁ n) where
-    groups-last : {e₂ x₂ : List ℕ} {r : Step} → Does (groupsStep body st (openedAt body t v s c)) e₁ x₁ w₁ e₂ x₂ r
+    groups-last : {e₂ x₂ : List ℕ} {r : Step} → DoesWhole (record { asMet = endTest (v .«ill_formed»); groups = gathered }) e₁ x₁ w₁ e₂ x₂ r
         → ContentIs body t v st s c e x w e₂ x₂ r
-    unfolding contentStep
-    groups-last d =
-        record {
-          does = midway-last (midway-goes (midway-start (contentStep body st (openedAt body t v s c)) e x w)
-              (groupsStep body st (openedAt body t v s c))
-              (λ room out. refl) (k .does) (ap stepOf q)) d;
-        }
+    unfolding contentPlan
+    groups-last d = record { does = whole-goes (endTest (v .«ill_formed»)) gathered (k .does) (ap stepOf q) d }
 
     pub content-ill : v .«ill_formed» ≡ true → ContentIs body t v st s c e x w e₁ x₁ (Step.Refused Refusal.IllFormed w₁)
-    unfolding groupsStep
-    content-ill p =
-        let kids = childrenOf (childAt body t (v .count) s c) in
-        groups-last (midway-stops (midway-start (groupsStep body st (openedAt body t v s c)) e₁ x₁ w₁)
-        (groups body (viewAt t v) st kids (memberOrder st kids))
-        (λ room out. refl) (tested-ill e₁ x₁ w₁ p) refl)
+    unfolding perform
+    content-ill p = groups-last (rw p (record { is = λ h. stays h }))
 
     pub content-groups : {m : ℕ} {e₂ x₂ : List ℕ} {r : Step} → v .«ill_formed» ≡ false → length (st .members) ≡ m
         → GroupsIs body (part l 0 (n * 3)) m e₁ x₁ w₁ e₂ x₂ r → ContentIs body t v st s c e x w e₂ x₂ r
-    unfolding groupsStep
+    unfolding groups
     content-groups p f d =
-        let kids = childrenOf (childAt body t (v .count) s c) in
         let z : n * 3 - 0 ≡ n * 3 = omega arith in
         let kept = rw (← z) at (k .done w₁ n q .groups) in
-        groups-last (midway-last (midway-goes (midway-start (groupsStep body st (openedAt body t v s c)) e₁ x₁ w₁)
-        (groups body (viewAt t v) st kids (memberOrder st kids)) (λ room out. refl) (tested-well e₁ x₁ w₁ p) refl)
-        (d .is (viewAt t v) st kids kept f))
+        let done : Bool → Whole = λ (b : Bool). record { asMet = endTest b; groups = gathered } in
+        groups-last (whole-as (ap done p) (d .is (viewAt t v) st (childrenOf (childAt body t (v .count) s c)) kept f))
 
 pub members-few : {body t : List ℕ} {v : View} {sheet members : List ℕ} → Given body t v sheet members → length members / 3 ≤ 64
 members-few g = omega (arith, g .said .size, g .said .few)
@@ -122,29 +113,22 @@ pub nothing-begins : (e x : List ℕ) → Begins 0 e x (record { count = 0; used
 nothing-begins e x = record { sound = sound-nothing e x; small = omega arith }
 
 module _ (body t : List ℕ) (v : View) (st : Structure) (s : StartRow) (c : Cursor) {e x e₁ x₁ : List ℕ} {got : Step}
-    (k : DoesWithin afterAttributes (attributesStep body t s st) e x (record { count = 0; used = 0 }) e₁ x₁ got) where
+    (k : DoesWithin afterAttributes (attributesPlan body t s st) e x (record { count = 0; used = 0 }) e₁ x₁ got) where
+  abbrev content : Whole
+  content = contentPlan body st (openedAt body t v s c)
+
   pub members-refused : {why : Refusal} {w₁ : Written} → got ≡ Step.Refused why w₁
       → MembersAre body t v st s c e x e₁ x₁ (Step.Refused why w₁)
-  unfolding membersStep
-  members-refused q =
-      record {
-        does = midway-stops (midway-start (membersStep body st (openedAt body t v s c)) e x none-written)
-            (contentStep body st (openedAt body t v s c))
-            (λ room out. refl) (k .does) q;
-      }
+  unfolding membersPlan contentPlan
+  members-refused q = record { does = whole-stops (content .asMet) (content .groups) (k .does) q }
 
   pub members-done : {w₁ : Written} {e₂ x₂ : List ℕ} {r : Step} → got ≡ Step.Done w₁ → ContentIs body t v st s c e₁ x₁ w₁ e₂ x₂ r
       → MembersAre body t v st s c e x e₂ x₂ r
-  unfolding membersStep
-  members-done q d =
-      record {
-        does = midway-last (midway-goes (midway-start (membersStep body st (openedAt body t v s c)) e x none-written)
-            (contentStep body st (openedAt body t v s c))
-            (λ room out. refl) (k .does) q) (d .does);
-      }
+  unfolding membersPlan contentPlan
+  members-done q d = record { does = whole-goes (content .asMet) (content .groups) (k .does) q (d .does) }
 
-pub within-begins : {limit : ℕ} {step : Room → Output → Reading} {e x e′ x′ : List ℕ} {w w′ : Written} {r : Step}
-    → DoesWithin limit step e x w e′ x′ r → r ≡ Step.Done w′
+pub within-begins : {limit : ℕ} {plan : Plan} {e x e′ x′ : List ℕ} {w w′ : Written} {r : Step}
+    → DoesWithin limit plan e x w e′ x′ r → r ≡ Step.Done w′
     → Begins limit e′ x′ w′
 within-begins {w′ = w′} k q = k .done w′ q
 
@@ -177,20 +161,20 @@ module _ (body t : List ℕ) (v : View) (sheet : List ℕ) (tests : Bool) (s : S
     (q : u ≡ isOther tests (nameMatches (nameAt body t (s .row)) (rootName (saidBy sheet)))) where
   pub whole-other : (e x : List ℕ) → u ≡ true
       → StructureIs body t v (saidBy sheet) tests s c e x e x (Step.Refused Refusal.RootName none-written)
-  unfolding structureStep
-  whole-other e x p = record { does = record { is = λ h. rw (← q, p) (stays h) } }
+  unfolding rootedPlan perform
+  whole-other e x p = record { does = whole-as (rw (← q, p)) (alone-does {p = stop Refusal.RootName} (record { is = λ h. stays h })) }
 
   module _ (p : u ≡ false) {r : StructureSheet} (said : StructureSaid sheet r) {e e′ : List ℕ} {got : Step} where
     pub whole-alone : (x : List ℕ) → r .unwrapped ≡ true
-        → Enters (unwrappedStep body (saidBy sheet) (openedAt body t v s c)) e none-written e′ got
+        → Enters (unwrappedPlan body (saidBy sheet) (openedAt body t v s c)) e none-written e′ got
         → StructureIs body t v (saidBy sheet) tests s c e x e′ x got
-    unfolding structureStep
-    whole-alone x f d = record { does = does-as (λ room out. rw (← q, p, said .unwrapped, f)) (d .is x) }
+    unfolding rootedPlan
+    whole-alone x f d = record { does = whole-as (rw (← q, p, said .unwrapped, f)) (alone-does (d .is x)) }
 
     pub whole-members : {x x′ : List ℕ} → r .unwrapped ≡ false → MembersAre body t v (saidBy sheet) s c e x e′ x′ got
         → StructureIs body t v (saidBy sheet) tests s c e x e′ x′ got
-    unfolding structureStep
-    whole-members f d = record { does = does-as (λ room out. rw (← q, p, said .unwrapped, f)) (d .does) }
+    unfolding rootedPlan
+    whole-members f d = record { does = whole-as (rw (← q, p, said .unwrapped, f)) (d .does) }
 
 pub ruleset whole-laws = (needs, root-given, root-row, whole-other, whole-alone, whole-members)
 

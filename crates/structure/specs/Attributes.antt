@@ -1,23 +1,18 @@
--- The attributes of a root, as steps with the room last.
+-- The attributes of a root.
 use Prim.Native.Nat.{ℕ}
 use mathlib.Core.List.{List}
 use Rattle.document.specs.Reader.{Attribute}
 use Rattle.sheet.specs.Sheet.{Structure}
-use Rattle.sheet.specs.Names.{Indexed, membersOf}
-use Rattle.readings.specs.Output.{Room, Output, Reading}
-use Rattle.readings.specs.Structure.{attributeOf, writeFound, readAttribute}
+use Rattle.sheet.specs.Names.{membersOf}
+use Rattle.readings.specs.Plan.{Plan, oneByOne}
+use Rattle.readings.specs.Structure.{attributeOf, foundPlan, attributePlan}
 use Rattle.decode.specs.declared.reader.StartRow.{StartRow}
 use Rattle.decode.specs.Reader.{startAt}
-use Rattle.output.specs.Steps.{eachOf}
 
 -- the attribute that a name asks for
-unfoldable pub foundStep : List Attribute → ℕ → List ℕ → Room → Output → Reading
-foundStep l index name room = writeFound room index (attributeOf l name)
-
--- that a member asks for
-unfoldable pub attributeStep : List Attribute → Indexed → Room → Output → Reading
-attributeStep l m room = readAttribute room l m
+unfoldable pub attributeNamed : List Attribute → ℕ → List ℕ → Plan
+attributeNamed l index name = foundPlan index (attributeOf l name)
 
 -- of each member, in sheet order
-abbrev pub attributesStep : List ℕ → List ℕ → StartRow → Structure → Room → Output → Reading
-attributesStep body t s st = eachOf (attributeStep (startAt body t s .attributes)) (membersOf st)
+abbrev pub attributesPlan : List ℕ → List ℕ → StartRow → Structure → Plan
+attributesPlan body t s st = oneByOne (attributePlan (startAt body t s .attributes)) (membersOf st)

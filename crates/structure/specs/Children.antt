@@ -1,4 +1,4 @@
--- The children of a root: what is written of them, as steps with the room last, and what is kept of them.
+-- The children of a root: what is written of them, and what is kept of them.
 use Prim.Native.Nat.{ℕ, _+_, _*_, _≤_}
 use mathlib.Core.Path.{_≡_}
 use mathlib.Core.Bool.{Bool}
@@ -12,8 +12,9 @@ use Rattle.document.specs.View as doc
 use Rattle.document.specs.Scope.{Child, pieceOf}
 use Rattle.document.specs.Text.{textOf}
 use Rattle.sheet.specs.Sheet.{Structure}
-use Rattle.readings.specs.Output.{Room, Output, Reading, finished, writePiece}
-use Rattle.readings.specs.Structure.{readScalar, readChild}
+use Rattle.readings.specs.Output.{pieceEntry}
+use Rattle.readings.specs.Plan.{Plan, end, one, oneByOne}
+use Rattle.readings.specs.Structure.{scalarPlan, childPlan}
 use Rattle.decode.specs.declared.reader.StartRow.{StartRow}
 use Rattle.decode.specs.declared.reader.Cursor.{Cursor}
 use Rattle.decode.specs.declared.view.View.{View}
@@ -21,7 +22,6 @@ use Rattle.decode.specs.Reader.{childAt}
 use Rattle.decode.specs.View.{viewAt}
 use Rattle.output.specs.declared.Written.{Written}
 use Rattle.output.specs.declared.Step.{Step}
-use Rattle.output.specs.Steps.{eachOf}
 use Rattle.output.specs.Held.{Does, Adds}
 use Rattle.structure.specs.declared.children.Taken.{Taken}
 use Rattle.structure.specs.Steps.{Begins, afterChildren}
@@ -29,19 +29,15 @@ use Rattle.structure.specs.Groups.{KeptIn, GroupsKept}
 
 -- ---- what is written
 -- a scalar's text, or that it failed
-unfoldable pub scalarStep : ℕ → Answer (List ℕ) → Room → Output → Reading
-scalarStep index a room = readScalar room index a
+unfoldable pub scalarOf : ℕ → Answer (List ℕ) → Plan
+scalarOf index a = scalarPlan index a
 
 -- a child of a member with these flags: nothing yet, a piece, or a text
-unfoldable pub memberStep : List ℕ → doc.View → Child → ℕ → Bool → Bool → Room → Output → Reading
-memberStep body v c index aggregate flattened room out =
-    let piece = writePiece room index (pieceOf body v c) out in
-    let text = readScalar room index (textOf (v .failure) c) out in
-    pick aggregate (pick flattened (finished out) piece) text
-
--- a child by the member that its local name resolves to
-unfoldable pub childStep : List ℕ → doc.View → Structure → Child → Room → Output → Reading
-childStep body v st c room = readChild body v st room c
+unfoldable pub memberOf : List ℕ → doc.View → Child → ℕ → Bool → Bool → Plan
+memberOf body v c index aggregate flattened =
+    let piece = one (pieceEntry index (pieceOf body v c)) [] in
+    let text = scalarPlan index (textOf (v .failure) c) in
+    pick aggregate (pick flattened end piece) text
 
 -- ---- what is answered: a step, and how many are kept
 abbrev pub takenOf : Step → ℕ → Taken
@@ -69,11 +65,11 @@ pub data Keeping (body : List ℕ) (v : doc.View) (c : Child) (o : Option ℕ) (
   kept : (j : ℕ) → o ≡ some j → l′ ≡ sets l (count * 3) (j ∷ pieceOf body v c .start ∷ pieceOf body v c .len ∷ []) → count′ ≡ count + 1
       → pieceOf body v c .start + pieceOf body v c .len ≤ length body → Keeping body v c o l count l′ count′
 
--- ---- one child: the step is done, and where it goes on, the child is kept for member o, if it is for one
-pub record TakenAs (body t : List ℕ) (v : View) (s : StartRow) (c : Cursor) (step : Room → Output → Reading) (o : Option ℕ)
+-- ---- one child: its plan is done, and where it goes on, the child is kept for member o, if it is for one
+pub record TakenAs (body t : List ℕ) (v : View) (s : StartRow) (c : Cursor) (plan : Plan) (o : Option ℕ)
     (e x : List ℕ) (w : Written) (l : List ℕ) (count : ℕ) (e′ x′ l′ : List ℕ) (r : Taken) : Type 0 where
-  pub does : Does step e x w e′ x′ (stepOf r)
-  pub adds : Adds step 65536
+  pub does : Does plan e x w e′ x′ (stepOf r)
+  pub adds : Adds plan 65536
   pub keeps : (w′ : Written) (n : ℕ) → r ≡ Taken.Done w′ n → Keeping body (viewAt t v) (childAt body t (v .count) s c) o l count l′ n
 
 -- ---- all children: where they are done, the first n * 3 numbers of l are those of the groups
@@ -86,5 +82,5 @@ pub record AllTaken (body t : List ℕ) (v : View) (st : Structure) (kids : List
 
 pub record ChildrenTaken (body t : List ℕ) (v : View) (st : Structure) (kids : List Child) (e x : List ℕ) (w : Written) (e′ x′ l′ : List ℕ)
     (r : Taken) : Type 0 where
-  pub does : Does (eachOf (childStep body (viewAt t v) st) kids) e x w e′ x′ (stepOf r)
+  pub does : Does (oneByOne (childPlan body (viewAt t v) st) kids) e x w e′ x′ (stepOf r)
   pub done : (w′ : Written) (n : ℕ) → r ≡ Taken.Done w′ n → AllTaken body t v st kids e′ x′ w′ l′ n

@@ -7,14 +7,13 @@ use Rattle.lists.specs.Tests.{pick}
 use Rattle.document.specs.View.{View}
 use Rattle.document.specs.Scope.{Child}
 use Rattle.sheet.specs.Sheet.{Structure}
-use Rattle.readings.specs.Output.{Room, Output, Reading}
+use Rattle.readings.specs.Plan.{Plan}
 use Rattle.readings.specs.Structure.{groupOf}
-use Rattle.readings.specs.Conditions.Groups.{together}
-use Rattle.readings.specs.Laws.Order.{hasGroup, memberOrder}
+use Rattle.readings.proofs.Laws.Order.{hasGroup, memberOrder}
 use Rattle.output.specs.declared.Written.{Written}
 use Rattle.output.specs.declared.Step.{Step}
-use Rattle.output.specs.Steps.{group, groups}
-use Rattle.output.specs.Held.{Does}
+use Rattle.output.specs.Plans.{group, groups, together}
+use Rattle.output.specs.Held.{DoesWhole}
 use Rattle.output.specs.Kept.{isKept, flat, Inside}
 use Rattle.structure.specs.declared.groups.Sum.{Sum}
 
@@ -30,8 +29,8 @@ pub record GroupsKept (body : List ℕ) (v : View) (st : Structure) (kids : List
   pub has : (i : ℕ) → isKept kept i ≡ hasGroup st i kids
 
 -- ---- one group
-unfoldable pub flatStep : List ℕ → List ℕ → ℕ → Room → Output → Reading
-flatStep body kept i = group i (flat body kept i)
+unfoldable pub flatPlan : List ℕ → List ℕ → ℕ → Plan
+flatPlan body kept i = group i (flat body kept i)
 
 -- the members that have one, of so many from i on
 unfoldable pub keptFrom : List ℕ → ℕ → ℕ → List ℕ
@@ -46,4 +45,4 @@ pub record SumIs (body kept : List ℕ) (n : ℕ) (r : Sum) : Type 0 where
 -- ---- all of them, or none: of whatever children they are
 pub record GroupsIs (body kept : List ℕ) (n : ℕ) (e x : List ℕ) (w : Written) (e′ x′ : List ℕ) (r : Step) : Type 0 where
   pub is : (v : View) (st : Structure) (kids : List Child) → GroupsKept body v st kids kept → length (st .members) ≡ n
-      → Does (groups body v st kids (memberOrder st kids)) e x w e′ x′ r
+      → DoesWhole (groups body v st kids (memberOrder st kids)) e x w e′ x′ r

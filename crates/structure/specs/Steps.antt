@@ -5,7 +5,7 @@ use mathlib.Core.List.{List}
 use lib.ListN.{length, getD}
 use Rattle.sheet.specs.Sheet.{Structure}
 use Rattle.sheet.specs.Names.{Indexed}
-use Rattle.readings.specs.Output.{Room, Output, Reading}
+use Rattle.readings.specs.Plan.{Plan}
 use Rattle.readings.specs.Opening.{Opened}
 use Rattle.decode.specs.Rows.{Readable}
 use Rattle.decode.specs.declared.reader.StartRow.{StartRow}
@@ -31,23 +31,23 @@ openedAt body t v s c = record { seen = viewAt t v; root = childAt body t (v .co
 abbrev pub memberIn : Structure → ℕ → Indexed
 memberIn st i = record { index = i; member = getD (st .members) i nameless }
 
--- ---- one step: it adds no more text bytes than a body has, for which there must be places
+-- ---- one plan: it adds no more text bytes than a body has, for which there must be places
 pub record Space (body t : List ℕ) (w : Written) : Type 0 where
   pub readable : Readable body t
   pub short : length body ≤ 65536
   pub small : w .used + 65536 < 2 ^ 32
 
-pub record Wrote (step : Room → Output → Reading) (e x : List ℕ) (w : Written) (e′ x′ : List ℕ) (r : Step) : Type 0 where
-  pub does : Does step e x w e′ x′ r
-  pub adds : Adds step 65536
+pub record Wrote (plan : Plan) (e x : List ℕ) (w : Written) (e′ x′ : List ℕ) (r : Step) : Type 0 where
+  pub does : Does plan e x w e′ x′ r
+  pub adds : Adds plan 65536
 
--- ---- many steps: where they go on, no more text bytes are used than a limit
+-- ---- many: where they go on, no more text bytes are used than a limit
 pub record Begins (limit : ℕ) (e x : List ℕ) (w : Written) : Type 0 where
   pub sound : Sound e x w
   pub small : w .used ≤ limit
 
-pub record DoesWithin (limit : ℕ) (step : Room → Output → Reading) (e x : List ℕ) (w : Written) (e′ x′ : List ℕ) (r : Step) : Type 0 where
-  pub does : Does step e x w e′ x′ r
+pub record DoesWithin (limit : ℕ) (plan : Plan) (e x : List ℕ) (w : Written) (e′ x′ : List ℕ) (r : Step) : Type 0 where
+  pub does : Does plan e x w e′ x′ r
   pub done : (w′ : Written) → r ≡ Step.Done w′ → Begins limit e′ x′ w′
 
 -- 65536 bytes for each of 64 members, and then for each of 8192 rows

@@ -1,5 +1,4 @@
--- The whole of a structure whose root is given: the definition's `readOpened` (readings/specs/Structure.antt), as a step with the room
--- last, in the order by rising member index.
+-- The whole of a structure whose root is given (readings/specs/Structure.antt), in the order by rising member index.
 use Prim.Native.Nat.{ℕ}
 use mathlib.Core.Bool.{Bool, true, false}
 use mathlib.Core.List.{List}
@@ -8,52 +7,44 @@ use Rattle.refusal.specs.declared.Refusal.{Refusal}
 use Rattle.document.specs.Names.{nameMatches}
 use Rattle.document.specs.Scope.{childrenOf}
 use Rattle.sheet.specs.Sheet.{Structure}
-use Rattle.sheet.specs.Names.{membersOf, rootName}
-use Rattle.readings.specs.Output.{Room, Output, Reading, refused, andThen}
+use Rattle.sheet.specs.Names.{rootName}
+use Rattle.readings.specs.Plan.{stop, followedBy, oneByOne, endTest, Whole, withoutGroups}
 use Rattle.readings.specs.Opening.{Opened}
-use Rattle.readings.specs.Laws.Order.{memberOrder}
+use Rattle.readings.specs.Structure.{childPlan, groupPlan, membersPlan, unwrappedPlan}
+use Rattle.readings.proofs.Laws.Order.{memberOrder}
 use Rattle.decode.specs.declared.reader.StartRow.{StartRow}
 use Rattle.decode.specs.declared.reader.Cursor.{Cursor}
 use Rattle.decode.specs.declared.view.View.{View}
 use Rattle.output.specs.declared.Written.{Written}
 use Rattle.output.specs.declared.Step.{Step}
-use Rattle.output.specs.Steps.{eachOf, tested, groups}
-use Rattle.output.specs.Held.{Does}
+use Rattle.output.specs.Held.{DoesWhole}
 use Rattle.structure.specs.Steps.{openedAt}
-use Rattle.structure.specs.Attributes.{attributeStep}
-use Rattle.structure.specs.Children.{childStep}
-use Rattle.structure.specs.Unwrapped.{unwrappedStep}
 
--- 9, then the groups
-unfoldable pub groupsStep : List ℕ → Structure → Opened → Room → Output → Reading
-groupsStep body st o room out =
+-- the children, 9, then the groups
+unfoldable pub contentPlan : List ℕ → Structure → Opened → Whole
+contentPlan body st o =
     let kids = childrenOf (o .root) in
-    andThen (tested (o .seen .illFormed) room out) (groups body (o .seen) st kids (memberOrder st kids) room)
-
--- the children, then those
-unfoldable pub contentStep : List ℕ → Structure → Opened → Room → Output → Reading
-contentStep body st o room out = andThen (eachOf (childStep body (o .seen) st) (childrenOf (o .root)) room out) (groupsStep body st o room)
-
--- the attributes, then those: `readMembers`
-unfoldable pub membersStep : List ℕ → Structure → Opened → Room → Output → Reading
-membersStep body st o room out =
-    andThen (eachOf (attributeStep (o .root .start .attributes)) (membersOf st) room out) (contentStep body st o room)
+    record {
+      asMet = followedBy (oneByOne (childPlan body (o .seen) st) kids) (endTest (o .seen .illFormed));
+      groups = oneByOne (groupPlan body (o .seen) st kids) (memberOrder st kids);
+    }
 
 -- "5 root name": it is tested, and another
 abbrev pub isOther : Bool → Bool → Bool
 isOther tests matches = pick tests (pick matches false true) false
 
--- `readOpened`
-unfoldable pub structureStep : List ℕ → Structure → Bool → Opened → Room → Output → Reading
-structureStep body st tests o room out =
-    let alone = unwrappedStep body st o room out in
-    let all = membersStep body st o room out in
-    pick (isOther tests (nameMatches (o .root .start .name) (rootName st))) (refused Refusal.RootName out) (pick (st .unwrapped) alone all)
+-- 5, and then the root alone, or its members
+unfoldable pub rootedPlan : List ℕ → Structure → Bool → Opened → Whole
+rootedPlan body st tests o =
+    let unwrapped = withoutGroups (unwrappedPlan body st o) in
+    let wrapped = membersPlan body st (memberOrder st (childrenOf (o .root))) o in
+    pick (isOther tests (nameMatches (o .root .start .name) (rootName st))) (withoutGroups (stop Refusal.RootName))
+    (pick (st .unwrapped) unwrapped wrapped)
 
 -- ---- what the functions promise
 pub record ContentIs (body t : List ℕ) (v : View) (st : Structure) (s : StartRow) (c : Cursor) (e x : List ℕ) (w : Written) (e′ x′ : List ℕ)
     (r : Step) : Type 0 where
-  pub does : Does (contentStep body st (openedAt body t v s c)) e x w e′ x′ r
+  pub does : DoesWhole (contentPlan body st (openedAt body t v s c)) e x w e′ x′ r
 
 -- nothing is written yet
 abbrev pub none-written : Written
@@ -61,8 +52,9 @@ none-written = record { count = 0; used = 0 }
 
 pub record MembersAre (body t : List ℕ) (v : View) (st : Structure) (s : StartRow) (c : Cursor) (e x e′ x′ : List ℕ)
     (r : Step) : Type 0 where
-  pub does : Does (membersStep body st (openedAt body t v s c)) e x none-written e′ x′ r
+  pub does : DoesWhole (membersPlan body st (memberOrder st (childrenOf (openedAt body t v s c .root))) (openedAt body t v s c))
+      e x none-written e′ x′ r
 
 pub record StructureIs (body t : List ℕ) (v : View) (st : Structure) (tests : Bool) (s : StartRow) (c : Cursor) (e x e′ x′ : List ℕ)
     (r : Step) : Type 0 where
-  pub does : Does (structureStep body st tests (openedAt body t v s c)) e x none-written e′ x′ r
+  pub does : DoesWhole (rootedPlan body st tests (openedAt body t v s c)) e x none-written e′ x′ r

@@ -1,24 +1,22 @@
 -- An unwrapped structure: the root by its rows, as one piece.
 use Prim.Native.Nat.{ℕ, _-_, _≤_}
 use mathlib.Core.Path.{_≡_}
-use mathlib.Core.List.{List}
+use mathlib.Core.List.{List, []}
 use lib.ListN.{length, take}
 use Rattle.lists.specs.Tests.{pick}
 use Rattle.table.specs.Row.{Row}
 use Rattle.table.specs.Rules.{lastPosition}
 use Rattle.table.specs.Flat.{rowsFrom}
 use Rattle.table.specs.Piece.{closing, isClosed}
-use Rattle.sheet.specs.Sheet.{Structure}
-use Rattle.sheet.specs.Names.{resolve}
-use Rattle.readings.specs.Output.{Room, Output, Reading, andThen, writePiece}
+use Rattle.readings.specs.Output.{pieceEntry}
+use Rattle.readings.specs.Plan.{Plan, one}
 use Rattle.readings.specs.Opening.{Opened}
-use Rattle.readings.specs.Structure.{rootPiece, writeRoot}
+use Rattle.readings.specs.Structure.{rootPiece}
 use Rattle.decode.specs.declared.reader.StartRow.{StartRow}
 use Rattle.decode.specs.declared.reader.Cursor.{Cursor}
 use Rattle.decode.specs.declared.view.View.{View}
 use Rattle.decode.specs.declared.piece.Piece.{Piece}
 use Rattle.decode.specs.Piece.{pieceAt}
-use Rattle.output.specs.Steps.{tested}
 use Rattle.structure.specs.Steps.{openedAt}
 
 -- where an element ends by its rows, n being open before them, after a row at position p
@@ -37,10 +35,5 @@ pub record RootPieceIs (body t : List ℕ) (v : View) (s : StartRow) (r : Piece)
   pub len : r .len ≤ length body
 
 -- the root as a piece of a member
-unfoldable pub rootStep : List ℕ → Opened → ℕ → Room → Output → Reading
-rootStep body o index room = writePiece room index (rootPiece body o)
-
--- "9, then one piece .. or none"
-unfoldable pub unwrappedStep : List ℕ → Structure → Opened → Room → Output → Reading
-unwrappedStep body st o room out =
-    andThen (tested (o .seen .illFormed) room out) (writeRoot room (rootPiece body o) (resolve st (o .root .start .name .local)))
+unfoldable pub rootAs : List ℕ → Opened → ℕ → Plan
+rootAs body o index = one (pieceEntry index (rootPiece body o)) []

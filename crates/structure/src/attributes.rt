@@ -4,7 +4,8 @@ ghost use lib.ListN.{length};
 ghost use Rattle.decode.specs.Reader.{Sees, StartIn, startAt};
 ghost use Rattle.codec.specs.Structure.{saidBy};
 ghost use Rattle.structure.specs.Steps.{Given, Space, Wrote, Begins, DoesWithin, memberIn, afterAttributes};
-ghost use Rattle.structure.specs.Attributes.{foundStep, attributeStep, attributesStep};
+ghost use Rattle.readings.specs.Structure.{attributePlan};
+ghost use Rattle.structure.specs.Attributes.{attributeNamed, attributesPlan};
 use codec::structure::attribute_name;
 use codec::structure::member_at;
 use decode::name::span;
@@ -30,7 +31,7 @@ fn read_attribute(
     requires { ⌜ Sees (now body) (now rows) n ⌝ }
     requires { ⌜ StartIn (now body) (now rows) n root ⌝ }
     requires { ⌜ Space (now body) (now rows) w ⌝ }
-    ensures { λ r. ⌜ Wrote (foundStep (startAt (now (body .entry)) (now (rows .entry)) root .attributes) member (now (name .entry)))
+    ensures { λ r. ⌜ Wrote (attributeNamed (startAt (now (body .entry)) (now (rows .entry)) root .attributes) member (now (name .entry)))
         (now (entries .entry)) (now (texts .entry)) w (now (entries .exit)) (now (texts .exit)) r ⌝ }
 {
     match attr(body, rows, n, root, name) {
@@ -56,7 +57,7 @@ fn attribute_of(
     requires { ⌜ StartIn (now body) (now rows) (view .count) root ⌝ }
     requires { ⌜ Space (now body) (now rows) w ⌝ }
     requires { ⌜ i * 3 + 3 ≤ length (now members) ⌝ }
-    ensures { λ r. ⌜ Wrote (attributeStep (startAt (now (body .entry)) (now (rows .entry)) root .attributes)
+    ensures { λ r. ⌜ Wrote (attributePlan (startAt (now (body .entry)) (now (rows .entry)) root .attributes)
         (memberIn (saidBy (now (sheet .entry))) i))
         (now (entries .entry)) (now (texts .entry)) w (now (entries .exit)) (now (texts .exit)) r ⌝ }
 {
@@ -93,7 +94,7 @@ pub fn read_attributes(
     requires { ⌜ Given (now body) (now rows) view (now sheet) (now members) ⌝ }
     requires { ⌜ StartIn (now body) (now rows) (view .count) root ⌝ }
     requires { ⌜ Begins 0 (now entries) (now texts) w ⌝ }
-    ensures { λ r. ⌜ DoesWithin afterAttributes (attributesStep (now (body .entry)) (now (rows .entry)) root (saidBy (now (sheet .entry))))
+    ensures { λ r. ⌜ DoesWithin afterAttributes (attributesPlan (now (body .entry)) (now (rows .entry)) root (saidBy (now (sheet .entry))))
         (now (entries .entry)) (now (texts .entry)) w (now (entries .exit)) (now (texts .exit)) r ⌝ }
 {
     let count = members.len() / 3;

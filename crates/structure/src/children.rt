@@ -8,13 +8,13 @@ ghost use Rattle.document.specs.Scope.{childrenOf};
 ghost use Rattle.decode.specs.Reader.{HasRow, Outside, StartIn, DroppedIs, childAt};
 ghost use Rattle.decode.specs.Rows.{InTable, Readable, nameAt};
 ghost use Rattle.sheet.specs.Names.{resolve};
-ghost use Rattle.readings.specs.Structure.{flatMember};
+ghost use Rattle.readings.specs.Structure.{childPlan, flatMember};
 ghost use Rattle.decode.specs.Text.{TextIn, textAt};
 ghost use Rattle.decode.specs.View.{Viewed, failureAt, viewAt};
 ghost use Rattle.codec.specs.Structure.{saidBy, MembersSaid, Resolved};
 ghost use Rattle.opening.specs.Level.{left};
 ghost use Rattle.structure.specs.Steps.{Given, Space, Wrote, Begins, afterAttributes};
-ghost use Rattle.structure.specs.Children.{scalarStep, memberStep, childStep, takenOf, flatIf, KeptRoom, TakenAs, ChildrenTaken};
+ghost use Rattle.structure.specs.Children.{scalarOf, memberOf, takenOf, flatIf, KeptRoom, TakenAs, ChildrenTaken};
 use codec::structure::Found;
 use codec::structure::Member;
 use codec::structure::member_at;
@@ -59,7 +59,7 @@ fn put_text(
 ) -> Step
     requires { ⌜ Space (now body) (now rows) w ⌝ }
     requires { ⌜ TextIn (now rows) text ⌝ }
-    ensures { λ r. ⌜ Wrote (scalarStep member (textAt (now (body .entry)) (now (rows .entry)) text))
+    ensures { λ r. ⌜ Wrote (scalarOf member (textAt (now (body .entry)) (now (rows .entry)) text))
         (now (entries .entry)) (now (texts .entry)) w (now (entries .exit)) (now (texts .exit)) r ⌝ }
 {
     match text {
@@ -84,7 +84,7 @@ fn read_scalar(
     requires { ⌜ Viewed (now body) (now rows) view ⌝ }
     requires { ⌜ StartIn (now body) (now rows) (view .count) start ⌝ }
     requires { ⌜ Space (now body) (now rows) w ⌝ }
-    ensures { λ r. ⌜ Wrote (scalarStep member (textOf (failureAt (view .failure))
+    ensures { λ r. ⌜ Wrote (scalarOf member (textOf (failureAt (view .failure))
         (childAt (now (body .entry)) (now (rows .entry)) (view .count) start at)))
         (now (entries .entry)) (now (texts .entry)) w (now (entries .exit)) (now (texts .exit)) r ⌝ }
 {
@@ -115,7 +115,7 @@ fn read_member(
     requires { ⌜ Space (now body) (now rows) w ⌝ }
     requires { ⌜ KeptRoom (now kept) count ⌝ }
     ensures { λ r. ⌜ TakenAs (now (body .entry)) (now (rows .entry)) view start at
-        (memberStep (now (body .entry)) (viewAt (now (rows .entry)) view)
+        (memberOf (now (body .entry)) (viewAt (now (rows .entry)) view)
         (childAt (now (body .entry)) (now (rows .entry)) (view .count) start at) index (member .aggregate) (member .flattened))
         (flatIf (member .aggregate) (member .flattened) index)
         (now (entries .entry)) (now (texts .entry)) w (now (kept .entry)) count
@@ -166,7 +166,7 @@ fn read_child(
     requires { ⌜ Space (now body) (now rows) w ⌝ }
     requires { ⌜ KeptRoom (now kept) count ⌝ }
     ensures { λ r. ⌜ TakenAs (now (body .entry)) (now (rows .entry)) view start at
-        (childStep (now (body .entry)) (viewAt (now (rows .entry)) view) (saidBy (now (sheet .entry)))
+        (childPlan (now (body .entry)) (viewAt (now (rows .entry)) view) (saidBy (now (sheet .entry)))
         (childAt (now (body .entry)) (now (rows .entry)) (view .count) start at))
         (flatMember (resolve (saidBy (now (sheet .entry))) (nameAt (now (body .entry)) (now (rows .entry)) (start .row) .local)))
         (now (entries .entry)) (now (texts .entry)) w (now (kept .entry)) count

@@ -1,8 +1,8 @@
 // "then the groups": by rising member index, from the numbers that were kept; all of them, or none.
 ghost use Prim.Native.Nat.{_≤_};
 ghost use Rattle.structure.specs.Steps.{Begins, afterChildren};
-ghost use Rattle.structure.specs.Groups.{KeptIn, SumIs, flatStep, keptFrom, GroupsIs};
-ghost use Rattle.output.specs.Steps.{eachOf};
+ghost use Rattle.structure.specs.Groups.{KeptIn, SumIs, flatPlan, keptFrom, GroupsIs};
+ghost use Rattle.readings.specs.Plan.{oneByOne};
 ghost use Rattle.output.specs.Held.{Does};
 use output::Step;
 use output::Written;
@@ -50,7 +50,7 @@ fn each_group(
     requires { ⌜ KeptIn (now body) (now kept) ⌝ }
     requires { ⌜ n ≤ 64 ⌝ }
     requires { ⌜ Begins afterChildren (now entries) (now texts) w ⌝ }
-    ensures { λ r. ⌜ Does (eachOf (flatStep (now (body .entry)) (now (kept .entry))) (keptFrom (now (kept .entry)) 0 n))
+    ensures { λ r. ⌜ Does (oneByOne (flatPlan (now (body .entry)) (now (kept .entry))) (keptFrom (now (kept .entry)) 0 n))
         (now (entries .entry)) (now (texts .entry)) w (now (entries .exit)) (now (texts .exit)) r ⌝ }
 {
     let mut held = w;

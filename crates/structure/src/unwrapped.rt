@@ -4,7 +4,8 @@ ghost use Rattle.decode.specs.View.{Viewed};
 ghost use Rattle.codec.specs.Structure.{saidBy};
 ghost use Rattle.output.specs.Held.{Enters};
 ghost use Rattle.structure.specs.Steps.{Given, openedAt};
-ghost use Rattle.structure.specs.Unwrapped.{EndIs, RootPieceIs, rootStep, unwrappedStep};
+ghost use Rattle.readings.specs.Structure.{unwrappedPlan};
+ghost use Rattle.structure.specs.Unwrapped.{EndIs, RootPieceIs, rootAs};
 use crate::children::member_of;
 use codec::structure::Found;
 use decode::piece::Piece;
@@ -68,7 +69,7 @@ fn put_root(
 ) -> Step
     requires { ⌜ Viewed (now body) (now rows) view ⌝ }
     requires { ⌜ StartIn (now body) (now rows) (view .count) root ⌝ }
-    ensures { λ r. ⌜ Enters (rootStep (now (body .entry)) (openedAt (now (body .entry)) (now (rows .entry)) view root at) member)
+    ensures { λ r. ⌜ Enters (rootAs (now (body .entry)) (openedAt (now (body .entry)) (now (rows .entry)) view root at) member)
         (now (entries .entry)) w (now (entries .exit)) r ⌝ }
 {
     let piece = root_piece(body, rows, view, root);
@@ -89,7 +90,7 @@ pub fn read_unwrapped(
 ) -> Step
     requires { ⌜ Given (now body) (now rows) view (now sheet) (now members) ⌝ }
     requires { ⌜ StartIn (now body) (now rows) (view .count) root ⌝ }
-    ensures { λ r. ⌜ Enters (unwrappedStep (now (body .entry)) (saidBy (now (sheet .entry)))
+    ensures { λ r. ⌜ Enters (unwrappedPlan (now (body .entry)) (saidBy (now (sheet .entry)))
         (openedAt (now (body .entry)) (now (rows .entry)) view root at))
         (now (entries .entry)) w (now (entries .exit)) r ⌝ }
 {

@@ -59,6 +59,7 @@ use Rattle.codec.proofs.guard.leave_aggregate as out-of
 use Rattle.codec.proofs.guard.leave_aggregate.Symbol as out-of-def
 use Rattle.codec.proofs.guard.leave_aggregate.Symbol.{name as #codec·leave-aggregate}
 use Rattle.codec.proofs.guard.leave_aggregate.Met as out-of-thm
+use Rattle.readings.specs.Call.{uploaded, calling}
 use Rattle.deserializer.specs.Call.{EnteredCall, ToldCall, settingsBy, shapeDepth, shapeOf}
 use Rattle.deserializer.proofs.read_entered as work
 use Rattle.deserializer.proofs.read_entered.Symbol as work-def
@@ -176,7 +177,7 @@ module _ {M : Type 1} (𝓤 : URA M) (H : Heap 𝓤) (A : Atoms 𝓤) (W : Given
   goes-work t =
       qed W ((‵ (flft κ₀ q₀) ⊛ ‵ (flft κ₁ q₁) ⊛ ‵ (flft κ₂ q₂) ⊛ ‵ (flft κ₃ q₃) ⊛ ‵ (flft κ₄ q₄) ⊛ ‵ (flft κ₅ q₅) ⊛ ‵ ftrue) ∷ ‵ Owned ∷ []) ∵ move ! (1 ∷ []) $ fsplit ! $ move ! (1 ∷ []) $ fsplit ! $ move ! (1 ∷ []) $ fsplit ! $ move ! (1 ∷ []) $ fsplit ! $ move ! (1 ∷ []) $ fsplit ! $ nothing ! $ move ! (2 ∷ 0 ∷ []) $ fjoin ! $ move ! (1 ∷ 0 ∷ []) $ fjoin ! $ move ! (1 ∷ 0 ∷ []) $ fjoin ! $ owned ! bool (Is bool) (bool-makes 𝓤 H A W) t (vbool t ∷ []) refl $ fjoin ! $ owned ! u32 (Is u32) (uint-makes 𝓤 H A W w32) depth _ (refl, f-depth) $ fjoin ! $ owned ! u32 (Is u32) (uint-makes 𝓤 H A W w32) max _ (refl, f-max) $ fjoin ! $ owned ! u32 (Is u32) (uint-makes 𝓤 H A W w32) flags _ (refl, f-flags) $ fjoin ! $ move ! (1 ∷ 0 ∷ []) $ fjoin ! $ owned ! u32 (Is u32) (uint-makes 𝓤 H A W w32) end _ (refl, f-end) $ fjoin ! $ move ! (1 ∷ 0 ∷ []) $ fjoin ! $ move ! (1 ∷ 0 ∷ []) $ fjoin ! $ owned ! u32 (Is u32) (uint-makes 𝓤 H A W w32) kind _ (refl, f-kind) $ fjoin ! $ move ! (1 ∷ 0 ∷ []) $ join ! $ frame ! $ done !
 
-  exits : (n : ℕ) (ze zx zw : List ℕ) → n < 2 ^ 32 → ToldCall (shapeOf kind) (b .now) (r .now) end (s .now) (settingsBy flags max) (shapeDepth depth) (en .now) (tx .now) ze zx (tw .now) zw n
+  exits : (n : ℕ) (ze zx zw : List ℕ) → n < 2 ^ 32 → ToldCall (shapeOf kind) (uploaded (b .now) (r .now) end) (calling (s .now) (settingsBy flags max) (shapeDepth depth)) (en .now) (tx .now) ze zx (tw .now) zw n
       → length ze ≡ length (en .now) → length zx ≡ length (tx .now) → length zw ≡ length (tw .now)
       → ent 𝓤 (⋆ 𝓤 H A ((‵ (flft κ₀ q₀) ⊛ ‵ (flft κ₁ q₁) ⊛ ‵ (flft κ₂ q₂) ⊛ ‵ (flft κ₃ q₃) ⊛ ‵ (flft κ₄ q₄) ⊛ ‵ (flft κ₅ q₅) ⊛ ‵ ftrue) ∷ ‵ (finally usize (tw .name) zw) ∷ ‵ (finally u8 (tx .name) zx) ∷ ‵ (finally u32 (en .name) ze) ∷ ‵ Own-s ∷ ‵ Own-r ∷ ‵ Own-b ∷ [])) (Post (vint w32 n))
   exits n ze zx zw fn e le lx lw =
@@ -225,8 +226,8 @@ module _ {M : Type 1} (𝓤 : URA M) (H : Heap 𝓤) (A : Atoms 𝓤) (W : Given
         move ! (60 ∷ 8 ∷ 6 ∷ 4 ∷ 3 ∷ 2 ∷ 0 ∷ []) $ move ! (5 ∷ 6 ∷ []) $ fjoin ! $ move ! (5 ∷ 0 ∷ []) $ fjoin ! $ move ! (4 ∷ 0 ∷ []) $ fjoin ! $ move ! (3 ∷ 0 ∷ []) $ fjoin ! $ move ! (2 ∷ 0 ∷ []) $ fjoin ! $ move ! (1 ∷ 0 ∷ []) $ use2 W (raw (Work 𝓤 H A at-mem run .pre (to-work t))) (goes-work t) $
         calls-at ! fm (Work 𝓤 H A at-mem run) known-work (to-work t) (and-then ! (load ! (from ! (stop !)) (look ! 51 refl)) (and-then ! (load ! (from ! (stop !)) (look ! 49 refl)) (and-then ! (load ! (from ! (stop !)) (look ! 47 refl)) (and-then ! (load ! (from ! (stop !)) (look ! 45 refl)) (and-then ! (load ! (from ! (stop !)) (look ! 43 refl)) (and-then ! (load ! (from ! (stop !)) (look ! 41 refl)) (and-then ! (load ! (from ! (stop !)) (look ! 39 refl)) (and-then ! (load ! (from ! (stop !)) (look ! 37 refl)) (and-then ! (load ! (from ! (stop !)) (look ! 28 refl)) (and-then ! (load ! (from ! (stop !)) (look ! 20 refl)) (and-then ! (load ! (from ! (stop !)) (look ! 16 refl)) (and-then ! (load ! (from ! (stop !)) (look ! 12 refl)) (no-more !))))))))))))) (λ w.
         use1 W (later (some (λ (n : ℕ). ((‵ (flft κ₀ q₀) ⊛ ‵ (flft κ₁ q₁) ⊛ ‵ (flft κ₂ q₂) ⊛ ‵ (flft κ₃ q₃) ⊛ ‵ (flft κ₄ q₄) ⊛ ‵ (flft κ₅ q₅) ⊛ ‵ ftrue) ⊛ ‵ (u32 .own n (w ∷ []))) ⊛ raw (ensured 𝓤 H A work.ended (work.clauses 𝓤 H A at-mem run) (κ₀, (κ₁, (κ₂, (κ₃, (κ₄, (κ₅, tt)))))) (kind, (b, (r, (end, (s, (flags, (max, (depth, (t, (en, (tx, (tw, tt)))))))))))) tt n)))) (id⊢ 𝓤 _) $ await ! tt $ pick ! (λ n.
-        split ! $ move ! (1 ∷ []) $ use1 W (some (λ (zs : (Unit {0} × (Unit {0} × (Unit {0} × (Unit {0} × (Unit {0} × (Unit {0} × (Unit {0} × (Unit {0} × (Unit {0} × (List ℕ × (List ℕ × (List ℕ × Unit {0}))))))))))))). ‵ (lasts work.ended (κ₀, (κ₁, (κ₂, (κ₃, (κ₄, (κ₅, tt)))))) (kind, (b, (r, (end, (s, (flags, (max, (depth, (t, (en, (tx, (tw, tt)))))))))))) zs) ⊛ raw (fact 𝓤 (EnteredCall (shapeOf kind) (b .now) (r .now) end (s .now) (settingsBy flags max) (shapeDepth depth) t (en .now) (tx .now) (zs .1 .1 .1 .1 .1 .1 .1 .1 .1 .0) (zs .1 .1 .1 .1 .1 .1 .1 .1 .1 .1 .0) (tw .now) (zs .1 .1 .1 .1 .1 .1 .1 .1 .1 .1 .1 .0) n)))) (id⊢ 𝓤 _) $ pick ! (λ zs.
-        split ! $ move ! (1 ∷ []) $ heard ! (EnteredCall (shapeOf kind) (b .now) (r .now) end (s .now) (settingsBy flags max) (shapeDepth depth) t (en .now) (tx .now) (zs .1 .1 .1 .1 .1 .1 .1 .1 .1 .0) (zs .1 .1 .1 .1 .1 .1 .1 .1 .1 .1 .0) (tw .now) (zs .1 .1 .1 .1 .1 .1 .1 .1 .1 .1 .1 .0) n) (λ e₂.
+        split ! $ move ! (1 ∷ []) $ use1 W (some (λ (zs : (Unit {0} × (Unit {0} × (Unit {0} × (Unit {0} × (Unit {0} × (Unit {0} × (Unit {0} × (Unit {0} × (Unit {0} × (List ℕ × (List ℕ × (List ℕ × Unit {0}))))))))))))). ‵ (lasts work.ended (κ₀, (κ₁, (κ₂, (κ₃, (κ₄, (κ₅, tt)))))) (kind, (b, (r, (end, (s, (flags, (max, (depth, (t, (en, (tx, (tw, tt)))))))))))) zs) ⊛ raw (fact 𝓤 (EnteredCall (shapeOf kind) (uploaded (b .now) (r .now) end) (calling (s .now) (settingsBy flags max) (shapeDepth depth)) t (en .now) (tx .now) (zs .1 .1 .1 .1 .1 .1 .1 .1 .1 .0) (zs .1 .1 .1 .1 .1 .1 .1 .1 .1 .1 .0) (tw .now) (zs .1 .1 .1 .1 .1 .1 .1 .1 .1 .1 .1 .0) n)))) (id⊢ 𝓤 _) $ pick ! (λ zs.
+        split ! $ move ! (1 ∷ []) $ heard ! (EnteredCall (shapeOf kind) (uploaded (b .now) (r .now) end) (calling (s .now) (settingsBy flags max) (shapeDepth depth)) t (en .now) (tx .now) (zs .1 .1 .1 .1 .1 .1 .1 .1 .1 .0) (zs .1 .1 .1 .1 .1 .1 .1 .1 .1 .1 .0) (tw .now) (zs .1 .1 .1 .1 .1 .1 .1 .1 .1 .1 .1 .0) n) (λ e₂.
         fsplit ! $ drop ! $ fsplit ! $ drop ! $ fsplit ! $ drop ! $ fsplit ! $ drop ! $ fsplit ! $ drop ! $ fsplit ! $ drop ! $ fsplit ! $ drop ! $ fsplit ! $ drop ! $ fsplit ! $ drop ! $
         fsplit ! $ fsplit ! $ move ! (1 ∷ []) $ feqL ! (λ le. move ! (1 ∷ []) $ fsplit ! $ fsplit ! $ move ! (1 ∷ []) $ feqL ! (λ lx. move ! (1 ∷ []) $ fsplit ! $ fsplit ! $ move ! (1 ∷ []) $ feqL ! (λ lw. move ! (1 ∷ []) $ drop ! $
         move ! (3 ∷ []) $ split ! $ move ! (1 ∷ []) $ peeks ! u32 (Is u32) (shows 𝓤 H A u32) n (w ∷ []) (λ is₂.

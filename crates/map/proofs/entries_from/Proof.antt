@@ -5,13 +5,13 @@ use Rattle.decode.specs.View.{viewAt}
 use Rattle.readings.specs.Collection.{afterEntry}
 use Rattle.opening.proofs.Children.{ChildrenAt}
 use Rattle.map.specs.Entry.{entryNamed}
-use Rattle.map.specs.Map.{mapEntry}
+use Rattle.readings.specs.Collection.{entryPlan}
 use Rattle.map.proofs.entries_from.Statement.{statement}
 use Rattle.map.proofs.entries_from.Tie as tie
 
 abbrev Inv-loop : tie.InvT-loop
 Inv-loop body rows view sheet map named scope entries₀ texts₀ c₀ w₀ entries texts c w =
-    ChildrenAt body rows view (mapEntry body (viewAt rows view) (mapSaid sheet) (entryNamed named)) 131072
+    ChildrenAt body rows view (entryPlan body (viewAt rows view) (mapSaid sheet) (entryNamed named)) 131072
     (afterEntry (entryNamed named)) scope c₀ entries₀ texts₀ entries texts w c
 
 abbrev μ-loop : tie.MeasureT-loop

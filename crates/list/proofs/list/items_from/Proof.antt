@@ -2,13 +2,13 @@ use Prim.Native.Nat.{_-_}
 use Rattle.decode.specs.View.{viewAt}
 use Rattle.opening.specs.Wanted.{nameIf}
 use Rattle.opening.proofs.Children.{EntersAt, enters-laws}
-use Rattle.list.specs.List.{itemOf}
+use Rattle.readings.specs.Collection.{itemPlan}
 use Rattle.list.proofs.list.items_from.Statement.{statement}
 use Rattle.list.proofs.list.items_from.Tie as tie
 
 abbrev Inv-loop : tie.InvT-loop
 Inv-loop body rows view named name scope entries₀ c₀ held₀ entries c held =
-    EntersAt body rows view (itemOf body (viewAt rows view) (nameIf named name)) scope c₀ entries₀ entries held c
+    EntersAt body rows view (itemPlan body (viewAt rows view) (nameIf named name)) scope c₀ entries₀ entries held c
 
 abbrev μ-loop : tie.MeasureT-loop
 μ-loop body rows view named name scope entries₀ c₀ held₀ entries c held = view .count - c .row

@@ -1,0 +1,69 @@
+-- The plans that the functions of this crate perform (readings/specs/Plan.antt), of numbers and texts as the functions are lent them.
+use Prim.Native.Nat.{ℕ, _+_}
+use mathlib.Core.List.{List, [], _∷_, _++_}
+use lib.ListN.{length}
+use Rattle.refusal.specs.declared.Refusal.{Refusal}
+use Rattle.refusal.specs.Answer.{Answer, gives, refuses}
+use Rattle.reference.specs.Text.{Out, bytes, bad, unescaped}
+use Rattle.document.specs.View.{View}
+use Rattle.document.specs.Scope.{Child}
+use Rattle.document.specs.Text.{unescapedText}
+use Rattle.sheet.specs.Sheet.{Structure}
+use Rattle.readings.specs.Output.{Entry, textEntry, pieceEntry, groupEntry, failedEntry, keyTextEntry, keyPieceEntry}
+use Rattle.readings.specs.Plan.{Plan, end, stop, one, oneByOne, Whole}
+use Rattle.readings.specs.Structure.{scalarPlan, groupPlan}
+use Rattle.output.specs.declared.Six.{Six}
+
+-- the entry that six numbers say
+unfoldable pub entryOf : Six → Entry
+entryOf s = record { kind = s .kind; member = s .member; keyStart = s .«key_start»; keyLen = s .«key_len»; start = s .start; len = s .len }
+
+-- the bytes that a text stands for, where its references are right
+unfoldable pub plainOf : Out → List ℕ
+plainOf (bytes l) = l
+plainOf (bad at) = []
+
+-- an entry of these numbers, with these bytes
+unfoldable pub entered : Six → List ℕ → Plan
+entered s l = one (λ (at : ℕ). entryOf s) l
+
+unfoldable pub piece : ℕ → ℕ → ℕ → Plan
+piece member start len = one (pieceEntry member (record { start = start; len = len })) []
+
+unfoldable pub failed : ℕ → Refusal → Plan
+failed member why = one (failedEntry member why) []
+
+-- a text that was unescaped, or a refusal: a string list's item
+abbrev pub textOr : ℕ → Answer (List ℕ) → Plan
+textOr member (gives l) = one (textEntry member l) l
+textOr member (refuses r) = stop r
+
+unfoldable pub text : ℕ → List ℕ → Plan
+text member t = textOr member (unescapedText (unescaped t))
+
+-- a text that was unescaped, or an entry of kind 4: a structure's scalar
+unfoldable pub scalar : ℕ → List ℕ → Plan
+scalar member t = scalarPlan member (unescapedText (unescaped t))
+
+-- a map entry, of texts whose references are right
+unfoldable pub keyText : List ℕ → List ℕ → Plan
+keyText key value =
+    let k = plainOf (unescaped key) in
+    let v = plainOf (unescaped value) in
+    one (keyTextEntry k v) (k ++ v)
+
+unfoldable pub keyPiece : List ℕ → ℕ → ℕ → Plan
+keyPiece key start len = let k = plainOf (unescaped key) in one (keyPieceEntry k (record { start = start; len = len })) k
+
+-- the bytes of a group
+unfoldable pub group : ℕ → List ℕ → Plan
+group member l = one (groupEntry member l) l
+
+-- all groups, or none of them
+unfoldable pub groups : List ℕ → View → Structure → List Child → List ℕ → Whole
+groups body v s children order = record { asMet = end; groups = oneByOne (groupPlan body v s children) order }
+
+-- how many bytes the groups have together
+unfoldable pub together : (ℕ → List ℕ) → List ℕ → ℕ
+together group [] = 0
+together group (i ∷ order) = length (group i) + together group order

@@ -1,0 +1,160 @@
+-- 01, "Numbers": "No other number". The numbers with which each reading may be refused, on every input.
+use Prim.Native.Nat.{ℕ}
+use mathlib.Core.Path.{_≡_, refl, subst}
+use mathlib.Core.Bool.{Bool, true}
+use mathlib.Core.List.{List, [], _∷_}
+use Rattle.refusal.specs.declared.Refusal.{Refusal}
+use Rattle.refusal.specs.Answer.{refuses}
+use Rattle.refusal.specs.Numbers.{number}
+use Rattle.table.specs.Row.{Tok}
+use Rattle.table.specs.Rules.{among}
+use Rattle.xml.specs.declared.Cause.{Cause}
+use Rattle.document.specs.declared.Depth.{Depth}
+use Rattle.document.specs.Reader.{Scope}
+use Rattle.document.specs.View.{failureOf}
+use Rattle.sheet.specs.declared.ShapeDepth.{ShapeDepth}
+use Rattle.sheet.specs.Settings.{Settings}
+use Rattle.readings.specs.Call.{uploaded, calling}
+use Rattle.readings.specs.Output.{Room, Output, refused}
+use Rattle.readings.specs.Opening.{Asked}
+use Rattle.readings.specs.Shape.{Shape, structure, list, map, strings, SheetOf, sheetOf, read}
+use Rattle.readings.specs.Scalar.{booleanReading, integerReading, stringReading, wholeText}
+use Rattle.readings.specs.Find.{find}
+use Rattle.readings.proofs.Conditions.Opening.{broken-table, no-root, by-table, by-sheet, by-depth, by-root, AskedAs}
+use Rattle.readings.proofs.Conditions.View.{Stopped, at-drain, at-error}
+use Rattle.readings.proofs.Conditions.Text.{NoText, element-inside, bad-reference, rows-end, passed, opened-text-refusal}
+use Rattle.readings.proofs.Conditions.Readings.{Stops, root-differs, no-text, ill-formed, Refused, early, stops, full, groups-full, reading-refused}
+use Rattle.readings.proofs.Conditions.Values.{NotABoolean, not-boolean, NotAnInteger, not-integer, StringTooLong, too-long}
+use Rattle.readings.proofs.Conditions.Scalar.{not-opened, no-text, after-the-rest, Unread, not-read, wrong, boolean-refusal, integer-refusal, string-refusal}
+use Rattle.readings.proofs.Conditions.Find.{FindRefused, find-table, find-no-root, find-none, find-refusal}
+use Rattle.readings.proofs.Conditions.Whole.{WholeRefused, whole-table, whole-ill-formed, whole-no-root, whole-has-element, whole-no-room, whole-text-refusal}
+
+-- the refusal's number is one of these
+abbrev pub Only : List ℕ → Refusal → Type 0
+Only numbers r = among numbers (number r) ≡ true
+
+-- ---- 6, 7, 8 and 9, of a text
+data OfText : Refusal → Type 0 where
+  six : OfText Refusal.ElementInText
+  seven : OfText Refusal.BadReference
+  eight : OfText Refusal.TokenError
+  nine : OfText Refusal.IllFormed
+
+by-cause : (c : Cause) → OfText (failureOf c)
+by-cause Cause.TokenError = eight
+by-cause Cause.MismatchedEnd = nine
+by-cause Cause.UnclosedElement = nine
+by-cause Cause.RepeatedAttribute = nine
+by-cause Cause.BadReference = seven
+
+module _ {body table : List ℕ} {final : ℕ} {strict : Bool} where
+  stopped-number : {r : Refusal} → Stopped body table final strict r → OfText r
+  stopped-number w = go w
+    where
+      go : {b : Bool} {q : Refusal} → Stopped body table final b q → OfText q
+      go (at-drain {cause = c} e) = by-cause c
+      go (at-error e) = eight
+
+  text-number : {s : Scope} {d : Depth} {l : List Tok} {r : Refusal} → NoText (Stopped body table final strict) s d l r → OfText r
+  text-number element-inside = six
+  text-number (bad-reference e) = seven
+  text-number (rows-end w) = stopped-number w
+  text-number (passed p w) = text-number w
+
+-- ---- readings with a sheet: 1, 2, 3, 4, and then
+abbrev pub later : Shape → List ℕ
+later (structure order) = 5 ∷ 9 ∷ 10 ∷ []
+later list = 9 ∷ 10 ∷ []
+later map = 6 ∷ 7 ∷ 8 ∷ 9 ∷ 10 ∷ []
+later strings = 6 ∷ 7 ∷ 8 ∷ 9 ∷ 10 ∷ []
+
+text-among : {r : Refusal} → OfText r → Only (1 ∷ 2 ∷ 3 ∷ 4 ∷ 6 ∷ 7 ∷ 8 ∷ 9 ∷ 10 ∷ []) r
+text-among six = refl
+text-among seven = refl
+text-among eight = refl
+text-among nine = refl
+
+module _ (body table : List ℕ) (final : ℕ) (sheet : List ℕ) (settings : Settings) (depth : ShapeDepth) (room : Room) where
+  stops-among : (shape : Shape) (a : Asked (SheetOf shape)) → AskedAs body table final (sheetOf shape sheet) settings depth a → {r : Refusal}
+      → Stops settings depth shape a r → Only (1 ∷ 2 ∷ 3 ∷ 4 ∷ later shape) r
+  stops-among (structure order) a w (root-differs d) = refl
+  stops-among (structure order) a w (ill-formed e) = refl
+  stops-among list a w (ill-formed e) = refl
+  stops-among map a w (no-text c {r = r} t e) = text-among (text-number (opened-text-refusal body table final (w .begun) c r .0 e .inside))
+  stops-among map a w (ill-formed e) = refl
+  stops-among strings a w (no-text c {r = r} t e) = text-among (text-number (opened-text-refusal body table final (w .begun) c r .0 e .inside))
+  stops-among strings a w (ill-formed e) = refl
+
+  full-among : (shape : Shape) → Only (1 ∷ 2 ∷ 3 ∷ 4 ∷ later shape) Refusal.NoRoom
+  full-among (structure order) = refl
+  full-among list = refl
+  full-among map = refl
+  full-among strings = refl
+
+  pub reading-numbers : (shape : Shape) {r : Refusal} {out : Output} → read shape (uploaded body table final) (calling sheet settings depth) room ≡ refused r out → Only (1 ∷ 2 ∷ 3 ∷ 4 ∷ later shape) r
+  reading-numbers shape {r} {out} e = go (reading-refused body table final sheet settings depth room shape e)
+    where
+      go : {q : Refusal} {o : Output} → Refused body table final sheet settings depth room shape q o → Only (1 ∷ 2 ∷ 3 ∷ 4 ∷ later shape) q
+      go (early (by-table n)) = refl
+      go (early (by-sheet t n)) = refl
+      go (early (by-depth t s n)) = refl
+      go (early (by-root t s h n)) = refl
+      go (stops {a = a} w x) = stops-among shape a w x
+      go (full t f) = full-among shape
+      go (groups-full t u f) = full-among shape
+
+-- ---- scalars: 1, 4, 6 to 9, and then one of their own
+module _ (body table : List ℕ) (final : ℕ) (settings : Settings) (depth : ShapeDepth) where
+  unread-among : (last : ℕ) {Wrong : List ℕ → Refusal → Type 0} → ((t : List ℕ) (q : Refusal) → Wrong t q → Only (1 ∷ 4 ∷ 6 ∷ 7 ∷ 8 ∷ 9 ∷ last ∷ []) q)
+      → (r : Refusal) → Unread body table final settings depth Wrong r → Only (1 ∷ 4 ∷ 6 ∷ 7 ∷ 8 ∷ 9 ∷ last ∷ []) r
+  unread-among last {Wrong} f r w = go w
+    where
+      ofText : {q : Refusal} → OfText q → Only (1 ∷ 4 ∷ 6 ∷ 7 ∷ 8 ∷ 9 ∷ last ∷ []) q
+      ofText six = refl
+      ofText seven = refl
+      ofText eight = refl
+      ofText nine = refl
+
+      go : {q : Refusal} → Unread body table final settings depth Wrong q → Only (1 ∷ 4 ∷ 6 ∷ 7 ∷ 8 ∷ 9 ∷ last ∷ []) q
+      go (not-read (not-opened (broken-table n))) = refl
+      go (not-read (not-opened (no-root t n))) = refl
+      go (not-read (no-text w n)) = ofText (text-number (n .inside))
+      go (not-read (after-the-rest w t f)) = refl
+      go (wrong {text = t} {r = q} p w) = f t q w
+
+  boolean-among : (t : List ℕ) (q : Refusal) → NotABoolean t q → Only (1 ∷ 4 ∷ 6 ∷ 7 ∷ 8 ∷ 9 ∷ 11 ∷ []) q
+  boolean-among t q (not-boolean m n) = refl
+
+  integer-among : (t : List ℕ) (q : Refusal) → NotAnInteger t q → Only (1 ∷ 4 ∷ 6 ∷ 7 ∷ 8 ∷ 9 ∷ 12 ∷ []) q
+  integer-among t q (not-integer n) = refl
+
+  string-among : (room : ℕ) (t : List ℕ) (q : Refusal) → StringTooLong room t q → Only (1 ∷ 4 ∷ 6 ∷ 7 ∷ 8 ∷ 9 ∷ 10 ∷ []) q
+  string-among room t q (too-long h) = refl
+
+  pub boolean-numbers : (r : Refusal) → booleanReading (uploaded body table final) settings depth ≡ refuses r → Only (1 ∷ 4 ∷ 6 ∷ 7 ∷ 8 ∷ 9 ∷ 11 ∷ []) r
+  boolean-numbers r e = unread-among 11 boolean-among r (boolean-refusal body table final settings depth r .0 e)
+
+  pub integer-numbers : (r : Refusal) → integerReading (uploaded body table final) settings depth ≡ refuses r → Only (1 ∷ 4 ∷ 6 ∷ 7 ∷ 8 ∷ 9 ∷ 12 ∷ []) r
+  integer-numbers r e = unread-among 12 integer-among r (integer-refusal body table final settings depth r .0 e)
+
+  pub string-numbers : (room : ℕ) (r : Refusal) → stringReading (uploaded body table final) settings depth room ≡ refuses r → Only (1 ∷ 4 ∷ 6 ∷ 7 ∷ 8 ∷ 9 ∷ 10 ∷ []) r
+  string-numbers room r e = unread-among 10 (string-among room) r (string-refusal body table final settings depth room r .0 e)
+
+-- ---- find, and whole text
+pub find-numbers : (body table : List ℕ) (final : ℕ) (name : List ℕ) {r : Refusal} → find (uploaded body table final) name ≡ refuses r → Only (1 ∷ 13 ∷ []) r
+find-numbers body table final name {r} e = go (find-refusal body table final name r .0 e)
+  where
+    go : {q : Refusal} → FindRefused body table final name q → Only (1 ∷ 13 ∷ []) q
+    go (find-table b) = refl
+    go (find-no-root t n) = refl
+    go (find-none t p n) = refl
+
+pub whole-text-numbers : (body table : List ℕ) (final room : ℕ) {r : Refusal} → wholeText (uploaded body table final) room ≡ refuses r → Only (1 ∷ 4 ∷ 6 ∷ 9 ∷ 10 ∷ []) r
+whole-text-numbers body table final room {r} e = go (whole-text-refusal body table final room r .0 e)
+  where
+    go : {q : Refusal} → WholeRefused body table final room q → Only (1 ∷ 4 ∷ 6 ∷ 9 ∷ 10 ∷ []) q
+    go (whole-table b) = refl
+    go (whole-ill-formed p) = refl
+    go (whole-no-root p q) = refl
+    go (whole-has-element p q h) = refl
+    go (whole-no-room p q w h) = refl

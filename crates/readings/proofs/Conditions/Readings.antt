@@ -1,0 +1,85 @@
+-- 01, "Structure", "List", "Map" and "String list": each refusal, on every input, with its condition: "no number where its condition does not hold". The
+-- conditions of 1, 2, 3 and 4 are in Opening.antt, those of 5 and 10 in specs/Demand.antt; what 6 to 9 mean for the table is in Text.antt and View.antt. That
+-- a reading ends so exactly where its plan does is `performed-exactly` (Plans/Perform.antt).
+use Prim.Native.Nat.{ℕ}
+use mathlib.Core.Path.{_≡_, sym, _∙_, subst}
+use mathlib.Core.Bool.{true}
+use mathlib.Core.List.{List}
+use Rattle.refusal.specs.declared.Refusal.{Refusal}
+use Rattle.refusal.specs.Answer.{refuses}
+use Rattle.document.specs.Scope.{Child}
+use Rattle.document.specs.Text.{textOf}
+use Rattle.sheet.specs.declared.ShapeDepth.{ShapeDepth}
+use Rattle.sheet.specs.Settings.{Settings}
+use Rattle.readings.specs.Call.{uploaded, calling}
+use Rattle.readings.specs.Output.{Entry, Room, Output, nothing, Reading, refused, written}
+use Rattle.readings.specs.Plan.{Plan, put, end, stop, Whole, performed}
+use Rattle.readings.specs.Opening.{Opened, Asked}
+use Rattle.readings.specs.Shape.{Shape, structure, list, map, strings, SheetOf, sheetOf, planOf, read}
+use Rattle.readings.specs.Demand.{Reaches, here, Exceeds, RootDiffers, TextWanted}
+use Rattle.readings.proofs.Conditions.Opening.{AskedRefused, AskedAs}
+use Rattle.readings.proofs.Plans.Perform.{Ended, all-done, at-stop, no-room, EndedWhole, as-met, in-groups, performed-ended}
+use Rattle.readings.proofs.Plans.Made.{MadeWhole, made-stops}
+use Rattle.readings.proofs.Plans.Sources.{Source, Anything, Sources, ShapeSources}
+use Rattle.readings.proofs.Plans.Readings.{read-is, askedPlan, PlanIs, before, while, plan-is, mostMet, mostGroups, plan-made}
+
+-- ---- why a plan stops that goes on with what was asked
+pub data Stops (settings : Settings) (depth : ShapeDepth) (shape : Shape) (a : Asked (SheetOf shape)) : Refusal → Type 0 where
+  root-differs : RootDiffers settings depth shape a → Stops settings depth shape a Refusal.RootName
+  no-text : (c : Child) {r : Refusal} → TextWanted settings shape a c → textOf (a .opened .seen .failure) c ≡ refuses r → Stops settings depth shape a r
+  ill-formed : a .opened .seen .illFormed ≡ true → Stops settings depth shape a Refusal.IllFormed
+
+any-source : (body : List ℕ) (o : Opened) → Sources Anything Anything Anything Anything body o
+any-source body o =
+    record {
+      root = tt {0};
+      children = λ c h x i. tt {0};
+      entries = λ name c h x i. tt {0};
+      text = λ c h b e. tt {0};
+      failed = λ c h r e. tt {0};
+      piece = λ c h. tt {0};
+    }
+
+any-shape : (body : List ℕ) (shape : Shape) (a : Asked (SheetOf shape)) → ShapeSources Anything Anything (λ (i : ℕ). Anything) Anything body shape a
+any-shape body (structure order) a = record { member = λ m i. tt {0}; ordered = λ i j. tt {0}; attribute = λ name v e. tt {0}; group = λ i. tt {0}; root = tt {0} }
+any-shape body list a = tt {0}
+any-shape body map a = tt {0}
+any-shape body strings a = tt {0}
+
+plan-stops : (body : List ℕ) (settings : Settings) (depth : ShapeDepth) (shape : Shape) (a : Asked (SheetOf shape))
+    → MadeWhole (Source Anything Anything Anything (λ (i : ℕ). Anything) Anything) (Stops settings depth shape a) (mostMet settings shape a) (mostGroups shape)
+    (askedPlan shape body settings depth a)
+plan-stops body settings depth shape a =
+    plan-made settings depth shape a (any-source body (a .opened)) (any-shape body shape a)
+    (record { illFormed = ill-formed; rootName = root-differs; text = λ c h w r e. no-text c w e })
+
+module _ (body table : List ℕ) (final : ℕ) (sheet : List ℕ) (settings : Settings) (depth : ShapeDepth) (room : Room) (shape : Shape) where
+  -- it is refused before it reads, having written nothing; or where it stops; or where there is no room, as met or for the groups
+  pub data Refused : Refusal → Output → Type 0 where
+    early : {r : Refusal} → AskedRefused body table final (sheetOf shape sheet) settings depth r → Refused r nothing
+    stops : {a : Asked (SheetOf shape)} {r : Refusal} {out : Output} → AskedAs body table final (sheetOf shape sheet) settings depth a
+        → Stops settings depth shape a r → Refused r out
+    full : {entry : ℕ → Entry} {bytes : List ℕ} {more : Plan} {out : Output} → Reaches (planOf shape (uploaded body table final) (calling sheet settings depth) .asMet) nothing (put entry bytes more) out
+        → Exceeds room (written entry bytes out) → Refused Refusal.NoRoom out
+    groups-full : {entry : ℕ → Entry} {bytes : List ℕ} {more : Plan} {out last : Output} → Reaches (planOf shape (uploaded body table final) (calling sheet settings depth) .asMet) nothing end out
+        → Reaches (planOf shape (uploaded body table final) (calling sheet settings depth) .groups) out (put entry bytes more) last → Exceeds room (written entry bytes last) → Refused Refusal.NoRoom out
+
+  -- where the plan stops
+  met : {w : Whole} → PlanIs body table final sheet settings depth shape w → {r : Refusal} {out : Output} → Reaches (w .asMet) nothing (stop r) out → Refused r out
+  met (before x) here = early x
+  met (while {a = a} x) t = stops x (made-stops (plan-stops body settings depth shape a .asMet) t)
+
+  grouped : {w : Whole} → PlanIs body table final sheet settings depth shape w → {r : Refusal} {out kept last : Output} → Reaches (w .groups) out (stop r) last → Refused r kept
+  grouped (while {a = a} x) t = stops x (made-stops (plan-stops body settings depth shape a .groups) t)
+
+  pub reading-refused : {r : Refusal} {out : Output} → read shape (uploaded body table final) (calling sheet settings depth) room ≡ refused r out → Refused r out
+  reading-refused e = go (subst (EndedWhole room _) (sym (read-is shape body table final sheet settings depth room) ∙ e) (performed-ended room (planOf shape (uploaded body table final) (calling sheet settings depth))))
+    where
+      is : PlanIs body table final sheet settings depth shape (planOf shape (uploaded body table final) (calling sheet settings depth))
+      is = plan-is body table final sheet settings depth shape
+
+      go : {r : Refusal} {out : Output} → EndedWhole room (planOf shape (uploaded body table final) (calling sheet settings depth)) (refused r out) → Refused r out
+      go (as-met (at-stop t w)) = met is t
+      go (as-met (no-room t w f)) = full t f
+      go (in-groups m (at-stop t w)) = grouped is t
+      go (in-groups (all-done t w) (no-room u v f)) = groups-full t u f

@@ -1,0 +1,185 @@
+-- How much is written, on every input: the texts of a reading are shorter than 2 ^ 32 bytes, the spans of its entries lie in the text buffer or in the body, and
+-- each number of an entry is below 2 ^ 32.
+use Prim.Native.Nat.{ℕ, zero, suc, _+_, _^_, _≤_, _<_}
+use mathlib.Core.Path.{_≡_, refl, sym, ap, subst}
+use mathlib.Core.Bool.{Bool, true, false}
+use mathlib.Core.List.{List, [], _∷_}
+use mathlib.Core.Option.{Option, none, some}
+use native.Mathlib.Omega.{arith}
+use lib.ListN.{length, length-map, length-take, drop}
+use Rattle.lists.specs.Every.{Every, none, and, every-map}
+use Rattle.lists.specs.Tests.{pick}
+use Rattle.refusal.specs.Answer.{Answer, gives}
+use Rattle.table.specs.Row.{rowsOf, tokOf, toksOf}
+use Rattle.table.specs.Rules.{mostRows, mostBytes}
+use Rattle.document.specs.Names.{nameMatches}
+use Rattle.document.specs.Reader.{Attribute}
+use Rattle.document.specs.Scope.{childrenOf, dropping}
+use Rattle.document.specs.Laws.Fuel.{dropping-shortens}
+use Rattle.document.specs.Laws.Placed.{Placed}
+use Rattle.document.specs.Laws.Inside.{piece-inside}
+use Rattle.document.specs.Laws.Short.{ShortValue, values-short, ShortAttribute, root-attributes-short, ShortText, short-text, no-text, text-short, few-inside}
+use Rattle.sheet.specs.declared.ShapeDepth.{ShapeDepth}
+use Rattle.sheet.specs.Settings.{Settings}
+use Rattle.sheet.specs.Sheet.{mostMembers, Member, Structure, structureOf}
+use Rattle.sheet.specs.Names.{indexed, entryName}
+use Rattle.sheet.specs.Limits.{few-members}
+use Rattle.readings.specs.Call.{uploaded, calling}
+use Rattle.readings.specs.Output.{Entry, Room, Output, nothing, output}
+use Rattle.readings.specs.Plan.{performed}
+use Rattle.readings.specs.Opening.{Opened, Asked}
+use Rattle.readings.specs.Structure.{attributeOf}
+use Rattle.readings.specs.Collection.{afterEntry, entriesOf}
+use Rattle.readings.proofs.Conditions.Answers.{given-refused, gives-same}
+use Rattle.readings.proofs.Conditions.Opening.{OpenedAs, AskedAs}
+use Rattle.readings.specs.Shape.{Shape, structure, list, map, strings, SheetOf, sheetOf, read}
+use Rattle.readings.proofs.Laws.Fuel.{after-entry-shortens}
+use Rattle.readings.proofs.Laws.Few.{index-below, FewGroups}
+use Rattle.readings.proofs.Laws.Siblings.{group-short}
+use Rattle.readings.proofs.Laws.Inside.{root-piece-inside}
+use Rattle.readings.proofs.Laws.Fits.{EntryFits, Fits, FewBytes, PieceFits, fits-kept}
+use Rattle.readings.proofs.Plans.Readings.{mostMet, mostGroups, output-carried, may-stop, plan-made, askedPlan}
+use Rattle.readings.proofs.Plans.Made.{made-kept}
+use Rattle.readings.proofs.Plans.Sources.{Anything, Sources, StructureSources, ShapeSources}
+use Rattle.readings.proofs.Plans.Placed.{OpenedIn, opened-in, placed-sources}
+
+-- ---- what there is to be written
+every-dropped : {A : Type 0} {P : A → Type 0} (k : ℕ) {l : List A} → Every P l → Every P (drop k l)
+every-dropped zero e = e
+every-dropped (suc k) none = none
+every-dropped (suc k) (and p e) = every-dropped k e
+
+attribute-short : {most : ℕ} {l : List Attribute} → Every (ShortAttribute most) l → (key v : List ℕ) → attributeOf l key ≡ some v → length v ≤ most
+unfolding attributeOf
+attribute-short none key v e = let z : _≡_ {A = ℕ} 0 1 = cc in absurd (omega arith)
+attribute-short {most} (and {x = a} {l = l} h w) key v e = go (nameMatches (a .name) key) e (attribute-short w key v)
+  where
+    go : (b : Bool) → pick b (some (a .value)) (attributeOf l key) ≡ some v → (attributeOf l key ≡ some v → length v ≤ most) → length v ≤ most
+    go true e ih = let q : a .value ≡ v = cc in rw (← q) h
+    go false e ih = ih e
+
+given-short : {most : ℕ} {a : Answer (List ℕ)} → ShortText most a → (b : List ℕ) → a ≡ gives b → length b ≤ most
+given-short {most} (short-text h) b e = subst (FewBytes most) (gives-same e) h
+given-short no-text b e = given-refused (sym e)
+
+module _ {body table : List ℕ} {final : ℕ} {strict : Bool} {o : Opened} (w : OpenedAs body table final strict o) where
+  seen : OpenedIn body table final o
+  seen = opened-in w
+
+  few-bytes : length body ≤ mostBytes
+  few-bytes = w .rules .rules .fewBytes
+
+  values : Every (ShortValue (length body)) (toksOf body (o .seen .rows))
+  values = values-short body (o .seen .rows)
+
+  fits-sources : Sources (Placed (toksOf body (o .seen .rows))) (FewBytes mostBytes) Anything (PieceFits body) body o
+  fits-sources =
+      placed-sources seen
+      (λ c h b e. omega (arith, few-bytes, given-short (text-short (length body) (o .seen .failure) c (rw (h .inner .at) at (every-dropped (c .inner .row) values))) b e))
+      (λ c h r e. tt {0}) (λ c h. piece-inside (seen .view) c h .within)
+
+  -- the rows bound the children
+  few-rows : length (o .root .inner .rest) ≤ mostRows
+  few-rows =
+      let v = seen .view in
+      let taken : length (o .seen .rows) ≤ length (rowsOf table) = rw (v .front) (omega (arith, length-take (v .count) (rowsOf table))) in
+      omega (arith, seen .root .inner .rows, length-map (o .seen .rows) (tokOf body), taken, w .rules .rules .fewRows)
+
+  few-kids : length (childrenOf (o .root)) ≤ mostRows
+  unfolding childrenOf
+  few-kids = omega (arith, few-inside dropping dropping-shortens (o .root), few-rows)
+
+  fits-structure : (sheet : List ℕ) {s : Structure} {order : List ℕ} → structureOf sheet ≡ some s → FewGroups order
+      → StructureSources (λ (i : ℕ). i < mostMembers) (FewBytes mostBytes) (λ (i : ℕ). FewBytes (mostBytes + 17)) (PieceFits body) body s o order
+  fits-structure sheet {s} says g =
+      record {
+        member = λ m i. omega (arith, index-below zero (s .members) m i, few-members sheet s says);
+        ordered = g .each;
+        attribute = λ key v e. omega (arith, few-bytes, attribute-short (root-attributes-short (length body) (toksOf body (o .seen .rows)) values (o .root) (w .root)) key v e);
+        group = λ i. omega (arith, few-bytes, group-short (seen .view) s i (o .root) (seen .root));
+        root = root-piece-inside seen .within;
+      }
+
+  few-entries : (name : Option (List ℕ)) → length (entriesOf name (o .root)) ≤ mostRows
+  unfolding entriesOf
+  few-entries name = omega (arith, few-inside (afterEntry name) (after-entry-shortens name) (o .root), few-rows)
+
+-- ---- THE LAW
+-- the numbers of an entry
+pub record EntrySmall (e : Entry) : Type 0 where
+  pub kind : e .kind < 2 ^ 32
+  pub member : e .member < 2 ^ 32
+  pub keyStart : e .keyStart < 2 ^ 32
+  pub keyLen : e .keyLen < 2 ^ 32
+  pub start : e .start < 2 ^ 32
+  pub len : e .len < 2 ^ 32
+
+pub record Small (body : List ℕ) (out : Output) : Type 0 where
+  pub texts : length (out .texts) < 2 ^ 32
+  pub spans : Every (EntryFits body (length (out .texts))) (out .entries)
+  pub numbers : Every EntrySmall (out .entries)
+
+entry-small : (body : List ℕ) (t : ℕ) → t < 2 ^ 32 → length body ≤ mostBytes → (e : Entry) → EntryFits body t e → EntrySmall e
+entry-small body t h few e w =
+    let s = span (e .kind) refl (w .kind .0) (w .kind .1) in
+    record {
+      kind = omega (arith, w .kind .1);
+      member = omega (arith, w .member);
+      keyStart = omega (arith, w .key);
+      keyLen = omega (arith, w .key);
+      start = omega (arith, s);
+      len = omega (arith, s);
+    }
+  where
+    span : (k : ℕ) → e .kind ≡ k → 1 ≤ k → k ≤ 4 → e .start + e .len < 2 ^ 32
+    span zero q l m = absurd (omega (arith, l))
+    span (suc zero) q l m = omega (arith, h, w .text q)
+    span (suc (suc zero)) q l m = omega (arith, few, w .piece q)
+    span (suc (suc (suc zero))) q l m = omega (arith, h, w .group q)
+    span (suc (suc (suc (suc zero)))) q l m = let f = w .failed q in omega (arith, f .0, f .1)
+    span (suc (suc (suc (suc (suc k))))) q l m = absurd (omega (arith, m))
+
+none-small : (body : List ℕ) → Small body nothing
+none-small body = record { texts = omega arith; spans = none; numbers = none }
+
+-- after few enough steps
+steps-small : (body : List ℕ) (n : ℕ) (out : Output) → length body ≤ mostBytes → n ≤ 8321 → Fits body n out → Small body out
+steps-small body n out few h w =
+    let t : length (out .texts) < 2 ^ 32 = omega (arith, w .texts, h) in
+    record { texts = t; spans = w .each; numbers = every-map (entry-small body (length (out .texts)) t few) (w .each) }
+
+length-indexed : (i : ℕ) (l : List Member) → length (indexed i l) ≡ length l
+unfolding indexed
+length-indexed i [] = refl
+length-indexed i (m ∷ l) = ap suc (length-indexed (suc i) l)
+
+-- of a structure, with an order of at most as many groups as there may be members (Few.antt: every order of its groups is one)
+abbrev pub FewIn : Shape → Type 0
+FewIn (structure order) = FewGroups order
+FewIn list = Unit {0}
+FewIn map = Unit {0}
+FewIn strings = Unit {0}
+
+module _ (body table : List ℕ) (final : ℕ) (sheet : List ℕ) (settings : Settings) (depth : ShapeDepth) where
+  -- so many entries at most, of a body that is opened
+  few-writes : (room : Room) (shape : Shape) → FewIn shape → (a : Asked (SheetOf shape)) → AskedAs body table final (sheetOf shape sheet) settings depth a
+      → mostMet settings shape a + mostGroups shape ≤ 8321
+  few-writes room (structure order) g a w = omega (arith, few-members sheet (a .sheet) (w .says), length-indexed zero (a .sheet .members), few-kids (w .begun), g .few)
+  few-writes room list g a w = omega (arith, few-kids (w .begun))
+  few-writes room map g a w = omega (arith, few-entries (w .begun) (entryName settings (a .sheet)))
+  few-writes room strings g a w = omega (arith, few-kids (w .begun))
+
+  fits-shape : (shape : Shape) → FewIn shape → (a : Asked (SheetOf shape)) → AskedAs body table final (sheetOf shape sheet) settings depth a
+      → ShapeSources (λ (i : ℕ). i < mostMembers) (FewBytes mostBytes) (λ (i : ℕ). FewBytes (mostBytes + 17)) (PieceFits body) body shape a
+  fits-shape (structure order) g a w = fits-structure (w .begun) sheet (w .says) g
+  fits-shape list g a w = omega arith
+  fits-shape map g a w = omega arith
+  fits-shape strings g a w = omega arith
+
+pub reading-small : (shape : Shape) → FewIn shape → (body table : List ℕ) (final : ℕ) (sheet : List ℕ) (settings : Settings) (depth : ShapeDepth) (room : Room)
+    → Small body (output (read shape (uploaded body table final) (calling sheet settings depth) room))
+reading-small shape g body table final sheet settings depth room =
+    output-carried body table final sheet settings depth room shape (Small body) (none-small body) (λ a w.
+    steps-small body (mostMet settings shape a + mostGroups shape) (output (performed room (askedPlan shape body settings depth a))) (few-bytes (w .begun))
+    (few-writes body table final sheet settings depth room shape g a w)
+    (made-kept (fits-kept body room) (plan-made settings depth shape a (fits-sources (w .begun)) (fits-shape body table final sheet settings depth shape g a w) (may-stop settings depth shape a))))

@@ -1,0 +1,50 @@
+-- Of a table that obeys the rules: the root and the children that a reading meets stand in the tokens (document/specs/Laws/Placed.antt).
+use Prim.Native.Nat.{ℕ}
+use mathlib.Core.Path.{_≡_}
+use mathlib.Core.Bool.{Bool}
+use mathlib.Core.List.{List, List·Memᴰ}
+use mathlib.Core.Option.{Option}
+use Rattle.lists.specs.Every.{every-in}
+use Rattle.lists.specs.Tests.{pick-all}
+use Rattle.refusal.specs.declared.Refusal.{Refusal}
+use Rattle.refusal.specs.Answer.{gives, refuses}
+use Rattle.table.specs.Row.{Tok, rowsOf, toksOf}
+use Rattle.document.specs.Reader.{Reader}
+use Rattle.document.specs.Scope.{Child, dropping, afterChildren, Piece, pieceOf}
+use Rattle.document.specs.Text.{textOf}
+use Rattle.document.specs.Laws.Tags.{rows-tags}
+use Rattle.document.specs.Laws.Placed.{Outside, Placed, Outward, level-in-placed, dropping-outward, afterChildren-outward, children-placed, root-placed}
+use Rattle.document.specs.Laws.Inside.{ViewIn, view-in}
+use Rattle.readings.specs.Opening.{Opened}
+use Rattle.readings.specs.Collection.{isWanted, afterEntry, entriesOf}
+use Rattle.readings.proofs.Conditions.Opening.{OpenedAs}
+use Rattle.readings.proofs.Plans.Sources.{Sources}
+
+-- what is opened
+pub record OpenedIn (body table : List ℕ) (final : ℕ) (o : Opened) : Type 0 where
+  pub view : ViewIn body (rowsOf table) final (o .seen)
+  pub root : Placed (toksOf body (o .seen .rows)) (o .root)
+
+pub opened-in : {body table : List ℕ} {final : ℕ} {strict : Bool} {o : Opened} → OpenedAs body table final strict o → OpenedIn body table final o
+opened-in {body} {table} {final} {strict} {o} w = record { view = view; root = root-placed (toksOf body (o .seen .rows)) (rows-tags (view .each)) (o .root) (w .root) }
+  where
+    view : ViewIn body (rowsOf table) final (o .seen)
+    view = rw (w .seen) (view-in (w .rules) strict)
+
+-- the children of a map are met, whether their fields are read or not
+after-entry-outward : (name : Option (List ℕ)) → Outward (afterEntry name)
+unfolding afterEntry
+after-entry-outward name all c w = pick-all (λ (r : Reader). Outside all r) (isWanted name c) (afterChildren c) (dropping c) (afterChildren-outward all c w) (dropping-outward all c w)
+
+entries-placed : (all : List Tok) (name : Option (List ℕ)) (c : Child) → Placed all c → (x : Child) → List·Memᴰ x (entriesOf name c) → Placed all x
+unfolding entriesOf
+entries-placed all name c p = every-in (level-in-placed all (afterEntry name) (after-entry-outward name) c (p .inner))
+
+-- what there is to be written, of such children
+pub placed-sources : {body table : List ℕ} {final : ℕ} {o : Opened} {T : List ℕ → Type 0} {F : Refusal → Type 0} {P : Piece → Type 0} → OpenedIn body table final o
+    → ((c : Child) → Placed (toksOf body (o .seen .rows)) c → (b : List ℕ) → textOf (o .seen .failure) c ≡ gives b → T b)
+    → ((c : Child) → Placed (toksOf body (o .seen .rows)) c → (r : Refusal) → textOf (o .seen .failure) c ≡ refuses r → F r)
+    → ((c : Child) → Placed (toksOf body (o .seen .rows)) c → P (pieceOf body (o .seen) c)) → Sources (Placed (toksOf body (o .seen .rows))) T F P body o
+placed-sources {body} {o = o} w text failed piece =
+    let all = toksOf body (o .seen .rows) in
+    record { root = w .root; children = children-placed all; entries = entries-placed all; text = text; failed = failed; piece = piece }

@@ -1,0 +1,232 @@
+-- THE ONE INDUCTION over the readings: each of the four, on every input, is a plan made of what there is to be written, which stops where it may.
+use Prim.Native.Nat.{ℕ, suc, _+_}
+use mathlib.Core.Path.{_≡_, refl, subst⁻¹}
+use mathlib.Core.Bool.{Bool, true, false}
+use mathlib.Core.List.{List, [], List·Memᴰ}
+use mathlib.Core.Option.{Option, none, some}
+use native.Mathlib.Omega.{arith}
+use lib.ListN.{length}
+use Rattle.lists.specs.Tests.{pick, pick-cases, pick-all}
+use Rattle.refusal.specs.declared.Refusal.{Refusal}
+use Rattle.refusal.specs.Answer.{Answer, gives, refuses}
+use Rattle.document.specs.Names.{nameMatches}
+use Rattle.document.specs.Scope.{Child, childrenOf, Piece}
+use Rattle.document.specs.Text.{textOf}
+use Rattle.sheet.specs.declared.ShapeDepth.{ShapeDepth}
+use Rattle.sheet.specs.Settings.{Settings, testsRootName}
+use Rattle.sheet.specs.Names.{rootName, attributeName, Indexed, membersOf, resolve, itemName, entryName}
+use Rattle.readings.specs.Call.{uploaded, calling}
+use Rattle.readings.specs.Output.{Room, Output, nothing, Reading, finished, refused, output}
+use Rattle.readings.specs.Plan.{Plan, stop, perform, oneByOne, Whole, withoutGroups, thenGroups, performed}
+use Rattle.readings.specs.Opening.{Opened, Asked, asking}
+use Rattle.readings.specs.Structure.{attributeOf, foundPlan, attributePlan, scalarPlan, memberPlan, childPlan, groupPlan, membersPlan, rootPiece, rootPlan, unwrappedPlan, withRootName, openedPlan, structurePlan, structureReading}
+use Rattle.readings.specs.Collection.{isWanted, itemPlan, itemsPlan, listPlan, listReading, textPlan, stringPlan, stringsPlan, stringListPlan, stringListReading, MapValue, Fields, noFields, readFields, fieldsPlan, readPlan, entryPlan, entriesOf, entriesPlan, mapPlan, mapReading}
+use Rattle.readings.specs.Shape.{Shape, structure, list, map, strings, SheetOf, sheetOf, planOf, read}
+use Rattle.readings.specs.Demand.{RootDiffers, differs, TextWanted, of-item, of-field}
+use Rattle.readings.proofs.Laws.Order.{named-in}
+use Rattle.readings.proofs.Conditions.Answers.{Is, is-given, is-refused}
+use Rattle.readings.proofs.Conditions.Opening.{AskedRefused, AskedAs, asked-is}
+use Rattle.readings.proofs.Plans.Made.{Made, made-put, made-end, made-stop, made-more, made-followed, made-each, made-last, MadeWhole}
+use Rattle.readings.proofs.Plans.Sources.{Source, of-text, of-failed, of-piece, of-group, of-key-text, of-key-piece, Anything, Sources, ShapeSources}
+use Rattle.readings.proofs.Plans.Fields.{FieldsFrom, fields, no-text, KeyFrom, no-key, key, ValueFrom, no-value, text-value, piece-value, fields-from}
+
+-- ---- a reading is its plan, performed
+alone : (room : Room) (x : Reading) → x ≡ thenGroups room (withoutGroups (stop Refusal.NoRoom) .groups) x
+unfolding perform
+alone room (finished out) = refl
+alone room (refused r out) = refl
+
+pub read-is : (shape : Shape) (body table : List ℕ) (final : ℕ) (sheet : List ℕ) (settings : Settings) (depth : ShapeDepth) (room : Room)
+    → read shape (uploaded body table final) (calling sheet settings depth) room ≡ performed room (planOf shape (uploaded body table final) (calling sheet settings depth))
+unfolding structureReading listReading mapReading stringListReading performed
+read-is (structure order) body table final sheet settings depth room = refl
+read-is list body table final sheet settings depth room = alone room _
+read-is map body table final sheet settings depth room = alone room _
+read-is strings body table final sheet settings depth room = alone room _
+
+-- ---- what is planned once 1, 2, 3 and 4 are past
+abbrev pub askedPlan : (shape : Shape) → List ℕ → Settings → ShapeDepth → Asked (SheetOf shape) → Whole
+askedPlan (structure order) body settings depth a = openedPlan body settings depth order a
+askedPlan list body settings depth a = withoutGroups (itemsPlan body settings a)
+askedPlan map body settings depth a = withoutGroups (entriesPlan body settings a)
+askedPlan strings body settings depth a = withoutGroups (stringsPlan settings a)
+
+module _ (body table : List ℕ) (final : ℕ) (sheet : List ℕ) (settings : Settings) (depth : ShapeDepth) (shape : Shape) where
+  -- a plan stops before it reads anything, or it goes on with what was asked
+  pub data PlanIs : Whole → Type 0 where
+    before : {r : Refusal} → AskedRefused body table final (sheetOf shape sheet) settings depth r → PlanIs (withoutGroups (stop r))
+    while : {a : Asked (SheetOf shape)} → AskedAs body table final (sheetOf shape sheet) settings depth a → PlanIs (askedPlan shape body settings depth a)
+
+pub plan-is : (body table : List ℕ) (final : ℕ) (sheet : List ℕ) (settings : Settings) (depth : ShapeDepth) (shape : Shape)
+    → PlanIs body table final sheet settings depth shape (planOf shape (uploaded body table final) (calling sheet settings depth))
+unfolding structurePlan listPlan mapPlan stringListPlan
+plan-is body table final sheet settings depth (structure order) = go (asked-is body table final (sheetOf (structure order) sheet) settings depth)
+  where
+    go : {g : Answer (Asked (SheetOf (structure order)))}
+        → Is (AskedAs body table final (sheetOf (structure order) sheet) settings depth) (AskedRefused body table final (sheetOf (structure order) sheet) settings depth) g
+        → PlanIs body table final sheet settings depth (structure order) (asking g (openedPlan body settings depth order) (λ (r : Refusal). withoutGroups (stop r)))
+    go (is-given w) = while w
+    go (is-refused w) = before w
+plan-is body table final sheet settings depth list = go (asked-is body table final (sheetOf list sheet) settings depth)
+  where
+    go : {g : Answer (Asked (SheetOf list))}
+        → Is (AskedAs body table final (sheetOf list sheet) settings depth) (AskedRefused body table final (sheetOf list sheet) settings depth) g
+        → PlanIs body table final sheet settings depth list (withoutGroups (asking g (itemsPlan body settings) stop))
+    go (is-given w) = while w
+    go (is-refused w) = before w
+plan-is body table final sheet settings depth map = go (asked-is body table final (sheetOf map sheet) settings depth)
+  where
+    go : {g : Answer (Asked (SheetOf map))}
+        → Is (AskedAs body table final (sheetOf map sheet) settings depth) (AskedRefused body table final (sheetOf map sheet) settings depth) g
+        → PlanIs body table final sheet settings depth map (withoutGroups (asking g (entriesPlan body settings) stop))
+    go (is-given w) = while w
+    go (is-refused w) = before w
+plan-is body table final sheet settings depth strings = go (asked-is body table final (sheetOf strings sheet) settings depth)
+  where
+    go : {g : Answer (Asked (SheetOf strings))}
+        → Is (AskedAs body table final (sheetOf strings sheet) settings depth) (AskedRefused body table final (sheetOf strings sheet) settings depth) g
+        → PlanIs body table final sheet settings depth strings (withoutGroups (asking g (stringsPlan settings) stop))
+    go (is-given w) = while w
+    go (is-refused w) = before w
+
+-- so what is said of nothing, and of the output of each such plan, is said of the output of the reading
+pub output-carried : (body table : List ℕ) (final : ℕ) (sheet : List ℕ) (settings : Settings) (depth : ShapeDepth) (room : Room) (shape : Shape) (R : Output → Type 0) → R nothing
+    → ((a : Asked (SheetOf shape)) → AskedAs body table final (sheetOf shape sheet) settings depth a → R (output (performed room (askedPlan shape body settings depth a))))
+    → R (output (read shape (uploaded body table final) (calling sheet settings depth) room))
+unfolding performed perform
+output-carried body table final sheet settings depth room shape R base f =
+    subst⁻¹ (λ (x : Reading). R (output x)) (read-is shape body table final sheet settings depth room) (go (plan-is body table final sheet settings depth shape))
+  where
+    go : {w : Whole} → PlanIs body table final sheet settings depth shape w → R (output (performed room w))
+    go (before r) = base
+    go (while {a = a} w) = f a w
+
+-- ---- how many entries are put at most: as met, and in groups
+abbrev pub mostMet : Settings → (shape : Shape) → Asked (SheetOf shape) → ℕ
+mostMet settings (structure order) a = 1 + (length (membersOf (a .sheet)) + length (childrenOf (a .opened .root)))
+mostMet settings list a = length (childrenOf (a .opened .root))
+mostMet settings map a = length (entriesOf (entryName settings (a .sheet)) (a .opened .root))
+mostMet settings strings a = length (childrenOf (a .opened .root))
+
+abbrev pub mostGroups : Shape → ℕ
+mostGroups (structure order) = length order
+mostGroups list = 0
+mostGroups map = 0
+mostGroups strings = 0
+
+-- ---- where a plan may stop: at its end, at the root's name, and where a text that is wanted has none
+pub record MayStop (settings : Settings) (depth : ShapeDepth) (Here : Child → Type 0) (S : Refusal → Type 0) (shape : Shape) (a : Asked (SheetOf shape)) : Type 0 where
+  pub illFormed : a .opened .seen .illFormed ≡ true → S Refusal.IllFormed
+  pub rootName : RootDiffers settings depth shape a → S Refusal.RootName
+  pub text : (c : Child) → Here c → TextWanted settings shape a c → (r : Refusal) → textOf (a .opened .seen .failure) c ≡ refuses r → S r
+
+-- nothing is said of where it stops
+pub may-stop : {Here : Child → Type 0} (settings : Settings) (depth : ShapeDepth) (shape : Shape) (a : Asked (SheetOf shape)) → MayStop settings depth Here Anything shape a
+may-stop settings depth shape a = record { illFormed = λ e. tt {0}; rootName = λ d. tt {0}; text = λ c h w r e. tt {0} }
+
+module _ {Here : Child → Type 0} {M : ℕ → Type 0} {T : List ℕ → Type 0} {F : Refusal → Type 0} {G : ℕ → List ℕ → Type 0} {P : Piece → Type 0} {S : Refusal → Type 0} {body : List ℕ} where
+  text-made : {o : Opened} → Sources Here T F P body o → M 0 → (c : Child) → Here c → ((r : Refusal) → textOf (o .seen .failure) c ≡ refuses r → S r)
+      → Made (Source M T F G P) S 1 (textPlan (textOf (o .seen .failure) c))
+  text-made {o} x m c h stops = go (textOf (o .seen .failure) c) refl
+    where
+      go : (a : Answer (List ℕ)) → textOf (o .seen .failure) c ≡ a → Made (Source M T F G P) S 1 (textPlan a)
+      go (gives b) e = made-put (of-text m (x .text c h b e)) made-end
+      go (refuses r) e = made-stop (stops r e)
+
+  member-made : {o : Opened} → Sources Here T F P body o → (c : Child) → Here c → (m : Option Indexed) → ((y : Indexed) → m ≡ some y → M (y .index))
+      → Made (Source M T F G P) S 1 (memberPlan body (o .seen) c m)
+  member-made x c h none f = made-end
+  member-made {o} x c h (some m) f =
+      pick-all (Made (Source M T F G P) S 1) (m .member .aggregate) _ _ (pick-all (Made (Source M T F G P) S 1) (m .member .flattened) _ _ made-end (made-put (of-piece (f m refl) (x .piece c h)) made-end))
+      (go (textOf (o .seen .failure) c) refl)
+    where
+      go : (a : Answer (List ℕ)) → textOf (o .seen .failure) c ≡ a → Made (Source M T F G P) S 1 (scalarPlan (m .index) a)
+      go (gives b) e = made-put (of-text (f m refl) (x .text c h b e)) made-end
+      go (refuses r) e = made-put (of-failed (f m refl) (x .failed c h r e)) made-end
+
+  entry-made : {settings : Settings} {depth : ShapeDepth} {a : Asked (SheetOf map)} → Sources Here T F P body (a .opened) → MayStop settings depth Here S map a → (c : Child) → Here c
+      → List·Memᴰ c (entriesOf (entryName settings (a .sheet)) (a .opened .root)) → isWanted (entryName settings (a .sheet)) c ≡ true
+      → {f : Answer Fields} → FieldsFrom body (a .opened .seen) (a .sheet) (childrenOf c) f → Made (Source M T F G P) S 1 (readPlan f)
+  entry-made {a = a} x st c h j wanted (no-text {c = d} {r = r} i w e) = made-stop (st .text d (x .children c h d i) (of-field a j wanted i w) r e)
+  entry-made {a = a} x st c h j wanted (fields k v) = go k v
+    where
+      go : {k : Option (List ℕ)} {v : Option MapValue} → KeyFrom body (a .opened .seen) (a .sheet) (childrenOf c) k
+          → ValueFrom body (a .opened .seen) (a .sheet) (childrenOf c) v → Made (Source M T F G P) S 1 (fieldsPlan k v)
+      go no-key v = made-end
+      go (key i e) no-value = made-end
+      go (key {c = d} {k = k} i e) (text-value {c = y} {t = t} j q) = made-put (of-key-text (x .text d (x .children c h d i) k e) (x .text y (x .children c h y j) t q)) made-end
+      go (key {c = d} {k = k} i e) (piece-value {c = y} j) = made-put (of-key-piece (x .text d (x .children c h d i) k e) (x .piece y (x .children c h y j))) made-end
+
+  -- THE INDUCTION
+  pub plan-made : (settings : Settings) (depth : ShapeDepth) (shape : Shape) (a : Asked (SheetOf shape)) → Sources Here T F P body (a .opened) → ShapeSources M T G P body shape a
+      → MayStop settings depth Here S shape a → MadeWhole (Source M T F G P) S (mostMet settings shape a) (mostGroups shape) (askedPlan shape body settings depth a)
+  unfolding itemsPlan itemPlan stringsPlan stringPlan entriesPlan entryPlan openedPlan membersPlan attributePlan childPlan groupPlan unwrappedPlan
+  plan-made settings depth list a x y st =
+      let kids = childrenOf (a .opened .root) in
+      record {
+        asMet = made-more _ (omega arith) (made-followed (made-each _ kids (λ c i. pick-all (Made (Source M T F G P) S 1) (isWanted (itemName settings (a .sheet)) c) _ _
+            (made-put (of-piece y (x .piece c (x .children (a .opened .root) (x .root) c i))) made-end) made-end)) (made-last {n = 0} (a .opened .seen .illFormed) (st .illFormed)));
+        groups = made-end;
+      }
+  plan-made settings depth strings a x y st =
+      let kids = childrenOf (a .opened .root) in
+      record {
+        asMet = made-more _ (omega arith) (made-followed (made-each _ kids (λ c i. pick-cases (Made (Source M T F G P) S 1) (isWanted (itemName settings (a .sheet)) c) _ _
+            (λ e. let h = x .children (a .opened .root) (x .root) c i in text-made x y c h (st .text c h (of-item a i e))) (λ e. made-end)))
+            (made-last {n = 0} (a .opened .seen .illFormed) (st .illFormed)));
+        groups = made-end;
+      }
+  plan-made settings depth map a x y st =
+      let name = entryName settings (a .sheet) in
+      record {
+        asMet = made-more _ (omega arith) (made-followed (made-each _ (entriesOf name (a .opened .root)) (λ c i. pick-cases (Made (Source M T F G P) S 1) (isWanted name c) _ _
+            (λ e. entry-made x st c (x .entries name (a .opened .root) (x .root) c i) i e
+            (fields-from body (a .opened .seen) (a .sheet) (childrenOf c) (childrenOf c) (λ z j. j) noFields no-key no-value)) (λ e. made-end)))
+            (made-last {n = 0} (a .opened .seen .illFormed) (st .illFormed)));
+        groups = made-end;
+      }
+  plan-made settings depth (structure order) a x y st = named (testsRootName settings depth) (nameMatches (a .opened .root .start .name) (rootName (a .sheet))) refl refl
+    where
+      o : Opened
+      o = a .opened
+
+      kids : List Child
+      kids = childrenOf (o .root)
+
+      resolved : (local : List ℕ) (m : Indexed) → resolve (a .sheet) local ≡ some m → M (m .index)
+      resolved local m e = y .member m (named-in (membersOf (a .sheet)) local m e)
+
+      found : (m : Indexed) → List·Memᴰ m (membersOf (a .sheet)) → (v : Option (List ℕ)) → attributeOf (o .root .start .attributes) (attributeName (m .member)) ≡ v → Made (Source M T F G P) S 1 (foundPlan (m .index) v)
+      found m i none e = made-end
+      found m i (some v) e = made-put (of-text (y .member m i) (y .attribute _ v e)) made-end
+
+      atRoot : (m : Option Indexed) → resolve (a .sheet) (o .root .start .name .local) ≡ m → Made (Source M T F G P) S 1 (rootPlan (rootPiece body o) m)
+      atRoot none e = made-end
+      atRoot (some m) e = made-put (of-piece (resolved _ m e) (y .root)) made-end
+
+      attributes : Made (Source M T F G P) S (length (membersOf (a .sheet))) (oneByOne (attributePlan (o .root .start .attributes)) (membersOf (a .sheet)))
+      attributes = made-each (attributePlan (o .root .start .attributes)) (membersOf (a .sheet)) (λ m i. pick-all (Made (Source M T F G P) S 1) (m .member .attribute) _ _
+          (found m i (attributeOf (o .root .start .attributes) (attributeName (m .member))) refl) made-end)
+
+      children : Made (Source M T F G P) S (length kids) (oneByOne (childPlan body (o .seen) (a .sheet)) kids)
+      children = made-each (childPlan body (o .seen) (a .sheet)) kids (λ c i. member-made x c (x .children (o .root) (x .root) c i) (resolve (a .sheet) (c .start .name .local)) (resolved _))
+
+      either : MadeWhole (Source M T F G P) S (mostMet settings (structure order) a) (length order)
+          (pick (a .sheet .unwrapped) (withoutGroups (unwrappedPlan body (a .sheet) o)) (membersPlan body (a .sheet) order o))
+      either =
+          pick-all (MadeWhole (Source M T F G P) S (mostMet settings (structure order) a) (length order)) (a .sheet .unwrapped) _ _
+          (record {
+            asMet = made-more _ (omega arith) (made-followed (made-last {n = 0} (o .seen .illFormed) (st .illFormed)) (atRoot (resolve (a .sheet) (o .root .start .name .local)) refl));
+            groups = made-end;
+          })
+          (record {
+            asMet = made-more _ (omega arith) (made-followed attributes (made-followed children (made-last {n = 0} (o .seen .illFormed) (st .illFormed))));
+            groups = made-each _ order (λ i j. made-put (of-group (y .ordered i j) (y .group i)) made-end);
+          })
+
+      named : (tests matches : Bool) → testsRootName settings depth ≡ tests → nameMatches (o .root .start .name) (rootName (a .sheet)) ≡ matches
+          → MadeWhole (Source M T F G P) S (mostMet settings (structure order) a) (length order)
+          (withRootName tests matches (pick (a .sheet .unwrapped) (withoutGroups (unwrappedPlan body (a .sheet) o)) (membersPlan body (a .sheet) order o)))
+      named false matches p q = either
+      named true true p q = either
+      named true false p q = record { asMet = made-stop (st .rootName (differs a p q)); groups = made-end }

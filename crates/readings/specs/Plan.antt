@@ -1,0 +1,62 @@
+-- What a reading hands out, in order, whatever the room: its plan. And the one way in which a plan is performed in a room.
+use Prim.Native.Nat.{ℕ}
+use mathlib.Core.Bool.{Bool, true, false}
+use mathlib.Core.List.{List, [], _∷_}
+use Rattle.lists.specs.Tests.{pick}
+use Rattle.refusal.specs.declared.Refusal.{Refusal}
+use Rattle.readings.specs.Output.{Entry, Room, Output, nothing, Reading, finished, refused, fits, written}
+
+-- an entry, made with the place where its bytes begin in the text buffer, with its bytes, and what comes then; or the end; or a refusal
+pub data Plan : Type 0 where
+  put : (ℕ → Entry) → List ℕ → Plan → Plan
+  end : Plan
+  stop : Refusal → Plan
+
+-- "An entry and its text are written only if both fit; else 10": there the plan is left. What was written stays.
+unfoldable pub perform : Room → Plan → Output → Reading
+perform room (put entry bytes more) out = pick (fits room bytes out) (perform room more (written entry bytes out)) (refused Refusal.NoRoom out)
+perform room end out = finished out
+perform room (stop r) out = refused r out
+
+-- ---- plans of plans
+abbrev pub one : (ℕ → Entry) → List ℕ → Plan
+one entry bytes = put entry bytes end
+
+-- a plan, and another after it
+unfoldable pub followedBy : Plan → Plan → Plan
+followedBy (put entry bytes more) q = put entry bytes (followedBy more q)
+followedBy end q = q
+followedBy (stop r) q = stop r
+
+-- the plans of the elements of a list, one after another
+unfoldable pub oneByOne : {A : Type 0} → (A → Plan) → List A → Plan
+unfolding followedBy
+oneByOne f [] = end
+oneByOne f (x ∷ l) = followedBy (f x) (oneByOne f l)
+
+-- "9 after the children", "9 last": a strict reading of an ill-formed body is refused
+abbrev pub endTest : Bool → Plan
+endTest true = stop Refusal.IllFormed
+endTest false = end
+
+-- ---- "then the groups .. if all groups together do not fit, 10 and none is written"
+-- what is handed out as it is met, and the groups
+pub record Whole : Type 0 where
+  pub asMet : Plan
+  pub groups : Plan
+
+abbrev pub withoutGroups : Plan → Whole
+withoutGroups p = record { asMet = p; groups = end }
+
+abbrev pub allOrNone : Output → Reading → Reading
+allOrNone before (finished out) = finished out
+allOrNone before (refused r out) = refused r before
+
+abbrev pub thenGroups : Room → Plan → Reading → Reading
+thenGroups room groups (finished out) = allOrNone out (perform room groups out)
+thenGroups room groups (refused r out) = refused r out
+
+-- a reading is its plan, performed in the room that was lent
+unfoldable pub performed : Room → Whole → Reading
+unfolding perform
+performed room w = thenGroups room (w .groups) (perform room (w .asMet) nothing)
