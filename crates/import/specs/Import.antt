@@ -3,32 +3,34 @@ use Prim.Native.Nat.{ℕ, _+_, _*_, _/_, _<_}
 use mathlib.Core.Path.{_≡_}
 use mathlib.Core.List.{List}
 use lib.ListN.{length, getD}
-use Rattle.refusal.specs.declared.Refusal.{Refusal}
-use Rattle.refusal.specs.Numbers.{number}
 use Rattle.table.specs.Row.{cut, rowsOf, tableOf}
 use Rattle.table.specs.Piece.{elementRows, pieceRows}
 use Rattle.xml.specs.declared.Drained.{Drained}
 use Rattle.xml.specs.Drain.{drained}
 use Rattle.xml.specs.Piece.{PieceAt}
-use Rattle.sheet.specs.Settings.{Settings}
+use Rattle.readings.specs.Call.{Upload, Call, uploaded}
 use Rattle.readings.specs.Output.{pieceKind}
+use Rattle.output.specs.Held.{roomOf}
 use Rattle.deserializer.specs.declared.Shape.{Shape}
-use Rattle.deserializer.specs.Call.{SheetCall, shapeDepth}
-use Rattle.deserializer.specs.Demand.{MayAnswer}
+use Rattle.deserializer.specs.Call.{SheetCall}
+use Rattle.deserializer.specs.Demand.{MayAnswer, shapeAt}
 use Rattle.falzheod.specs.Numbers.{drainedNumber}
 use Rattle.import.specs.declared.pieces.Imported.{Imported}
 
--- the strict drain passes a body and its rows, with some final position
-pub record PassedTable (body rows : List ℕ) : Type 0 where
-  pub end : ℕ
-  pub passes : drained body rows end ≡ Drained.Passes
+-- the strict drain passes an upload
+pub record Passes (u : Upload) : Type 0 where
+  pub is : drained (u .body) (u .rows) (u .end) ≡ Drained.Passes
 
--- r is the number of a reading of a piece, at depth 1, by its element's rows, counted from the piece's first byte, in buffers of these
--- lengths; and it is 0 or one of demand 3's six: never 1, never 9
-pub record Reread (shape : Shape) (body rows : List ℕ) (start len : ℕ) (sheet : List ℕ) (settings : Settings) (entries texts r : ℕ)
-    : Type 0 where
+-- a piece as an upload of its own: its bytes, the rows of the element that starts in a row, counted from the piece's first byte, and its
+-- length as final position
+abbrev pub pieceUpload : Upload → ℕ → ℕ → ℕ → Upload
+pieceUpload u row start len = uploaded (cut (u .body) start len) (tableOf (pieceRows (u .body) (elementRows (rowsOf (u .rows)) row))) len
+
+-- r is the number of a reading of a piece by its element's rows, in buffers of these lengths; and it is 0 or one of demand 3's six, each
+-- where its condition holds: never 1, never 9
+pub record Reread (shape : Shape) (u : Upload) (start len : ℕ) (call : Call) (entries texts r : ℕ) : Type 0 where
   pub row : ℕ
-  pub piece : PieceAt body rows row start len
+  pub piece : PieceAt (u .body) (u .rows) row start len
   -- the buffers, before and after, and how much of them is written
   pub e : List ℕ
   pub t : List ℕ
@@ -38,27 +40,25 @@ pub record Reread (shape : Shape) (body rows : List ℕ) (start len : ℕ) (shee
   pub m : ℕ
   pub entryRoom : length e ≡ entries
   pub textRoom : length t ≡ texts
-  pub call : SheetCall shape (cut body start len) (tableOf (pieceRows body (elementRows (rowsOf rows) row))) len sheet settings
-      (shapeDepth 1) e t e′ t′ n m r
-  pub may : MayAnswer r
+  pub reads : SheetCall shape (pieceUpload u row start len) call e t e′ t′ n m r
+  pub order : List ℕ
+  pub may : MayAnswer (shapeAt shape order) (pieceUpload u row start len) call (roomOf e t) r
 
 -- of entry k, if it is of kind 2 and there is a number k: that is the number of its piece
-pub record RereadAt (shape : Shape) (body rows entries sheet : List ℕ) (settings : Settings) (room texts : ℕ) (numbers : List ℕ) (k : ℕ)
-    : Type 0 where
+pub record RereadAt (shape : Shape) (u : Upload) (entries : List ℕ) (call : Call) (room texts : ℕ) (numbers : List ℕ) (k : ℕ) : Type 0 where
   pub is : k < length entries / 6 → k < length numbers → getD entries (k * 6) 0 ≡ pieceKind
-      → Reread shape body rows (getD entries (k * 6 + 4) 0) (getD entries (k * 6 + 5) 0) sheet settings room texts (getD numbers k 0)
+      → Reread shape u (getD entries (k * 6 + 4) 0) (getD entries (k * 6 + 5) 0) call room texts (getD numbers k 0)
 
 -- of entry k; every other number is as it was
-pub record RereadOne (shape : Shape) (body rows entries sheet : List ℕ) (settings : Settings) (room texts : ℕ)
-    (numbers numbers′ : List ℕ) (k : ℕ) : Type 0 where
-  pub here : RereadAt shape body rows entries sheet settings room texts numbers′ k
+pub record RereadOne (shape : Shape) (u : Upload) (entries : List ℕ) (call : Call) (room texts : ℕ) (numbers numbers′ : List ℕ) (k : ℕ)
+    : Type 0 where
+  pub here : RereadAt shape u entries call room texts numbers′ k
   pub others : (j : ℕ) → (j ≡ k → ⊥) → getD numbers′ j 0 ≡ getD numbers j 0
   pub long : length numbers′ ≡ length numbers
 
 -- of each of the first n entries
-pub record EachReread (shape : Shape) (body rows entries : List ℕ) (n : ℕ) (sheet : List ℕ) (settings : Settings) (room texts : ℕ)
-    (numbers : List ℕ) : Type 0 where
-  pub each : (k : ℕ) → k < n → RereadAt shape body rows entries sheet settings room texts numbers k
+pub record EachReread (shape : Shape) (u : Upload) (entries : List ℕ) (n : ℕ) (call : Call) (room texts : ℕ) (numbers : List ℕ) : Type 0 where
+  pub each : (k : ℕ) → k < n → RereadAt shape u entries call room texts numbers k
 
 -- nothing is handed on: both buffers and the numbers are as they were
 pub record NothingDone (e t e′ t′ numbers numbers′ : List ℕ) (r : Imported) : Type 0 where
@@ -70,15 +70,16 @@ pub record NothingDone (e t e′ t′ numbers numbers′ : List ℕ) (r : Import
   pub same : numbers′ ≡ numbers
 
 -- the upload passed: what the reading promises, its number, and the pieces
-pub record AllRead (shape piece : Shape) (body rows : List ℕ) (end : ℕ) (sheet pieceSheet : List ℕ) (settings : Settings)
-    (e t e′ t′ numbers′ : List ℕ) (room texts : ℕ) (r : Imported) : Type 0 where
-  pub call : SheetCall shape body rows end sheet settings (shapeDepth 0) e t e′ t′ (r .count) (r .length) (r .read)
-  pub may : MayAnswer (r .read)
-  pub again : EachReread piece body rows e′ (r .count) pieceSheet settings room texts numbers′
+pub record AllRead (shape piece : Shape) (u : Upload) (call inner : Call) (e t e′ t′ numbers′ : List ℕ) (room texts : ℕ) (r : Imported)
+    : Type 0 where
+  pub reads : SheetCall shape u call e t e′ t′ (r .count) (r .length) (r .read)
+  pub order : List ℕ
+  pub may : MayAnswer (shapeAt shape order) u call (roomOf e t) (r .read)
+  pub again : EachReread piece u e′ (r .count) inner room texts numbers′
 
--- THE PROMISE of an import
-pub record ImportCall (shape piece : Shape) (body rows : List ℕ) (end : ℕ) (sheet pieceSheet : List ℕ) (settings : Settings)
-    (e t e′ t′ numbers numbers′ : List ℕ) (room texts : ℕ) (r : Imported) : Type 0 where
-  pub drained : r .drained ≡ drainedNumber (drained body rows end)
+-- THE PROMISE of an import: of the upload and of each piece, read as these shapes by these calls
+pub record ImportCall (shape piece : Shape) (u : Upload) (call inner : Call) (e t e′ t′ numbers numbers′ : List ℕ) (room texts : ℕ)
+    (r : Imported) : Type 0 where
+  pub drained : r .drained ≡ drainedNumber (drained (u .body) (u .rows) (u .end))
   pub refused : (r .drained ≡ 0 → ⊥) → NothingDone e t e′ t′ numbers numbers′ r
-  pub passed : r .drained ≡ 0 → AllRead shape piece body rows end sheet pieceSheet settings e t e′ t′ numbers′ room texts r
+  pub passed : r .drained ≡ 0 → AllRead shape piece u call inner e t e′ t′ numbers′ room texts r

@@ -4,9 +4,10 @@ ghost use mathlib.Core.Path.{_≡_};
 ghost use Prim.Native.Nat.{_*_, _≤_};
 ghost use lib.ListN.{length};
 ghost use Rattle.xml.specs.Piece.{ElementPiece};
-ghost use Rattle.deserializer.specs.Call.{settingsBy, shapeOf};
+ghost use Rattle.readings.specs.Call.{uploaded, calling};
+ghost use Rattle.deserializer.specs.Call.{settingsBy, shapeDepth, shapeOf};
 ghost use Rattle.deserializer.specs.Demand.{PieceAt, PiecesIn};
-ghost use Rattle.import.specs.Import.{PassedTable, Reread, RereadOne, EachReread, ImportCall};
+ghost use Rattle.import.specs.Import.{Passes, Reread, RereadOne, EachReread, ImportCall};
 
 // What came of an upload: the drain's number; where that is 0, the reading's number and how many entries and text bytes it wrote.
 pub struct Imported {
@@ -27,6 +28,7 @@ fn read_piece(
     kind: u32,
     body: &[u8],
     rows: &[u32],
+    end: u32,
     start: u32,
     len: u32,
     sheet: &[u8],
@@ -36,11 +38,12 @@ fn read_piece(
     entries: &mut [u32],
     texts: &mut [u8],
 ) -> u32
-    requires { ⌜ PassedTable (now body) (now rows) ⌝ }
+    requires { ⌜ Passes (uploaded (now body) (now rows) end) ⌝ }
     requires { ⌜ ElementPiece (now body) (now rows) start len ⌝ }
     requires { ⌜ 65536 ≤ length (now table) ⌝ }
-    ensures { λ r. ⌜ Reread (shapeOf kind) (now (body .entry)) (now (rows .entry)) start len (now (sheet .entry))
-        (settingsBy flags «max_depth») (length (now (entries .entry))) (length (now (texts .entry))) r ⌝ }
+    ensures { λ r. ⌜ Reread (shapeOf kind) (uploaded (now (body .entry)) (now (rows .entry)) end) start len
+        (calling (now (sheet .entry)) (settingsBy flags «max_depth») (shapeDepth 1))
+        (length (now (entries .entry))) (length (now (texts .entry))) r ⌝ }
 {
     let from = wide(start);
     let to = from + wide(len);
@@ -68,6 +71,7 @@ fn read_entry(
     kind: u32,
     body: &[u8],
     rows: &[u32],
+    end: u32,
     entries: &[u32],
     k: usize,
     sheet: &[u8],
@@ -77,11 +81,11 @@ fn read_entry(
     piece_entries: &mut [u32],
     piece_texts: &mut [u8],
 )
-    requires { ⌜ PassedTable (now body) (now rows) ⌝ }
-    requires { ⌜ PieceAt (now body) (now rows) (now entries) (k * 6) ⌝ }
-    ensures { λ _. ⌜ RereadOne (shapeOf kind) (now (body .entry)) (now (rows .entry)) (now (entries .entry))
-        (now (sheet .entry)) (settingsBy flags «max_depth») (length (now («piece_entries» .entry))) (length (now («piece_texts» .entry)))
-        (now (numbers .entry)) (now (numbers .exit)) k ⌝ }
+    requires { ⌜ Passes (uploaded (now body) (now rows) end) ⌝ }
+    requires { ⌜ PieceAt (uploaded (now body) (now rows) end) (now entries) (k * 6) ⌝ }
+    ensures { λ _. ⌜ RereadOne (shapeOf kind) (uploaded (now (body .entry)) (now (rows .entry)) end) (now (entries .entry))
+        (calling (now (sheet .entry)) (settingsBy flags «max_depth») (shapeDepth 1)) (length (now («piece_entries» .entry)))
+        (length (now («piece_texts» .entry))) (now (numbers .entry)) (now (numbers .exit)) k ⌝ }
 {
     if entries.len() / 6 <= k {
         return;
@@ -99,6 +103,7 @@ fn read_entry(
         kind,
         body,
         rows,
+        end,
         start,
         len,
         sheet,
@@ -115,6 +120,7 @@ fn read_pieces(
     kind: u32,
     body: &[u8],
     rows: &[u32],
+    end: u32,
     entries: &[u32],
     count: usize,
     sheet: &[u8],
@@ -124,10 +130,10 @@ fn read_pieces(
     piece_entries: &mut [u32],
     piece_texts: &mut [u8],
 )
-    requires { ⌜ PassedTable (now body) (now rows) ⌝ }
-    requires { ⌜ PiecesIn (now body) (now rows) (now entries) count ⌝ }
-    ensures { λ _. ⌜ EachReread (shapeOf kind) (now (body .entry)) (now (rows .entry)) (now (entries .entry))
-        count (now (sheet .entry)) (settingsBy flags «max_depth») (length (now («piece_entries» .entry)))
+    requires { ⌜ Passes (uploaded (now body) (now rows) end) ⌝ }
+    requires { ⌜ PiecesIn (uploaded (now body) (now rows) end) (now entries) count ⌝ }
+    ensures { λ _. ⌜ EachReread (shapeOf kind) (uploaded (now (body .entry)) (now (rows .entry)) end) (now (entries .entry)) count
+        (calling (now (sheet .entry)) (settingsBy flags «max_depth») (shapeDepth 1)) (length (now («piece_entries» .entry)))
         (length (now («piece_texts» .entry))) (now (numbers .exit)) ⌝ }
 {
     let mut k = 0;
@@ -136,6 +142,7 @@ fn read_pieces(
             kind,
             body,
             rows,
+            end,
             entries,
             k,
             sheet,
@@ -166,9 +173,10 @@ pub fn import(
     piece_entries: &mut [u32],
     piece_texts: &mut [u8],
 ) -> Imported
-    ensures { λ r. ⌜ ImportCall (shapeOf kind) (shapeOf «piece_kind») (now (body .entry)) (now (rows .entry)) end
-        (now (sheet .entry)) (now («piece_sheet» .entry)) (settingsBy flags «max_depth») (now (entries .entry)) (now (texts .entry))
-        (now (entries .exit)) (now (texts .exit)) (now (numbers .entry)) (now (numbers .exit))
+    ensures { λ r. ⌜ ImportCall (shapeOf kind) (shapeOf «piece_kind») (uploaded (now (body .entry)) (now (rows .entry)) end)
+        (calling (now (sheet .entry)) (settingsBy flags «max_depth») (shapeDepth 0))
+        (calling (now («piece_sheet» .entry)) (settingsBy flags «max_depth») (shapeDepth 1))
+        (now (entries .entry)) (now (texts .entry)) (now (entries .exit)) (now (texts .exit)) (now (numbers .entry)) (now (numbers .exit))
         (length (now («piece_entries» .entry))) (length (now («piece_texts» .entry))) r ⌝ }
 {
     let mut row = 0;
@@ -202,6 +210,7 @@ pub fn import(
         piece_kind,
         body,
         rows,
+        end,
         entries,
         count,
         piece_sheet,

@@ -1,17 +1,19 @@
 -- The entries up to k are done; a later one changes none of their numbers.
 use lib.ListN.{length}
-use Rattle.deserializer.specs.Call.{settingsBy, shapeOf}
+use Rattle.readings.specs.Call.{uploaded, calling}
+use Rattle.deserializer.specs.Call.{settingsBy, shapeDepth, shapeOf}
 use Prim.Native.Nat.{_-_}
 use Rattle.import.proofs.Again.{again-laws, Again}
 use Rattle.import.proofs.pieces.read_pieces.Statement.{statement}
 use Rattle.import.proofs.pieces.read_pieces.Tie as tie
 
 abbrev Inv-loop : tie.InvT-loop
-Inv-loop kind body rows entries count sheet flags max-depth numbers₀ piece-entries₀ piece-texts₀ k₀ numbers piece-entries piece-texts k =
-    Again (shapeOf kind) body rows entries sheet (settingsBy flags max-depth) (length piece-entries₀) (length piece-texts₀) (length numbers₀) piece-entries piece-texts numbers k
+Inv-loop kind body rows end entries count sheet flags max-depth numbers₀ piece-entries₀ piece-texts₀ k₀ numbers piece-entries piece-texts k =
+    Again (shapeOf kind) (uploaded body rows end) entries (calling sheet (settingsBy flags max-depth) (shapeDepth 1)) (length piece-entries₀)
+        (length piece-texts₀) (length numbers₀) piece-entries piece-texts numbers k
 
 abbrev μ-loop : tie.MeasureT-loop
-μ-loop kind body rows entries count sheet flags max-depth numbers₀ piece-entries₀ piece-texts₀ k₀ numbers piece-entries piece-texts k =
+μ-loop kind body rows end entries count sheet flags max-depth numbers₀ piece-entries₀ piece-texts₀ k₀ numbers piece-entries piece-texts k =
     count - k
 
 loop-holds : tie.Need-loop-holds Inv-loop μ-loop
