@@ -4,6 +4,8 @@
 pub mod bodies;
 pub mod calls;
 pub mod check;
+pub mod counts;
+pub mod derived;
 pub mod drains;
 pub mod lent;
 pub mod model;
@@ -18,3 +20,4 @@ pub mod sheets;
 pub mod tally;
 pub mod texts;
 pub mod timing;
+pub mod uploads;

@@ -1,4 +1,4 @@
-//! Times of calls that take turns.
+//! Times of calls that take turns, and the lines that tell them.
 
 use std::time::{Duration, Instant};
 
@@ -42,4 +42,37 @@ fn time(call: &mut dyn FnMut(), calls: u32) -> f64 {
 fn median(mut times: Vec<f64>) -> f64 {
     times.sort_by(f64::total_cmp);
     times[times.len() / 2]
+}
+
+/// The head of a Markdown table of times of tables: what stands in its first column,
+/// and whose times stand beside ours.
+pub fn heading(first: &str, beside: &[&str]) {
+    let others: String = beside
+        .iter()
+        .map(|name| format!(" {name} ns | ratio |"))
+        .collect();
+    println!("\n| {first} | bytes | rows | Falzheod ns | ns a row |{others}");
+    println!(
+        "|---|---:|---:|---:|---:|{}",
+        "---:|---:|".repeat(beside.len())
+    );
+}
+
+/// A line of that table: our time, and the others' with their ratios to it.
+pub fn line(name: &str, bytes: usize, rows: usize, ours: f64, beside: &[f64]) {
+    let others: String = beside
+        .iter()
+        .map(|time| format!(" {time:.0} | {} |", ratio(time / ours)))
+        .collect();
+    let each = ours / rows as f64;
+    println!("| {name} | {bytes} | {rows} | {ours:.0} | {each:.1} |{others}");
+}
+
+/// Two digits that say something, for a small one too.
+fn ratio(ratio: f64) -> String {
+    if ratio < 0.1 {
+        format!("{ratio:.4}")
+    } else {
+        format!("{ratio:.2}")
+    }
 }

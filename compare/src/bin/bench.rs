@@ -9,11 +9,11 @@
 use compare::random::Random;
 use compare::texts;
 use compare::timing::{medians, TURNS};
+use compare::uploads::NAMED;
 use std::hint::black_box;
 
 const SIZE: usize = 64 * 1024;
 
-const NAMES: [&str; 5] = ["&lt;", "&gt;", "&amp;", "&quot;", "&apos;"];
 const LETTERS: [&str; 8] = ["é", "µ", "ß", "€", "木", "輪", "🌲", "🪵"];
 const WORDS: [&str; 6] = ["ring ", "width ", "of ", "the ", "core ", "sapwood "];
 
@@ -36,7 +36,7 @@ fn hundred(random: &mut Random, from: &[&str]) -> String {
     while part.len() < 95 {
         part += random.pick(from);
     }
-    part + random.pick(&NAMES)
+    part + random.pick(&NAMED)
 }
 
 fn numeric(random: &mut Random) -> String {
@@ -54,7 +54,7 @@ fn reference_texts() -> [(&'static str, String); 5] {
         ),
         (
             "all references, named",
-            text(|random| random.pick(&NAMES).to_string()),
+            text(|random| random.pick(&NAMED).to_string()),
         ),
         ("all references, numeric", text(numeric)),
         (
