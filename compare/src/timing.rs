@@ -1,9 +1,8 @@
 //! Times of calls that take turns, and the lines that tell them.
 
-use std::time::{Duration, Instant};
-
 pub const TURNS: usize = 15;
-const TURN: Duration = Duration::from_millis(20);
+/// Nanoseconds.
+const TURN: f64 = 20e6;
 
 /// Nanoseconds for one of each of the calls: the medians of their turns, which they
 /// take one after the other.
@@ -23,7 +22,7 @@ fn count(call: &mut dyn FnMut()) -> u32 {
     let mut calls = 1;
     loop {
         let taken = time(call, calls);
-        if taken >= TURN.as_secs_f64() * 1e9 / f64::from(calls) {
+        if taken * f64::from(calls) >= TURN {
             return calls;
         }
         calls *= 2;
@@ -32,11 +31,37 @@ fn count(call: &mut dyn FnMut()) -> u32 {
 
 /// Nanoseconds for one call.
 fn time(call: &mut dyn FnMut(), calls: u32) -> f64 {
-    let start = Instant::now();
+    let start = spent();
     for _ in 0..calls {
         call();
     }
-    start.elapsed().as_secs_f64() * 1e9 / f64::from(calls)
+    (spent() - start) / f64::from(calls)
+}
+
+/// Linux's number of the clock that counts one thread's time on a processor.
+const THREAD_TIME: i32 = 3;
+
+#[repr(C)]
+struct Time {
+    seconds: i64,
+    nanoseconds: i64,
+}
+
+extern "C" {
+    fn clock_gettime(clock: i32, time: *mut Time) -> i32;
+}
+
+/// Nanoseconds that this thread has had a processor: what others do in between on a
+/// shared machine is not counted.
+fn spent() -> f64 {
+    let mut time = Time {
+        seconds: 0,
+        nanoseconds: 0,
+    };
+    // SAFETY: the C library's function, on 64 bits, with a live place to write to.
+    let status = unsafe { clock_gettime(THREAD_TIME, &mut time) };
+    assert_eq!(status, 0, "a clock for this thread");
+    time.seconds as f64 * 1e9 + time.nanoseconds as f64
 }
 
 fn median(mut times: Vec<f64>) -> f64 {

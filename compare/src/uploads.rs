@@ -2,6 +2,7 @@
 //! that fill a table with as many rows as are asked for.
 
 use crate::random::Random;
+use crate::texts;
 
 const SPECIES: [&str; 4] = ["larch", "stone pine", "spruce", "oak"];
 pub const NAMED: [&str; 5] = ["&lt;", "&gt;", "&amp;", "&quot;", "&apos;"];
@@ -68,4 +69,11 @@ pub fn many_references(random: &mut Random, count: usize) -> String {
     (0..count)
         .map(|_| format!("w{}", random.pick(&from)))
         .collect()
+}
+
+/// A reference by number.
+pub fn numeric(random: &mut Random) -> String {
+    let highest = [0x7E, 0x7FF, 0xD7FF][random.below(3)];
+    let code = random.between(0x20, highest);
+    texts::coded(code, random.below(3), "")
 }

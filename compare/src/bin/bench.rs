@@ -7,9 +7,8 @@
 //! cleared between calls.
 
 use compare::random::Random;
-use compare::texts;
 use compare::timing::{medians, TURNS};
-use compare::uploads::NAMED;
+use compare::uploads::{numeric, NAMED};
 use std::hint::black_box;
 
 const SIZE: usize = 64 * 1024;
@@ -37,12 +36,6 @@ fn hundred(random: &mut Random, from: &[&str]) -> String {
         part += random.pick(from);
     }
     part + random.pick(&NAMED)
-}
-
-fn numeric(random: &mut Random) -> String {
-    let highest = [0x7E, 0x7FF, 0xD7FF][random.below(3)];
-    let code = random.between(0x20, highest);
-    texts::coded(code, random.below(3), "")
 }
 
 fn reference_texts() -> [(&'static str, String); 5] {
