@@ -1,7 +1,8 @@
 //! Times the readings beside the Rust's same readings of the same bodies, in one run,
 //! and prints Markdown tables. Build it with `--profile speed`.
 //!
-//!     bench_readings [WORD...]     only lines whose names have one of the words
+//!     bench_readings [WORD...]     only lines whose names have one of the words in them,
+//!                                  or, of a word `=NAME`, are that name
 //!
 //! What is timed. Ours has the table at hand and writes entries and texts to buffers
 //! that are lent again and again. The Rust gets the body: it tokenizes as it reads, and
@@ -218,7 +219,7 @@ impl Lines {
         if flags == LENIENT {
             name += ", lenient";
         }
-        if !self.words.is_empty() && !self.words.iter().any(|word| name.contains(word)) {
+        if !self.asks_for(&name) {
             return;
         }
         let made = Made::of(body);
@@ -227,6 +228,14 @@ impl Lines {
         if rust / ours < GOAL {
             self.behind.push(format!("{name} ({:.2})", rust / ours));
         }
+    }
+
+    fn asks_for(&self, name: &str) -> bool {
+        let asked = |word: &String| match word.strip_prefix('=') {
+            Some(whole) => name == whole,
+            None => name.contains(word),
+        };
+        self.words.is_empty() || self.words.iter().any(asked)
     }
 
     fn both(&mut self, name: &str, reading: &Reading, body: &[u8]) {
@@ -450,11 +459,27 @@ fn many_attributes(lines: &mut Lines) {
         let name = format!("{count} attributes, 64 attribute members");
         lines.both(&name, &reading, start_tag(count, "p:").as_bytes());
     }
-    let tag: String = (1..=64)
-        .map(|number| format!(" {}=''", short_name(number)))
-        .collect();
+    let members = (0..64).map(|number| attribute(&late_name(255, number)));
+    let reading = structure("r", members.collect());
+    let name = "8190 attributes, 64 attribute members of 255 bytes";
+    lines.both(name, &reading, start_tag(8_190, "p:").as_bytes());
+    for (count, length) in [(5_000, 8), (240, 255)] {
+        let tag = attributes((0..count).map(|number| late_name(length, number)));
+        let name = format!("{count} attributes, names of {length} bytes that differ late");
+        lines.both(&name, &items(Kind::List), format!("<r{tag}/>").as_bytes());
+    }
+    let tag = attributes((1..=64).map(short_name));
     let body = rowed(8_000, 66, |_| format!("<ring{tag}/>"));
     lines.both("64 attributes in each item", &items(Kind::List), &body);
+}
+
+fn attributes(names: impl Iterator<Item = String>) -> String {
+    names.map(|name| format!(" {name}=''")).collect()
+}
+
+/// Names of `length` bytes that differ in the last ones.
+fn late_name(length: usize, number: usize) -> String {
+    format!("r{number:0>width$}", width = length - 1)
 }
 
 fn many_members(lines: &mut Lines) {
@@ -471,23 +496,24 @@ fn many_members(lines: &mut Lines) {
     lines.both("64 groups, all children of the last", &groups, &last);
 }
 
-/// Names of `length` bytes that differ in the last two; no member has a child's name.
+/// Names that differ late, where no member has a child's name.
 fn long_names(lines: &mut Lines) {
     for (count, length) in [(2_700, 21), (250, 255)] {
-        let name = |number: usize| {
-            format!(
-                "{}{number:02}",
-                "ring-width-".repeat(24)[..length - 2].to_owned()
-            )
-        };
-        let members = (0..64).map(|number| scalar(&name(number))).collect();
-        let reading = structure("r", members);
+        let members = (0..64).map(|number| scalar(&late_name(length, number)));
+        let reading = structure("r", members.collect());
         let body = rowed(3 + 2 * count, 2, |number| {
-            format!("<{}/>", name(64 + number % 36))
+            format!("<{}/>", late_name(length, 64 + number % 36))
         });
         let words = format!("{count} children, names of {length} bytes that differ late");
         lines.both(&words, &reading, &body);
     }
+    let name = late_name(30_000, 7);
+    let body = format!("<r><{name}></{name}></r>");
+    lines.both(
+        "a name of 30,000 bytes, list",
+        &items(Kind::List),
+        body.as_bytes(),
+    );
 }
 
 fn many_fields(lines: &mut Lines) {
@@ -521,31 +547,38 @@ fn depth_and_small_rows(lines: &mut Lines) {
     let comments = rowed(8_192, 1, |_| "<!---->".to_string());
     lines.both("8,189 comments, list", &items(Kind::List), &comments);
     lines.both("no child, no member", &structure("r", Vec::new()), b"<r/>");
+    let members = (0..64).map(|number| scalar(&late_name(9, number)));
+    lines.both(
+        "no child, 64 members",
+        &structure("r", members.collect()),
+        b"<r/>",
+    );
     lines.both("no child, list", &items(Kind::List), b"<r/>");
 }
 
 fn references(lines: &mut Lines) {
-    let texts = |random: &mut Random, _: usize| format!("<s>{}</s>", many_references(random, 40));
-    lines.both(
-        "string list full of references",
-        &items(Kind::Strings),
-        &filled(LARGE, texts),
-    );
+    let texts = filled(LARGE, |random, _| {
+        format!("<s>{}</s>", many_references(random, 40))
+    });
+    let strings = items(Kind::Strings);
+    lines.both("string list full of references", &strings, &texts);
     let mut random = Random::new(7);
     let numbers: String = (0..7_500).map(|_| numeric(&mut random)).collect();
-    let body = format!("<s>{numbers}</s>");
-    lines.both(
-        "string of numeric references",
-        &Reading::String,
-        body.as_bytes(),
-    );
-    let attributes =
-        |random: &mut Random, _: usize| format!("<s x='{}'/>", many_references(random, 40));
-    lines.both(
-        "attributes full of references, list",
-        &items(Kind::List),
-        &filled(LARGE, attributes),
-    );
+    for (name, text) in [
+        ("string of numeric references", numbers),
+        (
+            "string of one reference, 60,000 zeros",
+            format!("&#{}65;", "0".repeat(LARGE)),
+        ),
+    ] {
+        let body = format!("<s>{text}</s>");
+        lines.both(name, &Reading::String, body.as_bytes());
+    }
+    let values = filled(LARGE, |random, _| {
+        format!("<s x='{}'/>", many_references(random, 40))
+    });
+    let name = "attributes full of references, list";
+    lines.both(name, &items(Kind::List), &values);
 }
 
 fn main() {
