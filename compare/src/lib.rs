@@ -11,6 +11,7 @@ pub mod lent;
 pub mod model;
 pub mod named;
 pub mod random;
+pub mod read_times;
 pub mod reader;
 pub mod readings;
 pub mod recorded;

@@ -69,35 +69,26 @@ fn median(mut times: Vec<f64>) -> f64 {
     times[times.len() / 2]
 }
 
-/// The head of a Markdown table of times of tables: what stands in its first column,
-/// and whose times stand beside ours.
+/// The head of a Markdown table: what stands in its first column, and what stands
+/// beside our times.
 pub fn heading(first: &str, beside: &[&str]) {
-    let others: String = beside
-        .iter()
-        .map(|name| format!(" {name} ns | ratio |"))
-        .collect();
-    println!("\n| {first} | bytes | rows | Falzheod ns | ns a row |{others}");
-    println!(
-        "|---|---:|---:|---:|---:|{}",
-        "---:|---:|".repeat(beside.len())
-    );
+    let beside: String = beside.iter().map(|name| format!(" {name} |")).collect();
+    println!("\n| {first} | bytes | rows | Falzheod ns | ns a row |{beside}");
+    let columns = beside.matches('|').count() + 4;
+    println!("|---|{}", "---:|".repeat(columns));
 }
 
-/// A line of that table: our time, and the others' with their ratios to it.
-pub fn line(name: &str, bytes: usize, rows: usize, ours: f64, beside: &[f64]) {
-    let others: String = beside
-        .iter()
-        .map(|time| format!(" {time:.0} | {} |", ratio(time / ours)))
-        .collect();
+/// A line of that table.
+pub fn line(name: &str, bytes: usize, rows: usize, ours: f64, beside: &[String]) {
+    let beside: String = beside.iter().map(|cell| format!(" {cell} |")).collect();
     let each = ours / rows as f64;
-    println!("| {name} | {bytes} | {rows} | {ours:.0} | {each:.1} |{others}");
+    println!("| {name} | {bytes} | {rows} | {ours:.0} | {each:.1} |{beside}");
 }
 
-/// Two digits that say something, for a small one too.
-fn ratio(ratio: f64) -> String {
-    if ratio < 0.1 {
-        format!("{ratio:.4}")
-    } else {
-        format!("{ratio:.2}")
-    }
+/// Another's time and its ratio to ours, as two cells.
+pub fn ratio_cells(other: f64, ours: f64) -> [String; 2] {
+    let ratio = other / ours;
+    // two digits that say something, for a small one too
+    let digits = if ratio < 0.1 { 4 } else { 2 };
+    [format!("{other:.0}"), format!("{ratio:.digits$}")]
 }

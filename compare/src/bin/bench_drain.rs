@@ -7,14 +7,14 @@
 
 use compare::bodies::{nested, start_tag};
 use compare::lent::Made;
-use compare::timing::{heading, line, medians, TURNS};
+use compare::timing::{heading, line, medians, ratio_cells, TURNS};
 use compare::uploads::{core, filled, many_attributes, many_references};
 use std::hint::black_box;
 
 /// The bytes of the upload-like bodies, about.
 const SIZE: usize = 60_000;
 
-const BESIDE: [&str; 2] = ["Rust strictly", "Rust tokenizing"];
+const BESIDE: [&str; 4] = ["Rust strictly ns", "ratio", "Rust tokenizing ns", "ratio"];
 
 /// A root with comments: `rows` rows, as cheap as rows are.
 fn comments(rows: usize) -> Vec<u8> {
@@ -43,7 +43,8 @@ fn row(name: &str, body: &[u8]) {
             black_box(oracle::table::count_tokens(black_box(body)));
         },
     ]);
-    line(name, body.len(), made.rows(), ours, &[strict, tokens]);
+    let beside = [ratio_cells(strict, ours), ratio_cells(tokens, ours)].concat();
+    line(name, body.len(), made.rows(), ours, &beside);
 }
 
 fn main() {
