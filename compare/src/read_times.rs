@@ -4,7 +4,7 @@
 //! again and again. The Rust gets the body: it tokenizes as it reads, and hands each
 //! member, item or map entry to a consumer, which counts it and lets it go; its codec
 //! and schema are made once (oracle/src/timed.rs). So neither side does anything with
-//! what it read, and a text without references costs the Rust no copy.
+//! what it read, and a child's text without references costs the Rust no copy.
 //!
 //! Before that the library, the Rust and the model are compared entry by entry, and
 //! what the timed calls give with that. What differs ends the program.

@@ -82,7 +82,8 @@ pub fn heading(first: &str, beside: &[&str]) {
 pub fn line(name: &str, bytes: usize, rows: usize, ours: f64, beside: &[String]) {
     let beside: String = beside.iter().map(|cell| format!(" {cell} |")).collect();
     let each = ours / rows as f64;
-    println!("| {name} | {bytes} | {rows} | {ours:.0} | {each:.1} |{beside}");
+    let digits = if each < 1_000.0 { 1 } else { 0 };
+    println!("| {name} | {bytes} | {rows} | {ours:.0} | {each:.digits$} |{beside}");
 }
 
 /// Another's time and its ratio to ours, as two cells.

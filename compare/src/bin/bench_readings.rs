@@ -328,7 +328,7 @@ fn many_attributes(lines: &mut Lines) {
     }
     let members = (0..64).map(|number| attribute(&late_name(255, number)));
     let reading = structure("r", members.collect());
-    let name = "8,190 attributes, 64 of 255 bytes asked for";
+    let name = "8,190 attributes, 64 long asked for";
     lines.add(name, &reading, start_tag(8_190, "p:").as_bytes());
     for (count, words, length) in [(5_000, "5,000", 8), (240, "240", 255)] {
         let tag = attributes((0..count).map(|number| late_name(length, number)));
