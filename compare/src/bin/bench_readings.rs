@@ -182,12 +182,12 @@ fn uploads(lines: &mut Lines) {
         let body = filled(size, |random, number| core(random, number, decades));
         let groups = structure("r", vec![group("core")]);
         lines.add(
-            &format!("upload of {words}, flattened groups"),
+            format!("upload of {words}, flattened groups"),
             &groups,
             &body,
         );
         let pieces = structure("r", vec![piece("core")]);
-        lines.add(&format!("upload of {words}, pieces"), &pieces, &body);
+        lines.add(format!("upload of {words}, pieces"), &pieces, &body);
     }
 }
 
@@ -243,7 +243,7 @@ fn collections(lines: &mut Lines) {
     };
     for (kind, name) in [(Kind::List, "list"), (Kind::Strings, "string list")] {
         for (size, words) in [(SMALL, "1 KB"), (LARGE, "60 KB")] {
-            lines.add(&format!("{name} of {words}"), &items(kind), &rings(size));
+            lines.add(format!("{name} of {words}"), &items(kind), &rings(size));
         }
     }
     let plain = |_: &mut Random, number| {
@@ -260,9 +260,9 @@ fn collections(lines: &mut Lines) {
         )
     };
     for (size, words) in [(SMALL, "1 KB"), (LARGE, "60 KB")] {
-        lines.add(&format!("map of {words}"), &pairs(), &filled(size, plain));
+        lines.add(format!("map of {words}"), &pairs(), &filled(size, plain));
         lines.add(
-            &format!("map of {words} with references"),
+            format!("map of {words} with references"),
             &pairs(),
             &filled(size, referring),
         );
