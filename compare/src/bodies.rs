@@ -305,7 +305,7 @@ pub fn start_tag(attributes: usize, last: &str) -> String {
 }
 
 /// A name of its own for each number that is not 0.
-fn short_name(number: usize) -> String {
+pub fn short_name(number: usize) -> String {
     let mut left = number;
     let mut name = String::new();
     while left > 0 {
@@ -316,7 +316,7 @@ fn short_name(number: usize) -> String {
 }
 
 /// Cuts, deletes, changes, inserts or doubles, once to three times.
-fn damage(body: &mut Vec<u8>, random: &mut Random) {
+pub fn damage(body: &mut Vec<u8>, random: &mut Random) {
     for _ in 0..[1, 1, 1, 2, 3][random.below(5)] {
         if body.is_empty() {
             return;

@@ -6,6 +6,7 @@
 use crate::model;
 use crate::rules::{self, Lent};
 use crate::sheets::{List, Map, Structure};
+pub use oracle::Kind;
 
 /// What is asked of a reading beside the table.
 #[derive(Clone, Copy, Debug)]
@@ -29,14 +30,6 @@ pub struct Told {
     pub number: u32,
     pub entries: Vec<[u32; 6]>,
     pub texts: Vec<u8>,
-}
-
-#[derive(Clone, Copy, Debug, PartialEq, Eq)]
-pub enum Kind {
-    Struct,
-    List,
-    Map,
-    Strings,
 }
 
 type Number = u32;

@@ -1,11 +1,12 @@
-//! The check of one question to a reading: the static library beside the Rust, where
-//! it can be asked, and beside the model (src/reader.rs), always.
+//! The check of one question to a reading: the static library beside the model
+//! (src/reader.rs), always, and beside the Rust, where it can be asked.
 
 use crate::calls::{self, Caller};
 use crate::reader::{self, Asked, Kind, Room, Told};
 use crate::rules::{self, Lent};
 use crate::sheets::Structure;
 use oracle::hex::hex;
+use std::fmt::Debug;
 
 /// Entries for every row and every member, and text bytes for every attribute that
 /// every member may ask for.
@@ -16,50 +17,66 @@ pub fn enough(lent: Lent<'_>) -> Room {
     }
 }
 
-/// Counts of what was asked, for the remark behind a group.
+/// "A reading is strict when validate_document stands and shape depth on the call is 0."
+pub fn is_strict(flags: u32, depth: u32) -> bool {
+    flags & 1 != 0 && depth == 0
+}
+
+/// A question that all who were asked answer alike.
+#[derive(Clone, Copy, Debug, Default)]
+pub struct Compared {
+    /// 0, or why it is refused.
+    pub number: u32,
+    pub entries: usize,
+    /// The Rust was asked, not the model alone.
+    pub rust: bool,
+    pub strict: bool,
+    /// Alike but for the unwrapped piece, which by design is longer in the Rust.
+    pub longer_root: bool,
+}
+
+/// What differs is told in words.
+pub type Outcome = Result<Compared, String>;
+
+/// The library's answer to a call that gives one value; `Err` for what it must not do.
+type Answer<T> = Result<Result<T, u32>, String>;
+
 #[derive(Default)]
 pub struct Asker {
     caller: Caller,
-    finished: u64,
-    refused: [u64; 14],
-    entries: u64,
-    of_rust: u64,
-    unwrapped: u64,
 }
 
 impl Asker {
-    /// What differs, if anything: with room enough beside the Rust and the model.
-    /// `tokens` says that the table is the tokenizer's, so that the Rust can be asked.
+    /// With room enough. `tokens` says that the table is the tokenizer's, so that the
+    /// Rust can be asked.
     pub fn reading(
         &mut self,
         kind: Kind,
         lent: Lent<'_>,
         asked: Asked<'_>,
         tokens: bool,
-    ) -> Option<String> {
-        let told = match self.beside_model(kind, lent, asked, enough(lent)) {
-            Ok(told) => told,
-            Err(problem) => return Some(problem),
+    ) -> Outcome {
+        let told = self.beside_model(kind, lent, asked, enough(lent))?;
+        let compared = Compared {
+            number: told.number,
+            entries: told.entries.len(),
+            strict: is_strict(asked.flags, asked.depth),
+            ..Compared::default()
         };
-        match told.number {
-            0 => self.finished += 1,
-            number => self.refused[number as usize] += 1,
-        }
-        self.entries += told.entries.len() as u64;
         if !tokens || told.number == 1 && rules::answer(lent).number == 1 {
-            return None;
+            return Ok(compared);
         }
-        self.beside_rust(kind, lent.body, asked, &told)
+        beside_rust(kind, lent.body, asked, &told, compared)
     }
 
-    /// The same in less room: half of what is written, one less of each, and none.
+    /// The same in less room: just enough, one less of each, and a share of each.
     pub fn in_less_room(
         &mut self,
         kind: Kind,
         lent: Lent<'_>,
         asked: Asked<'_>,
         share: usize,
-    ) -> Option<String> {
+    ) -> Outcome {
         let most = reader::read(kind, lent, asked, enough(lent));
         let (entries, bytes) = (most.entries.len(), most.texts.len());
         let rooms = [
@@ -69,14 +86,20 @@ impl Asker {
             (share % (entries + 1), bytes),
             (entries, share % (bytes + 1)),
         ];
+        let mut compared = Compared {
+            strict: is_strict(asked.flags, asked.depth),
+            ..Compared::default()
+        };
         for (entries, bytes) in rooms {
-            if let Err(problem) = self.beside_model(kind, lent, asked, Room { entries, bytes }) {
-                return Some(format!(
-                    "in room for {entries} entries and {bytes} bytes {problem}"
-                ));
-            }
+            let told = self
+                .beside_model(kind, lent, asked, Room { entries, bytes })
+                .map_err(|problem| {
+                    format!("in room for {entries} entries and {bytes} bytes {problem}")
+                })?;
+            compared.number = told.number;
+            compared.entries = told.entries.len();
         }
-        None
+        Ok(compared)
     }
 
     fn beside_model(
@@ -94,201 +117,175 @@ impl Asker {
         Ok(told)
     }
 
-    fn beside_rust(
-        &mut self,
-        kind: Kind,
-        body: &[u8],
-        asked: Asked<'_>,
-        told: &Told,
-    ) -> Option<String> {
-        let word = match kind {
-            Kind::Struct => "struct",
-            Kind::List => "list",
-            Kind::Map => "map",
-            Kind::Strings => "strings",
-        };
-        let Asked {
-            sheet,
-            flags,
-            max_depth,
-            depth,
-        } = asked;
-        let question = format!(
-            "{word} {} {} {} {depth} {max_depth}",
-            hex(body),
-            hex(sheet),
-            flags & 7
-        );
-        let rust = oracle::answer(&question);
-        if rust == "bad name" {
-            // a name that is not UTF-8, which the Rust cannot hold
-            return None;
-        }
-        self.of_rust += 1;
-        let ours = line(told);
-        if kind == Kind::Strings && told.number != 0 {
-            // a refused string list shows none of its entries in the Rust
-            let number = format!("refuse {}", told.number);
-            return (rust != number).then(|| format!("is {ours}, the Rust {rust}"));
-        }
-        if ours == rust {
-            return None;
-        }
-        if kind == Kind::Struct && is_longer_root(sheet, &ours, &rust) {
-            self.unwrapped += 1;
-            return None;
-        }
-        Some(format!("is {ours}, the Rust {rust}"))
-    }
-
-    pub fn counts(&self) -> String {
-        let numbers = self
-            .refused
-            .iter()
-            .enumerate()
-            .filter(|(_, count)| **count > 0);
-        let numbers: Vec<String> = numbers
-            .map(|(number, count)| format!("{number}: {count}"))
-            .collect();
-        format!(
-            "{} beside the Rust, {} finished, {} entries, refused {}; by design {} unwrapped pieces",
-            self.of_rust,
-            self.finished,
-            self.entries,
-            numbers.join(", "),
-            self.unwrapped
-        )
-    }
-
-    /// Boolean, integer and string of a body, beside both.
+    /// Boolean, integer and string of a body.
     pub fn scalars(
         &mut self,
         lent: Lent<'_>,
         flags: u32,
         depth: u32,
         tokens: bool,
-    ) -> Option<String> {
+    ) -> [Outcome; 3] {
         let text = reader::scalar(lent, flags, depth);
-        let expected = (
-            text.clone().and_then(|text| reader::boolean(&text)),
-            text.clone().and_then(|text| reader::integer(&text)),
-            text.clone(),
-        );
-        let room = text.as_ref().map_or(0, Vec::len);
-        let got = (|| -> Result<_, String> {
-            let boolean = calls::boolean(lent, flags, depth)?;
-            let integer = calls::integer(lent, flags, depth)?;
-            let string = self.caller.string(lent, flags, depth, room)?;
-            if room > 0 && self.caller.string(lent, flags, depth, room - 1)? != Err(10) {
-                return Err("no 10 in room that is too short".to_string());
-            }
-            Ok((boolean, integer, string))
-        })();
-        match got {
-            Err(problem) => return Some(problem),
-            Ok(got) if got != expected => {
-                return Some(format!("is {got:?}, the model says {expected:?}"))
-            }
-            Ok(_) => {}
-        }
-        if !tokens || text == Err(1) {
-            return None;
-        }
-        self.of_rust += 1;
-        let ours = [
-            ("bool", expected.0.map(|value| value.to_string())),
-            ("int", expected.1.map(|value| value.to_string())),
-            ("string", expected.2.map(|text| hex(&text))),
-        ];
-        ours.into_iter().find_map(|(word, value)| {
+        let asked = |word| {
             let question = format!("{word} {} {} {depth} 128", hex(lent.body), flags & 7);
-            differs(&value, &oracle::answer(&question), word)
-        })
+            (tokens && text != Err(1)).then_some(question)
+        };
+        let text = &text;
+        let read = |read: fn(&[u8]) -> _| text.as_deref().map_err(|number| *number).and_then(read);
+        let value = |read: fn(&[u8]) -> _| text.as_deref().map_err(|number| *number).and_then(read);
+        let outcomes = [
+            one(
+                calls::boolean(lent, flags, depth),
+                read(reader::boolean),
+                asked("bool"),
+                bool::to_string,
+            ),
+            one(
+                calls::integer(lent, flags, depth),
+                value(reader::integer),
+                asked("int"),
+                i32::to_string,
+            ),
+            one(
+                in_two_rooms(text, |room| self.caller.string(lent, flags, depth, room)),
+                text.clone(),
+                asked("string"),
+                |text| hex(text),
+            ),
+        ];
+        let strict = is_strict(flags, depth);
+        outcomes.map(|outcome| outcome.map(|compared| Compared { strict, ..compared }))
     }
 
     /// The same of a text.
-    pub fn text_scalars(&mut self, text: &[u8]) -> Option<String> {
-        let expected = (
-            reader::boolean(text),
-            reader::integer(text),
-            Ok(text.to_vec()),
-        );
-        let got = (|| -> Result<_, String> {
-            if !text.is_empty() && self.caller.text_string(text, text.len() - 1)? != Err(10) {
-                return Err("no 10 in room that is too short".to_string());
-            }
-            let string = self.caller.text_string(text, text.len() + 3)?;
-            Ok((
-                calls::text_boolean(text)?,
-                calls::text_integer(text)?,
-                string,
-            ))
-        })();
-        match got {
-            Err(problem) => return Some(problem),
-            Ok(got) if got != expected => {
-                return Some(format!("is {got:?}, the model says {expected:?}"))
-            }
-            Ok(_) => {}
-        }
-        if std::str::from_utf8(text).is_err() {
-            return None;
-        }
-        self.of_rust += 1;
-        let ours = [
-            ("textbool", expected.0.map(|value| value.to_string())),
-            ("textint", expected.1.map(|value| value.to_string())),
-        ];
-        ours.into_iter().find_map(|(word, value)| {
-            differs(
-                &value,
-                &oracle::answer(&format!("{word} {}", hex(text))),
-                word,
-            )
-        })
-    }
-
-    /// Find, beside both.
-    pub fn find(&mut self, lent: Lent<'_>, name: &[u8], tokens: bool) -> Option<String> {
-        let expected = reader::find(lent, name);
-        match calls::find(lent, name) {
-            Err(problem) => return Some(problem),
-            Ok(got) if got != expected => {
-                return Some(format!("is {got:?}, the model says {expected:?}"))
-            }
-            Ok(_) => {}
-        }
-        if !tokens || expected == Err(1) || std::str::from_utf8(name).is_err() {
-            return None;
-        }
-        self.of_rust += 1;
-        let ours = expected.map(|(start, length)| format!("{start} {length}"));
-        let question = format!("find {} {}", hex(lent.body), hex(name));
-        differs(&ours, &oracle::answer(&question), "find")
-    }
-
-    /// The whole text, beside the model: the Rust has none.
-    pub fn whole_text(&mut self, lent: Lent<'_>) -> Option<String> {
-        let expected = reader::whole_text(lent);
-        let room = expected.as_ref().map_or(0, Vec::len);
-        let got = match self.caller.whole_text(lent, room) {
-            Ok(got) => got,
-            Err(problem) => return Some(problem),
+    pub fn text_scalars(&mut self, text: &[u8]) -> [Outcome; 3] {
+        let asked = |word| {
+            let question = format!("{word} {}", hex(text));
+            std::str::from_utf8(text).is_ok().then_some(question)
         };
-        if got != expected {
-            return Some(format!("is {got:?}, the model says {expected:?}"));
-        }
-        let short = room > 0 && self.caller.whole_text(lent, room - 1) != Ok(Err(10));
-        short.then(|| "no 10 in room that is too short".to_string())
+        let whole = Ok(text.to_vec());
+        [
+            one(
+                calls::text_boolean(text),
+                reader::boolean(text),
+                asked("textbool"),
+                bool::to_string,
+            ),
+            one(
+                calls::text_integer(text),
+                reader::integer(text),
+                asked("textint"),
+                i32::to_string,
+            ),
+            one(
+                in_two_rooms(&whole, |room| self.caller.text_string(text, room)),
+                whole.clone(),
+                asked("textstring"),
+                |text| hex(text),
+            ),
+        ]
+    }
+
+    pub fn find(&mut self, lent: Lent<'_>, name: &[u8], tokens: bool) -> Outcome {
+        let expected = reader::find(lent, name);
+        let asked = tokens && expected != Err(1) && std::str::from_utf8(name).is_ok();
+        one(
+            calls::find(lent, name),
+            expected,
+            asked.then(|| format!("find {} {}", hex(lent.body), hex(name))),
+            |(start, length)| format!("{start} {length}"),
+        )
+    }
+
+    /// The whole text: the Rust has none.
+    pub fn whole_text(&mut self, lent: Lent<'_>) -> Outcome {
+        let expected = reader::whole_text(lent);
+        let got = in_two_rooms(&expected, |room| self.caller.whole_text(lent, room));
+        one(got, expected, None, |text| hex(text))
     }
 }
 
-fn differs(ours: &Result<String, u32>, rust: &str, word: &str) -> Option<String> {
-    let ours = match ours {
-        Ok(value) => format!("ok {value}"),
-        Err(number) => format!("refuse {number}"),
+/// The answer in room for what is expected; in one byte less it has to be 10.
+fn in_two_rooms(
+    expected: &Result<Vec<u8>, u32>,
+    mut call: impl FnMut(usize) -> Answer<Vec<u8>>,
+) -> Answer<Vec<u8>> {
+    let room = expected.as_ref().map_or(0, Vec::len);
+    if room > 0 && call(room - 1)? != Err(10) {
+        return Err("no 10 in room that is too short".to_string());
+    }
+    call(room)
+}
+
+/// A call that gives one value, beside the model's, and beside the Rust's answer to
+/// `question`, in which a value is `written`.
+fn one<T: PartialEq + Debug>(
+    got: Answer<T>,
+    expected: Result<T, u32>,
+    question: Option<String>,
+    written: impl FnOnce(&T) -> String,
+) -> Outcome {
+    let got = got?;
+    if got != expected {
+        return Err(format!("is {got:?}, the model says {expected:?}"));
+    }
+    let (number, ours) = match &got {
+        Ok(value) => (0, format!("ok {}", written(value))),
+        Err(number) => (*number, format!("refuse {number}")),
     };
-    (ours != rust).then(|| format!("{word} is {ours}, the Rust {rust}"))
+    if let Some(question) = &question {
+        let rust = oracle::answer(question);
+        if ours != rust {
+            return Err(format!("is {ours}, the Rust {rust}"));
+        }
+    }
+    Ok(Compared {
+        number,
+        rust: question.is_some(),
+        ..Compared::default()
+    })
+}
+
+fn beside_rust(
+    kind: Kind,
+    body: &[u8],
+    asked: Asked<'_>,
+    told: &Told,
+    compared: Compared,
+) -> Outcome {
+    let rust = oracle::answer(&format!(
+        "{} {} {} {} {} {}",
+        kind.word(),
+        hex(body),
+        hex(asked.sheet),
+        asked.flags & 7,
+        asked.depth,
+        asked.max_depth
+    ));
+    if rust == "bad name" {
+        // a name that is not UTF-8, which the Rust cannot hold
+        return Ok(compared);
+    }
+    let compared = Compared {
+        rust: true,
+        ..compared
+    };
+    // a refused string list shows none of its entries in the Rust
+    let ours = if kind == Kind::Strings && told.number != 0 {
+        format!("refuse {}", told.number)
+    } else {
+        line(told)
+    };
+    if ours == rust {
+        return Ok(compared);
+    }
+    if kind == Kind::Struct && !compared.strict && is_longer_root(asked.sheet, &ours, &rust) {
+        return Ok(Compared {
+            longer_root: true,
+            ..compared
+        });
+    }
+    Err(format!("is {ours}, the Rust {rust}"))
 }
 
 /// An answer as the oracle writes it.
@@ -319,5 +316,6 @@ fn is_longer_root(sheet: &[u8], ours: &str, rust: &str) -> bool {
     let (Some(ours), Some(rust)) = (length(ours), length(rust)) else {
         return false;
     };
-    Structure::of(sheet).is_some_and(|sheet| sheet.unwrapped) && ours.0 == rust.0 && ours.1 < rust.1
+    let alike = ours.0 == rust.0 && ours.0.starts_with("ok 2,");
+    Structure::of(sheet).is_some_and(|sheet| sheet.unwrapped) && alike && ours.1 < rust.1
 }

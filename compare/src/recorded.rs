@@ -7,7 +7,7 @@ use crate::lent::Made;
 use crate::random::Random;
 use crate::reader::Kind;
 use crate::shaped;
-use crate::sheets::{maybe_broken, names_in, List, Map, Structure};
+use crate::sheets::{self, maybe_broken, names_in, Structure};
 use oracle::hex::{bytes, hex};
 use std::collections::HashSet;
 
@@ -92,7 +92,7 @@ impl Readings {
             random: Random::new(3),
             longest,
         };
-        for kind in [Kind::Struct, Kind::List, Kind::Map, Kind::Strings] {
+        for kind in Kind::ALL {
             readings.fill(READINGS, |readings| readings.reading(kind));
         }
         for (letter, word) in [("b", "bool"), ("i", "int"), ("w", "string")] {
@@ -138,17 +138,18 @@ impl Readings {
         let names: Vec<Vec<u8>> = names.collect();
         let names: Vec<&[u8]> = names.iter().map(Vec::as_slice).collect();
         let random = &mut self.random;
-        let (letter, word, sheet) = match kind {
-            Kind::Struct => ("s", "struct", Structure::random(random, &names).bytes()),
-            Kind::List => ("l", "list", List::random(random, &names).bytes()),
-            Kind::Map => ("m", "map", Map::random(random, &names).bytes()),
-            Kind::Strings => ("t", "strings", List::random(random, &names).bytes()),
+        let letter = match kind {
+            Kind::Struct => "s",
+            Kind::List => "l",
+            Kind::Map => "m",
+            Kind::Strings => "t",
         };
-        let sheet = maybe_broken(sheet, random);
+        let sheet = maybe_broken(sheets::random(kind, random, &names), random);
         let (flags, depth) = (random.below(8), [0, 0, 0, 1, 127, 128][random.below(6)]);
         let maximum = [128, 128, 128, 1][random.below(4)];
         let question = format!(
-            "{word} {} {} {flags} {depth} {maximum}",
+            "{} {} {} {flags} {depth} {maximum}",
+            kind.word(),
             hex(&body),
             hex(&sheet)
         );

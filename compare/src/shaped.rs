@@ -73,19 +73,59 @@ impl Writer<'_> {
                 let name = writer
                     .random
                     .pick(&["key", "value", "k", "v", "p:key", "x"]);
-                writer.element(name, |writer| {
-                    if writer.random.chance(15) {
-                        writer.member(1);
-                    } else {
-                        writer.one_of(&TEXTS);
-                    }
-                });
+                writer.field(name, 15);
             }
+        });
+    }
+
+    /// A key or a value, in `percent` of a hundred with elements inside.
+    fn field(&mut self, name: &str, percent: usize) {
+        self.element(name, |writer| {
+            if writer.random.chance(percent) {
+                writer.member(1);
+            } else {
+                writer.one_of(&TEXTS);
+            }
+        });
+    }
+
+    /// A map entry with a key and a value, most of the time.
+    fn pair(&mut self, key: &str, value: &str) {
+        let name = self.random.pick(&["entry", "entry", "entry", "n"]);
+        let fields: &[&str] = match self.random.below(20) {
+            0..=12 => &[key, value],
+            13..=14 => &[value, key],
+            15 => &[key],
+            16 => &[value],
+            17 => &[key, value, key],
+            18 => &[value, "x", key, value],
+            _ => &["x", key, value],
+        };
+        self.element(name, |writer| {
+            fields.iter().for_each(|name| writer.field(name, 2));
         });
     }
 }
 
 pub fn random(kind: Kind, random: &mut Random) -> Vec<u8> {
+    rooted(random, |writer| {
+        if kind == Kind::Map && writer.random.chance(85) {
+            writer.entry();
+        } else {
+            writer.member(2);
+        }
+    })
+}
+
+/// A map whose entries have the same two fields, most of them.
+pub fn pairs(random: &mut Random) -> Vec<u8> {
+    let names = [("key", "value"), ("k", "v"), ("a", "b"), ("p:key", "value")];
+    let (key, value) = names[random.below(names.len())];
+    rooted(random, |writer| writer.pair(key, value))
+}
+
+/// A root with some children, and at times one fault.
+fn rooted(random: &mut Random, child: impl Fn(&mut Writer<'_>)) -> Vec<u8> {
     let mut writer = Writer {
         text: String::new(),
         random,
@@ -93,11 +133,7 @@ pub fn random(kind: Kind, random: &mut Random) -> Vec<u8> {
     let root = writer.random.pick(&["r", "r", "r", "p:r", "n"]);
     writer.element(root, |writer| {
         for _ in 0..[0, 1, 2, 3, 4, 6, 10][writer.random.below(7)] {
-            if kind == Kind::Map && writer.random.chance(85) {
-                writer.entry();
-            } else {
-                writer.member(2);
-            }
+            child(writer);
             if writer.random.chance(20) {
                 writer.one_of(&["\n ", "<!--c-->", "t"]);
             }

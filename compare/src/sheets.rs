@@ -2,6 +2,7 @@
 //! with names that stand in a body and names that do not.
 
 use crate::random::Random;
+use oracle::Kind;
 
 /// A member of a structure.
 #[derive(Clone, Debug, Default)]
@@ -297,6 +298,15 @@ impl Map {
             value,
             aggregate: has_value && random.chance(40),
         }
+    }
+}
+
+/// The bytes of a sheet for a reading, with names out of `names` and with others.
+pub fn random(kind: Kind, random: &mut Random, names: &[&[u8]]) -> Vec<u8> {
+    match kind {
+        Kind::Struct => Structure::random(random, names).bytes(),
+        Kind::Map => Map::random(random, names).bytes(),
+        Kind::List | Kind::Strings => List::random(random, names).bytes(),
     }
 }
 

@@ -8,7 +8,7 @@ pub struct Tally {
     pub name: String,
     /// What is asked about, in the plural.
     things: &'static str,
-    asked: u64,
+    pub asked: u64,
     differing: u64,
 }
 

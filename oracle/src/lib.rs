@@ -12,8 +12,8 @@
 // `XmlDeserializer` have to be seen from outside: the depth (to start a call at
 // a given depth) and what a consumer was handed (input or text). The files call
 // `debug_assert!` twice, and a macro is expanded where it is called. So the
-// crate has a `debug_assert!` of its own: it always asserts, and at the one call
-// in `leave_aggregate` it also declares four methods. Nothing else changes.
+// crate has a `debug_assert!` of its own: it asserts where std's does, and at the
+// one call in `leave_aggregate` it also declares four methods. Nothing else changes.
 macro_rules! debug_assert {
     ($condition:expr, "leave_aggregate without enter_aggregate") => {
         impl<'a> XmlDeserializer<'a> {
@@ -35,9 +35,9 @@ macro_rules! debug_assert {
                 (self.input, text)
             }
         }
-        ::core::assert!($condition, "leave_aggregate without enter_aggregate")
+        ::core::debug_assert!($condition, "leave_aggregate without enter_aggregate")
     };
-    ($($all:tt)*) => { ::core::assert!($($all)*) };
+    ($($all:tt)*) => { ::core::debug_assert!($($all)*) };
 }
 
 mod codec;
@@ -46,11 +46,15 @@ pub mod hex;
 mod numbers;
 mod questions;
 mod readings;
+mod shape;
 mod sheet;
 pub mod table;
+pub mod timed;
 mod unescape;
 
 pub use questions::answer;
+pub use readings::find;
+pub use shape::Kind;
 
 use std::borrow::Cow;
 

@@ -1,10 +1,11 @@
 //! The questions of README.md, one line each, and their answers.
 
-use crate::codec::{find_depth2_element_slice_by, XmlDeserializer};
+use crate::codec::XmlDeserializer;
 use crate::hex::{bytes, hex, utf8};
-use crate::readings::{codec, entry, place, reading};
+use crate::readings::{codec, entry, find, reading};
+use crate::shape::{self, with_schema, Handed, Kind};
 use crate::table::{drain, table, Table};
-use crate::{sheet, unescape, validate_references};
+use crate::{unescape, validate_references};
 use aws_smithy_schema::serde::{SerdeError, ShapeDeserializer};
 use aws_smithy_schema::Schema;
 
@@ -29,17 +30,14 @@ fn asked(fields: &[&str]) -> Result<String, String> {
             Ok(()) => "ok".to_string(),
             Err((row, cause)) => format!("refuse 9 {row} {cause}"),
         }),
-        ["find", body, name] => find(&bytes(body)?, &utf8(name)?),
-        [kind @ ("struct" | "list" | "map" | "strings"), body, sheet, flags, depth, maximum] => {
+        ["find", body, name] => Ok(match find(&bytes(body)?, &utf8(name)?) {
+            Some((start, length)) => format!("ok {start} {length}"),
+            None => "refuse 13".to_string(),
+        }),
+        [word, body, sheet, flags, depth, maximum] => {
+            let kind = Kind::of(word).ok_or("question")?;
             let call = Call::new(body, flags, depth, maximum)?;
-            let sheet = bytes(sheet)?;
-            let read = match *kind {
-                "struct" => structure(&call, &sheet)?,
-                "list" => list(&call, &sheet)?,
-                "map" => map(&call, &sheet)?,
-                _ => strings(&call, &sheet)?,
-            };
-            Ok(read.unwrap_or_else(|| "refuse 2".to_string()))
+            by_sheet(kind, &call, &bytes(sheet)?)
         }
         [kind @ ("bool" | "int" | "string" | "double"), body, flags, depth, maximum] => {
             let call = Call::new(body, flags, depth, maximum)?;
@@ -61,18 +59,6 @@ fn written(table: &Table) -> String {
         format!(" {}", numbers.join(","))
     });
     format!("ok {}{}", table.end, rows.collect::<String>())
-}
-
-fn find(body: &[u8], name: &str) -> Result<String, String> {
-    Ok(
-        match find_depth2_element_slice_by(body, |local| local == name) {
-            Some(part) => {
-                let (start, length) = place(body, part).expect("a part of the body");
-                format!("ok {start} {length}")
-            }
-            None => "refuse 13".to_string(),
-        },
-    )
 }
 
 /// What each reading is given beside its sheet.
@@ -111,66 +97,19 @@ impl<'q> Call<'q> {
     }
 }
 
-/// The four readings with a sheet answer `None` where the sheet is broken.
-fn structure(call: &Call<'_>, sheet: &[u8]) -> Result<Option<String>, String> {
-    let Some(sheet) = sheet::structure(sheet)? else {
-        return Ok(None);
-    };
-    let read = sheet.with_schema(|schema| {
+/// One of the four readings with a sheet.
+fn by_sheet(kind: Kind, call: &Call<'_>, sheet: &[u8]) -> Result<String, String> {
+    let read = with_schema(kind, sheet, |schema| {
         call.read(|reader, entries| {
-            reader.read_struct(schema, &mut |member, handed| {
-                let index = member.member_index().expect("an index");
-                entries.push(call.entry(index, "", handed));
-                Ok(())
+            shape::read(kind, schema, reader, |index, key, handed| {
+                entries.push(match handed {
+                    Handed::Reader(reader) => call.entry(index, key, reader),
+                    Handed::Text(text) => format!("1,0,-,{}", hex(text.as_bytes())),
+                })
             })
         })
     });
-    read.map(Some)
-}
-
-fn list(call: &Call<'_>, sheet: &[u8]) -> Result<Option<String>, String> {
-    let Some(sheet) = sheet::list(sheet)? else {
-        return Ok(None);
-    };
-    let read = sheet.with_schema(|schema| {
-        call.read(|reader, entries| {
-            reader.read_list(schema, &mut |handed| {
-                entries.push(call.entry(0, "", handed));
-                Ok(())
-            })
-        })
-    });
-    read.map(Some)
-}
-
-fn map(call: &Call<'_>, sheet: &[u8]) -> Result<Option<String>, String> {
-    let Some(sheet) = sheet::map(sheet)? else {
-        return Ok(None);
-    };
-    let read = sheet.with_schema(|schema| {
-        call.read(|reader, entries| {
-            reader.read_map(schema, &mut |key, handed| {
-                entries.push(call.entry(0, &key, handed));
-                Ok(())
-            })
-        })
-    });
-    read.map(Some)
-}
-
-fn strings(call: &Call<'_>, sheet: &[u8]) -> Result<Option<String>, String> {
-    let Some(sheet) = sheet::list(sheet)? else {
-        return Ok(None);
-    };
-    let read = sheet.with_schema(|schema| {
-        call.read(|reader, entries| {
-            for text in reader.read_string_list(schema)? {
-                entries.push(format!("1,0,-,{}", hex(text.as_bytes())));
-            }
-            Ok(())
-        })
-    });
-    read.map(Some)
+    read?.unwrap_or_else(|| Ok("refuse 2".to_string()))
 }
 
 /// A text taken from an entry, read as a scalar.

@@ -1,6 +1,8 @@
 //! One reading by the Rust's deserializer, and what it handed out.
 
-use crate::codec::{XmlCodec, XmlCodecSettings, XmlDeserializer};
+use crate::codec::{
+    find_depth2_element_slice_by, XmlCodec, XmlCodecSettings, XmlDeserializer,
+};
 use crate::hex::hex;
 use crate::numbers;
 use aws_smithy_schema::serde::{SerdeError, ShapeDeserializer};
@@ -90,4 +92,10 @@ pub fn place(body: &[u8], part: &[u8]) -> Option<(usize, usize)> {
     let (body_at, part_at) = (body.as_ptr() as usize, part.as_ptr() as usize);
     let inside = part_at >= body_at && part_at + part.len() <= body_at + body.len();
     inside.then(|| (part_at - body_at, part.len()))
+}
+
+/// Start and length of the root or its first child of that local name.
+pub fn find(body: &[u8], name: &str) -> Option<(usize, usize)> {
+    let part = find_depth2_element_slice_by(body, |local| local == name)?;
+    Some(place(body, part).expect("a part of the body"))
 }

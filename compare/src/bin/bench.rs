@@ -7,13 +7,12 @@
 //! cleared between calls.
 
 use compare::random::Random;
-use compare::texts;
 use compare::timing::{medians, TURNS};
+use compare::uploads::{numeric, NAMED};
 use std::hint::black_box;
 
 const SIZE: usize = 64 * 1024;
 
-const NAMES: [&str; 5] = ["&lt;", "&gt;", "&amp;", "&quot;", "&apos;"];
 const LETTERS: [&str; 8] = ["é", "µ", "ß", "€", "木", "輪", "🌲", "🪵"];
 const WORDS: [&str; 6] = ["ring ", "width ", "of ", "the ", "core ", "sapwood "];
 
@@ -36,13 +35,7 @@ fn hundred(random: &mut Random, from: &[&str]) -> String {
     while part.len() < 95 {
         part += random.pick(from);
     }
-    part + random.pick(&NAMES)
-}
-
-fn numeric(random: &mut Random) -> String {
-    let highest = [0x7E, 0x7FF, 0xD7FF][random.below(3)];
-    let code = random.between(0x20, highest);
-    texts::coded(code, random.below(3), "")
+    part + random.pick(&NAMED)
 }
 
 fn reference_texts() -> [(&'static str, String); 5] {
@@ -54,7 +47,7 @@ fn reference_texts() -> [(&'static str, String); 5] {
         ),
         (
             "all references, named",
-            text(|random| random.pick(&NAMES).to_string()),
+            text(|random| random.pick(&NAMED).to_string()),
         ),
         ("all references, numeric", text(numeric)),
         (

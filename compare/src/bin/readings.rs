@@ -4,48 +4,53 @@
 //!
 //!     readings [--full] [--seed S]
 //!
-//! Tables of bodies beside the Rust and the model; then less room, tables that no
-//! tokenizer made and the whole text beside the model. The last line is `N passed, M
-//! failed`, counted in groups; the status is 1 where one failed.
+//! Tables of bodies beside the Rust and the model: random and damaged bodies, bodies
+//! cut at every byte, and every row of some snippets. Then less room, tables that no
+//! tokenizer made and the whole text beside the model. At the end stand the counts of
+//! each operation; one that is too low is a group that failed. The last line is `N
+//! passed, M failed`, counted in groups; the status is 1 where one failed.
 
 use compare::bodies;
+use compare::counts::{Counts, Floor, Operation, Source, SCALARS};
+use compare::derived;
 use compare::drains::shown;
 use compare::lent::{self, Made};
 use compare::random::Random;
 use compare::reader::{Asked, Kind};
-use compare::readings::Asker;
+use compare::readings::{Asker, Outcome};
 use compare::shaped;
-use compare::sheets::{maybe_broken, names_in, List, Map, Structure};
+use compare::sheets::{self, maybe_broken, names_in};
 use compare::tally::{finish, Tally};
 use compare::texts;
 use oracle::hex::hex;
 
-const KINDS: [Kind; 4] = [Kind::Struct, Kind::List, Kind::Map, Kind::Strings];
-
-/// How much of each group is asked.
+/// How much is asked.
 struct Size {
-    bodies: u64,
-    scalars: u64,
-    rooms: u64,
-    lent: u64,
+    floor: Floor,
+    /// Snippets in a row.
     snippets: usize,
+    /// Bodies that are cut at every byte.
     cut: usize,
 }
 
 const SHORTER: Size = Size {
-    bodies: 100_000,
-    scalars: 50_000,
-    rooms: 30_000,
-    lent: 50_000,
+    floor: Floor {
+        bodies: 100_000,
+        scalars: 50_000,
+        rooms: 30_000,
+        lent: 50_000,
+    },
     snippets: 3,
     cut: 100,
 };
 
 const FULL: Size = Size {
-    bodies: 1_000_000,
-    scalars: 300_000,
-    rooms: 300_000,
-    lent: 500_000,
+    floor: Floor {
+        bodies: 1_000_000,
+        scalars: 300_000,
+        rooms: 300_000,
+        lent: 500_000,
+    },
     snippets: 4,
     cut: 2_000,
 };
@@ -70,12 +75,19 @@ const SNIPPETS: [&str; 16] = [
     "<",
 ];
 
-/// The longest body whose table is changed.
+/// The longest body whose table is changed, and the most bytes that a scalar's body is
+/// cut to.
 const LONG: usize = 400;
+
+/// Questions for each that the Rust is to be asked. (A body is some; of the readings by
+/// a sheet about every second can be put to the Rust, which has no names but UTF-8.)
+const MOST: u64 = 20;
 
 /// The rest of a question, drawn for a table.
 struct Question {
     sheet: Vec<u8>,
+    /// Whether the sheet was made with the body's names.
+    derived: bool,
     flags: u32,
     max_depth: u32,
     depth: u32,
@@ -83,36 +95,31 @@ struct Question {
 
 impl Question {
     fn random(kind: Kind, made: &Made, random: &mut Random) -> Self {
-        let names = names_in(&made.body, &made.numbers);
-        let sheet = match kind {
-            Kind::Struct => Structure::random(random, &names).bytes(),
-            Kind::Map => Map::random(random, &names).bytes(),
-            Kind::List | Kind::Strings => List::random(random, &names).bytes(),
-        };
+        let (sheet, derived) = a_sheet(kind, made, random);
         // other bits are passed over
         let flags = random.below(8) as u32 | [0, 0, 0, 0xFFFF_FFF8][random.below(4)];
+        let depths = [0, 0, 0, 0, 0, 0, 0, 0, 1, 1, 1, 1, 127, 127, 128, u32::MAX];
         Question {
             sheet: maybe_broken(sheet, random),
+            derived,
             flags,
-            max_depth: [
-                128,
-                128,
-                128,
-                128,
-                128,
-                128,
-                128,
-                128,
-                128,
-                128,
-                128,
-                128,
-                128,
-                1,
-                0,
-                u32::MAX,
-            ][random.below(16)],
-            depth: [0, 0, 0, 0, 0, 0, 0, 0, 1, 1, 1, 1, 127, 127, 128, u32::MAX][random.below(16)],
+            max_depth: match random.below(16) {
+                13 => 1,
+                14 => 0,
+                15 => u32::MAX,
+                _ => 128,
+            },
+            depth: depths[random.below(16)],
+        }
+    }
+
+    /// The same, not refused for its depth.
+    fn entered(kind: Kind, made: &Made, random: &mut Random) -> Self {
+        let question = Question::random(kind, made, random);
+        Question {
+            max_depth: 128,
+            depth: question.depth % 2,
+            ..question
         }
     }
 
@@ -131,6 +138,7 @@ impl Question {
             flags,
             max_depth,
             depth,
+            ..
         } = self;
         format!(
             "sheet {} flags {flags} maximum {max_depth} depth {depth} {}",
@@ -143,58 +151,224 @@ impl Question {
 struct Group {
     tally: Tally,
     asker: Asker,
+    source: Source,
+    counts: Counts,
 }
 
 impl Group {
-    fn new(name: impl Into<String>, things: &'static str) -> Self {
+    fn new(name: impl Into<String>, source: Source) -> Self {
         Group {
-            tally: Tally::new(name, things),
+            tally: Tally::new(name, "questions"),
             asker: Asker::default(),
+            source,
+            counts: Counts::default(),
         }
     }
 
-    fn reading(&mut self, kind: Kind, made: &Made, question: &Question, tokens: bool) {
-        let problem = self
-            .asker
-            .reading(kind, made.lent(), question.asked(), tokens);
-        self.tally.count(problem, || question.shown(made));
+    fn count(
+        &mut self,
+        operation: Operation,
+        outcome: Outcome,
+        derived: bool,
+        shown: impl FnOnce() -> String,
+    ) {
+        if let Ok(compared) = outcome {
+            self.counts.add(operation, self.source, compared, derived);
+        }
+        let problem = outcome.err();
+        self.tally.count(
+            problem.map(|problem| format!("{operation:?} {problem}")),
+            shown,
+        );
     }
 
-    fn end(self) -> bool {
-        self.tally.end(&self.asker.counts())
+    fn reading(&mut self, kind: Kind, made: &Made, question: &Question, tokens: bool) {
+        let outcome = self
+            .asker
+            .reading(kind, made.lent(), question.asked(), tokens);
+        self.count(kind.into(), outcome, question.derived, || {
+            question.shown(made)
+        });
     }
+
+    /// Scalars, find and the whole text.
+    fn others(&mut self, made: &Made, question: &Question, random: &mut Random, tokens: bool) {
+        let lent = made.lent();
+        let scalars = self
+            .asker
+            .scalars(lent, question.flags, question.depth, tokens);
+        for (operation, outcome) in SCALARS.into_iter().zip(scalars) {
+            self.count(operation, outcome, false, || question.shown(made));
+        }
+        let names = names_in(&made.body, &made.numbers);
+        let name = if names.is_empty() || random.chance(20) {
+            b"a".as_slice()
+        } else {
+            random.pick(&names)
+        };
+        let outcome = self.asker.find(lent, name, tokens);
+        self.count(Operation::Find, outcome, false, || {
+            format!("name {} {}", hex(name), shown(lent))
+        });
+        let outcome = self.asker.whole_text(lent);
+        self.count(Operation::WholeText, outcome, false, || shown(lent));
+    }
+
+    /// Every operation once.
+    fn all(&mut self, body: &[u8], random: &mut Random) {
+        let made = Made::of(body);
+        for kind in Kind::ALL {
+            let question = Question::entered(kind, &made, random);
+            self.reading(kind, &made, &question, true);
+        }
+        let question = Question::random(Kind::List, &made, random);
+        self.others(&made, &question, random, true);
+    }
+
+    /// Whether the Rust was asked less than `count` times for one of the operations. One
+    /// that always differs ends too.
+    fn is_short(&self, operations: &[Operation], count: u64) -> bool {
+        let asked = |operation: &Operation| self.counts.of(*operation).beside_rust();
+        self.tally.asked < MOST * count && operations.iter().any(|one| asked(one) < count)
+    }
+
+    fn end(self, ended: &mut Ended) {
+        let alike = self.tally.end(&self.counts.remark());
+        ended.groups.push(alike);
+        ended.counts.merge(&self.counts);
+    }
+}
+
+/// The groups that have ended: whether all was alike in each, and what they counted.
+#[derive(Default)]
+struct Ended {
+    groups: Vec<bool>,
+    counts: Counts,
+}
+
+impl Ended {
+    /// Says what was compared, as a group of its own.
+    fn sizes(&mut self, floor: &Floor) {
+        self.counts.show();
+        let missed = floor.missed(&self.counts);
+        for missed in &missed {
+            println!("TOO FEW: {missed}");
+        }
+        self.groups.push(missed.is_empty());
+    }
+}
+
+/// A sheet and whether it was made with the body's names: one that fits the body, one
+/// with names from all over it, or one without regard to it.
+fn a_sheet(kind: Kind, made: &Made, random: &mut Random) -> (Vec<u8>, bool) {
+    let way = random.below(10);
+    if way < 5 {
+        if let Some(sheet) = derived::sheet(kind, &made.body, &made.numbers, random) {
+            return (sheet, true);
+        }
+    }
+    let names = match way {
+        0..=7 => names_in(&made.body, &made.numbers),
+        _ => Vec::new(),
+    };
+    (sheets::random(kind, random, &names), !names.is_empty())
 }
 
 /// One that looks like what is read, or any.
 fn a_body(kind: Kind, random: &mut Random) -> Vec<u8> {
-    if random.chance(60) {
-        shaped::random(kind, random)
-    } else {
-        bodies::random(random)
+    match random.below(100) {
+        0..=49 if kind == Kind::Map => shaped::pairs(random),
+        0..=64 => shaped::random(kind, random),
+        _ => bodies::random(random),
     }
 }
 
-fn random_bodies(kind: Kind, count: u64, seed: u64) -> bool {
-    let mut group = Group::new(format!("{kind:?}: random and damaged bodies"), "questions");
-    let mut random = Random::new(seed ^ kind as u64);
-    for _ in 0..count {
-        let made = Made::of(&a_body(kind, &mut random));
-        let question = Question::random(kind, &made, &mut random);
-        group.reading(kind, &made, &question, true);
+/// A root around a scalar, or any.
+fn a_scalar_body(random: &mut Random) -> Vec<u8> {
+    if random.chance(50) {
+        return bodies::random(random);
     }
-    group.end()
+    let text = scalar_text(random);
+    let end = random.pick(&[
+        "</r>",
+        "</r>",
+        "</r>",
+        "</s>",
+        "",
+        "</r> ",
+        "<b/></r>",
+        "<!--c--></r>",
+    ]);
+    let start = random.pick(&[
+        "<r>",
+        "<r>",
+        "<p:r x='1'>",
+        "<r><!--c-->",
+        "<r><![CDATA[1]]>",
+    ]);
+    [start.as_bytes(), &text, end.as_bytes()].concat()
 }
 
-/// Each body with each kind of sheet: every row of up to `count` snippets in a root.
-fn every_body(count: usize, seed: u64) -> bool {
+/// Asks about bodies as they are drawn, then about bodies that are damaged once more,
+/// each time until the Rust was asked half of `count` times for each of `operations`.
+fn in_two_rounds(
+    name: &str,
+    operations: &[Operation],
+    count: u64,
+    seed: u64,
+    ended: &mut Ended,
+    draw: impl Fn(&mut Random) -> Vec<u8>,
+    ask: impl Fn(&mut Group, &Made, &mut Random),
+) {
+    for (source, what) in [(Source::Random, "random"), (Source::Damaged, "damaged")] {
+        let mut group = Group::new(format!("{name}: {what} bodies"), source);
+        let mut random = Random::new(seed ^ (source as u64) << 8);
+        while group.is_short(operations, count.div_ceil(2)) {
+            let mut body = draw(&mut random);
+            if source == Source::Damaged {
+                bodies::damage(&mut body, &mut random);
+            }
+            ask(&mut group, &Made::of(&body), &mut random);
+        }
+        group.end(ended);
+    }
+}
+
+fn random_bodies(kind: Kind, count: u64, seed: u64, ended: &mut Ended) {
+    in_two_rounds(
+        &format!("{kind:?}"),
+        &[kind.into()],
+        count,
+        seed ^ kind as u64,
+        ended,
+        |random| a_body(kind, random),
+        |group, made, random| {
+            let question = Question::random(kind, made, random);
+            group.reading(kind, made, &question, true);
+        },
+    );
+}
+
+fn scalars_and_find(count: u64, seed: u64, ended: &mut Ended) {
+    in_two_rounds(
+        "booleans, integers, strings, find and whole text",
+        &[Operation::Boolean, Operation::Find],
+        count,
+        seed ^ 0x5C,
+        ended,
+        a_scalar_body,
+        |group, made, random| {
+            let question = Question::random(Kind::List, made, random);
+            group.others(made, &question, random, true);
+        },
+    );
+}
+
+/// Every row of up to `count` snippets in a root.
+fn every_body(count: usize, seed: u64, ended: &mut Ended) {
     fn longer(group: &mut Group, body: &mut String, random: &mut Random, left: usize) {
         for end in ["</r>", ""] {
-            let made = Made::of(format!("{body}{end}").as_bytes());
-            for kind in KINDS {
-                let mut question = Question::random(kind, &made, random);
-                (question.max_depth, question.depth) = (128, question.depth % 2);
-                group.reading(kind, &made, &question, true);
-            }
+            group.all(format!("{body}{end}").as_bytes(), random);
         }
         for snippet in SNIPPETS.iter().filter(|_| left > 0) {
             body.push_str(snippet);
@@ -203,175 +377,147 @@ fn every_body(count: usize, seed: u64) -> bool {
         }
     }
     let name = format!("every root of up to {count} of {} snippets", SNIPPETS.len());
-    let mut group = Group::new(name, "questions");
+    let mut group = Group::new(name, Source::Snippets);
     longer(
         &mut group,
         &mut "<r x='7'>".to_string(),
         &mut Random::new(seed ^ 0x5A),
         count,
     );
-    group.end()
+    group.end(ended);
 }
 
-/// Bodies cut at every byte, read as each kind, strictly and not.
-fn every_cut(count: usize, seed: u64) -> bool {
-    let mut group = Group::new("bodies cut at every byte", "questions");
+/// Bodies cut at every byte, read by each operation, strictly and not.
+fn every_cut(count: usize, seed: u64, ended: &mut Ended) {
+    let mut group = Group::new("bodies cut at every byte", Source::Cut);
     let mut random = Random::new(seed ^ 0xC7);
-    let whole = std::iter::from_fn(|| Some(a_body(KINDS[random.below(4)], &mut random)))
-        .filter(|body| (40..200).contains(&body.len()))
-        .take(count);
-    for body in whole.collect::<Vec<_>>() {
+    for _ in 0..count {
+        let body = body_to_cut(&mut random);
         let whole = Made::of(&body);
-        for kind in KINDS {
-            let mut question = Question::random(kind, &whole, &mut random);
-            (question.max_depth, question.depth) = (128, 0);
+        for kind in Kind::ALL {
+            let mut question = Question::entered(kind, &whole, &mut random);
+            question.depth = 0;
             for end in 0..=body.len() {
                 question.flags = end as u32 % 8;
                 group.reading(kind, &Made::of(&body[..end]), &question, true);
             }
         }
+        let body = a_scalar_body(&mut random);
+        for end in 0..=body.len().min(LONG) {
+            let made = Made::of(&body[..end]);
+            let question = Question::entered(Kind::List, &made, &mut random);
+            group.others(&made, &question, &mut random, true);
+        }
     }
-    group.end()
+    group.end(ended);
 }
 
-fn less_room(kind: Kind, count: u64, seed: u64) -> bool {
-    let mut group = Group::new(format!("{kind:?}: less room"), "questions");
+/// One of some length, for any kind.
+fn body_to_cut(random: &mut Random) -> Vec<u8> {
+    loop {
+        let body = a_body(Kind::ALL[random.below(4)], random);
+        if (40..200).contains(&body.len()) {
+            return body;
+        }
+    }
+}
+
+fn less_room(kind: Kind, count: u64, seed: u64, ended: &mut Ended) {
+    let mut group = Group::new(format!("{kind:?}: less room"), Source::LessRoom);
     let mut random = Random::new(seed ^ 0x20 ^ kind as u64);
     for _ in 0..count {
         let made = Made::of(&a_body(kind, &mut random));
-        let mut question = Question::random(kind, &made, &mut random);
-        (question.max_depth, question.depth) = (128, question.depth % 2);
+        let question = Question::entered(kind, &made, &mut random);
         let share = random.below(1 << 20);
-        let problem = group
+        let outcome = group
             .asker
             .in_less_room(kind, made.lent(), question.asked(), share);
-        group.tally.count(problem, || question.shown(&made));
+        group.count(kind.into(), outcome, question.derived, || {
+            question.shown(&made)
+        });
     }
-    group.end()
+    group.end(ended);
 }
 
 /// Every operation on tables that no tokenizer made.
-fn lent_tables(count: u64, seed: u64) -> bool {
-    let mut group = Group::new("tables that no tokenizer made", "tables");
+fn lent_tables(count: u64, seed: u64, ended: &mut Ended) {
+    let mut group = Group::new("tables that no tokenizer made", Source::Lent);
     let mut random = Random::new(seed ^ 0x1E);
     for _ in 0..count {
-        let made = if random.chance(40) {
-            lent::grown(&mut random)
-        } else {
-            let body = a_body(KINDS[random.below(4)], &mut random);
-            if body.len() > LONG {
-                continue;
-            }
-            lent::changed(&Made::of(&body), &mut random)
-        };
-        let kind = KINDS[random.below(4)];
+        let made = a_lent_table(&mut random);
+        let kind = Kind::ALL[random.below(4)];
         let question = Question::random(kind, &made, &mut random);
         group.reading(kind, &made, &question, false);
-        other_operations(&mut group, &made, &question, &mut random, false);
+        group.others(&made, &question, &mut random, false);
     }
-    group.end()
+    group.end(ended);
 }
 
-fn other_operations(
-    group: &mut Group,
-    made: &Made,
-    question: &Question,
-    random: &mut Random,
-    tokens: bool,
-) {
-    let lent = made.lent();
-    let problem = group
-        .asker
-        .scalars(lent, question.flags, question.depth, tokens);
-    group.tally.count(problem, || question.shown(made));
-    let names = names_in(&made.body, &made.numbers);
-    let name = if names.is_empty() || random.chance(20) {
-        b"a".as_slice()
-    } else {
-        random.pick(&names)
-    };
-    let problem = group.asker.find(lent, name, tokens);
-    group
-        .tally
-        .count(problem, || format!("name {} {}", hex(name), shown(lent)));
-    let problem = group.asker.whole_text(lent);
-    group.tally.count(problem, || shown(lent));
-}
-
-/// Scalars, find and whole text of bodies: random ones, and a root around a scalar.
-fn scalars_and_find(count: u64, seed: u64) -> bool {
-    let mut group = Group::new(
-        "booleans, integers, strings, find and whole text",
-        "questions",
-    );
-    let mut random = Random::new(seed ^ 0x5C);
-    for at in 0..count {
-        let body = if at % 2 == 0 {
-            bodies::random(&mut random)
-        } else {
-            let text = scalar_text(&mut random);
-            let end = random.pick(&[
-                "</r>",
-                "</r>",
-                "</r>",
-                "</s>",
-                "",
-                "</r> ",
-                "<b/></r>",
-                "<!--c--></r>",
-            ]);
-            let start = random.pick(&[
-                "<r>",
-                "<r>",
-                "<p:r x='1'>",
-                "<r><!--c-->",
-                "<r><![CDATA[1]]>",
-            ]);
-            [start.as_bytes(), &text, end.as_bytes()].concat()
-        };
-        let made = Made::of(&body);
-        let question = Question::random(Kind::List, &made, &mut random);
-        other_operations(&mut group, &made, &question, &mut random, true);
+/// One grown over bytes that are no document, or a body's with changes.
+fn a_lent_table(random: &mut Random) -> Made {
+    if random.chance(40) {
+        return lent::grown(random);
     }
-    group.end()
+    loop {
+        let body = a_body(Kind::ALL[random.below(4)], random);
+        if body.len() <= LONG {
+            return lent::changed(&Made::of(&body), random);
+        }
+    }
 }
 
 /// Texts that are numbers or booleans, or nearly so.
 fn scalar_text(random: &mut Random) -> Vec<u8> {
-    if random.chance(15) {
-        return texts::random(random);
+    match random.below(20) {
+        0..=2 => texts::random(random),
+        3..=9 => random.pick(&BOOLEANS).as_bytes().to_vec(),
+        _ => number_text(random).into_bytes(),
     }
-    let sign = random.pick(&["", "", "-", "+", "--", " ", "&#45;"]);
-    let bounds = [
-        "0",
-        "7",
-        "2147483647",
-        "2147483648",
-        "2147483649",
-        "4294967296",
-        "99999999999999999999",
-    ];
-    let digits = match random.below(5) {
-        0 => random.pick(&bounds).to_string(),
-        1 => format!("{}{}", "0".repeat(random.below(12)), random.below(1 << 33)),
-        2 => random
-            .pick(&["true", "false", "True", "tru&#101;", "false ", "1", ""])
-            .to_string(),
-        3 => format!("{}x", random.below(100)),
-        _ => random.below(1 << 32).to_string(),
-    };
-    format!("{sign}{digits}").into_bytes()
 }
 
-fn text_scalars(count: u64, seed: u64) -> bool {
-    let mut group = Group::new("booleans, integers and strings of texts", "texts");
+const BOOLEANS: [&str; 10] = [
+    "true",
+    "true",
+    "false",
+    "false",
+    "True",
+    "tru&#101;",
+    "false ",
+    "1",
+    "",
+    "truefalse",
+];
+const BOUNDS: [&str; 7] = [
+    "0",
+    "7",
+    "2147483647",
+    "2147483648",
+    "2147483649",
+    "4294967296",
+    "99999999999999999999",
+];
+
+fn number_text(random: &mut Random) -> String {
+    let sign = random.pick(&["", "", "-", "+", "--", " ", "&#45;"]);
+    let digits = match random.below(4) {
+        0 => random.pick(&BOUNDS).to_string(),
+        1 => format!("{}{}", "0".repeat(random.below(12)), random.below(1 << 33)),
+        2 => format!("{}x", random.below(100)),
+        _ => random.below(1 << 32).to_string(),
+    };
+    format!("{sign}{digits}")
+}
+
+fn text_scalars(count: u64, seed: u64, ended: &mut Ended) {
+    let mut group = Group::new("booleans, integers and strings of texts", Source::Text);
     let mut random = Random::new(seed ^ 0x7E);
     for _ in 0..count {
         let text = scalar_text(&mut random);
-        let problem = group.asker.text_scalars(&text);
-        group.tally.count(problem, || hex(&text));
+        for outcome in group.asker.text_scalars(&text) {
+            group.count(Operation::OfText, outcome, false, || hex(&text));
+        }
     }
-    group.end()
+    group.end(ended);
 }
 
 /// The arguments, or what is wrong with them.
@@ -394,13 +540,23 @@ fn main() {
         std::process::exit(2);
     };
     println!("seed {seed}");
-    let mut groups: Vec<bool> = Vec::new();
-    groups.extend(KINDS.map(|kind| random_bodies(kind, size.bodies, seed)));
-    groups.push(every_body(size.snippets, seed));
-    groups.push(every_cut(size.cut, seed));
-    groups.extend(KINDS.map(|kind| less_room(kind, size.rooms, seed)));
-    groups.push(lent_tables(size.lent, seed));
-    groups.push(scalars_and_find(size.scalars, seed));
-    groups.push(text_scalars(size.scalars, seed));
-    finish(&groups);
+    let Size {
+        floor,
+        snippets,
+        cut,
+    } = size;
+    let mut ended = Ended::default();
+    for kind in Kind::ALL {
+        random_bodies(kind, floor.bodies, seed, &mut ended);
+    }
+    scalars_and_find(floor.scalars, seed, &mut ended);
+    every_body(snippets, seed, &mut ended);
+    every_cut(cut, seed, &mut ended);
+    for kind in Kind::ALL {
+        less_room(kind, floor.rooms, seed, &mut ended);
+    }
+    lent_tables(floor.lent, seed, &mut ended);
+    text_scalars(floor.scalars, seed, &mut ended);
+    ended.sizes(&floor);
+    finish(&ended.groups);
 }
