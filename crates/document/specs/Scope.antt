@@ -49,6 +49,10 @@ unfolding next
 level zero past s r = done (record { ended = false; reader = r })
 level (suc fuel) past s r = onNext past (level fuel past s) (nextFrom s r)
 
+-- the children of a scope from a reader on
+abbrev pub levelFrom : (Child → Reader) → Scope → Reader → Level
+levelFrom past s r = level (suc (length (r .rest))) past s r
+
 -- of an element; one that ended in `/>` has none
 abbrev pub levelIn : (Child → Reader) → Child → Level
 levelIn past c =

@@ -122,14 +122,13 @@ decRow body p r rest =
     (decKind r and decZero r and decLe (p .position) (r .position) and decSpans p r and decLocal p r and decTag body p r
     and decEnding body r and decOrder p r and decOpen p r and decRoot p r and decError r rest and decLimit p r)
 
--- the rules of the first row, and of the rest
-pub first : {body : List ℕ} {p : Place} {r : Row} {rest : List Row} → EachRow body p (r ∷ rest) → RowRules body p r rest × EachRow body (after p r) rest
-first (row k t) = (k, t)
-
 unfoldable pub decEach : (body : List ℕ) (p : Place) (rows : List Row) → Dec (EachRow body p rows)
 unfolding decRow
 decEach body p [] = yes none
 decEach body p (r ∷ rest) = same (λ t. row (t .0) (t .1)) first (decRow body p r rest and decEach body (after p r) rest)
+  where
+    first : EachRow body p (r ∷ rest) → RowRules body p r rest × EachRow body (after p r) rest
+    first (row k t) = (k, t)
 
 unfoldable pub decRules : (body : List ℕ) (rows : List Row) (final : ℕ) → Dec (Rules body rows final)
 unfolding decLe decLt decEach isUtf8 walk inRange utf8.after utf8.table

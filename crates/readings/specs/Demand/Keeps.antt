@@ -6,14 +6,15 @@ use mathlib.Core.Option.{some}
 use native.Mathlib.Omega.{arith}
 use lib.ListN.{length, drop, length-append, length-drop}
 use lib.Seq.{take-append-le, drop-append-le, drop-append-seam, take-length}
-use Rattle.lists.specs.Tests.{pick-all}
+use Rattle.lists.proofs.Tests.{pick-all}
 use Rattle.lists.specs.Bytes.{ascii}
-use Rattle.lists.specs.Every.{none, every-snoc, every-map}
+use Rattle.lists.specs.Every.{none}
+use Rattle.lists.proofs.Every.{every-snoc, every-map}
 use Rattle.refusal.specs.declared.Refusal.{Refusal}
 use Rattle.table.specs.Row.{cut, rowsOf, toksOf}
 use Rattle.xml.specs.Piece.{PieceAt}
 use Rattle.document.specs.Scope.{Child, childrenOf, rootOf, Piece}
-use Rattle.document.specs.Passed.Pieces.{IsPieceAt}
+use Rattle.document.proofs.Passed.Pieces.{IsPieceAt}
 use Rattle.sheet.specs.Sheet.{Structure, structureOf}
 use Rattle.readings.specs.Output.{Entry, textKind, pieceKind, Room, Output, nothing, Reading, andThen, each, fits, write, textEntry, pieceEntry, groupEntry, failedEntry, keyTextEntry, keyPieceEntry, writeText, writePiece, writeGroup, writeFailed, writeKeyText, writeKeyPiece}
 use Rattle.readings.specs.Demand.Promise.{no-room, Siblings, Group, Handed, AllHanded, Promised, finishes, refuses}

@@ -6,9 +6,10 @@ use mathlib.Core.Logic.{_⊎_}
 use mathlib.Core.Bool.{Bool, true, false}
 use mathlib.Core.List.{List, [], _∷_, _++_, List·Memᴰ, List·Memᴰ·head, List·Memᴰ·tail}
 use mathlib.Core.Option.{Option, none, some}
-use Rattle.lists.specs.Tests.{pick, pick-all}
+use Rattle.lists.specs.Tests.{pick}
+use Rattle.lists.proofs.Tests.{pick-all}
 use Rattle.lists.specs.Bytes.{sameb}
-use Rattle.lists.specs.Every.{every-in}
+use Rattle.lists.proofs.Every.{every-in}
 use Rattle.refusal.specs.declared.Refusal.{Refusal}
 use Rattle.refusal.specs.Answer.{Answer, gives, refuses, onward}
 use Rattle.table.specs.Row.{Tok, cut, rowsOf, toksOf}
@@ -18,16 +19,17 @@ use Rattle.xml.specs.declared.Drained.{Drained}
 use Rattle.xml.specs.Drain.{drained}
 use Rattle.xml.specs.Grammar.{Document, Miscs}
 use Rattle.xml.specs.Passed.{Passed}
-use Rattle.xml.specs.Means.{drained-passes-is}
-use Rattle.xml.specs.Pass.{drained-document-is}
-use Rattle.xml.specs.Closing.{element-closed, element-last}
-use Rattle.xml.specs.Piece.{ElementPiece, element-piece}
+use Rattle.xml.proofs.Means.{drained-passes-is}
+use Rattle.xml.proofs.Pass.{drained-document-is}
+use Rattle.xml.proofs.Closing.{element-closed, element-last}
+use Rattle.xml.specs.Piece.{ElementPiece}
+use Rattle.xml.proofs.Piece.{element-piece}
 use Rattle.document.specs.Names.{nameMatches}
 use Rattle.document.specs.View.{View, whole, view}
 use Rattle.document.specs.Scope.{Child, childrenOf, dropping, afterChildren, rootOf, Piece, pieceOf}
-use Rattle.document.specs.Passed.View.{view-passed}
-use Rattle.document.specs.Passed.Walks.{either-past, PastElements, level-in, dropping-past, after-children-past}
-use Rattle.document.specs.Passed.Pieces.{Met, met, inside-met, children-met, RootMet, root-met, no-root, document-root, TextOrElement, is-text, is-element, text-met, element-row, IsPieceAt, piece-met}
+use Rattle.document.proofs.Passed.View.{view-passed}
+use Rattle.document.proofs.Passed.Walks.{either-past, PastElements, level-in, dropping-past, after-children-past}
+use Rattle.document.proofs.Passed.Pieces.{Met, met, inside-met, children-met, RootMet, root-met, no-root, document-root, TextOrElement, is-text, is-element, text-met, element-row, IsPieceAt, piece-met}
 use Rattle.sheet.specs.declared.ShapeDepth.{ShapeDepth}
 use Rattle.sheet.specs.Settings.{Settings, isStrict, tooDeep, testsRootName}
 use Rattle.sheet.specs.Sheet.{Structure, structureOf, listOf, MapSheet, mapOf}

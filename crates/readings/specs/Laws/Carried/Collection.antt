@@ -6,15 +6,15 @@ use mathlib.Core.List.{List, [], _∷_, _++_, List·Memᴰ, List·Memᴰ·head, 
 use mathlib.Core.Option.{Option, none, some}
 use lib.ListN.{length}
 use Rattle.lists.specs.Bytes.{sameb}
-use Rattle.lists.specs.Every.{every-in}
-use Rattle.lists.specs.Tests.{pick-all}
+use Rattle.lists.proofs.Every.{every-in}
+use Rattle.lists.proofs.Tests.{pick-all}
 use Rattle.refusal.specs.declared.Refusal.{Refusal}
 use Rattle.refusal.specs.Answer.{Answer, gives, refuses, onward}
 use Rattle.table.specs.Row.{Tok, toksOf}
 use Rattle.document.specs.Reader.{Reader}
 use Rattle.document.specs.Scope.{Child, childrenOf, dropping, afterChildren, Piece, pieceOf}
 use Rattle.document.specs.Text.{textOf}
-use Rattle.document.specs.Laws.Placed.{Outside, Placed, Outward, level-in-placed, dropping-outward, afterChildren-outward, children-placed}
+use Rattle.document.proofs.Laws.Placed.{Outside, Placed, Outward, level-in-placed, dropping-outward, afterChildren-outward, children-placed}
 use Rattle.sheet.specs.Settings.{Settings}
 use Rattle.sheet.specs.Sheet.{ListSheet, MapSheet}
 use Rattle.sheet.specs.Names.{itemName, entryName, keyName, valueName, valueAggregate}

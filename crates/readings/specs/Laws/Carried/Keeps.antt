@@ -11,9 +11,9 @@ use Rattle.refusal.specs.Answer.{Answer, gives, refuses}
 use Rattle.table.specs.Row.{rowsOf, toksOf}
 use Rattle.document.specs.Scope.{Child, childrenOf, Piece, pieceOf}
 use Rattle.document.specs.Text.{textOf}
-use Rattle.document.specs.Laws.Tags.{rows-tags}
-use Rattle.document.specs.Laws.Placed.{Placed, root-placed}
-use Rattle.document.specs.Laws.Inside.{ViewIn, view-in}
+use Rattle.document.proofs.Laws.Tags.{rows-tags}
+use Rattle.document.proofs.Laws.Placed.{Placed, root-placed}
+use Rattle.document.proofs.Laws.Inside.{ViewIn, view-in}
 use Rattle.sheet.specs.declared.ShapeDepth.{ShapeDepth}
 use Rattle.sheet.specs.Settings.{Settings}
 use Rattle.sheet.specs.Sheet.{Structure}

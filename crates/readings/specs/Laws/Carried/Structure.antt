@@ -6,7 +6,8 @@ use mathlib.Core.List.{List, [], List·Memᴰ}
 use mathlib.Core.Option.{Option, none, some}
 use native.Mathlib.Omega.{arith}
 use lib.ListN.{length}
-use Rattle.lists.specs.Tests.{pick, pick-all}
+use Rattle.lists.specs.Tests.{pick}
+use Rattle.lists.proofs.Tests.{pick-all}
 use Rattle.refusal.specs.Answer.{Answer, gives, refuses}
 use Rattle.table.specs.Row.{toksOf}
 use Rattle.document.specs.Names.{nameMatches}
@@ -14,7 +15,7 @@ use Rattle.document.specs.View.{View}
 use Rattle.document.specs.Reader.{Attribute}
 use Rattle.document.specs.Scope.{Child, childrenOf, Piece, pieceOf}
 use Rattle.document.specs.Text.{textOf}
-use Rattle.document.specs.Laws.Placed.{Placed, children-placed}
+use Rattle.document.proofs.Laws.Placed.{Placed, children-placed}
 use Rattle.sheet.specs.declared.ShapeDepth.{ShapeDepth}
 use Rattle.sheet.specs.Settings.{Settings, testsRootName}
 use Rattle.sheet.specs.Sheet.{Structure}
