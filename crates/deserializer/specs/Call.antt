@@ -24,11 +24,13 @@ abbrev pub numberOf : Step → ℕ
 numberOf (Step.Done w) = 0
 numberOf (Step.Refused why w) = number why
 
--- What is asked of a reading, and what came of it: body, table, final position, sheet, settings and depth; both buffers as they were and as they are; how
--- many entries and text bytes are written; and the number.
+-- What is asked of a reading, and what came of it: body, table, final position, sheet, settings and depth; both buffers as they were and as
+-- they are; how many entries and text bytes are written; and the number.
 
--- a structure: "then the groups, in an order left open". There is an order in which each group comes once, and the answer is the definition's at it.
-pub record StructCall (body table : List ℕ) (final : ℕ) (sheet : List ℕ) (settings : Settings) (depth : ShapeDepth) (e t e′ t′ : List ℕ) (n m r : ℕ) : Type 0 where
+-- a structure: "then the groups, in an order left open". There is an order in which each group comes once, and the answer is the
+-- definition's at it.
+pub record StructCall (body table : List ℕ) (final : ℕ) (sheet : List ℕ) (settings : Settings) (depth : ShapeDepth) (e t e′ t′ : List ℕ)
+    (n m r : ℕ) : Type 0 where
   pub order : List ℕ
   pub ordered : OrderFor body table final sheet settings depth order
   pub call : ReadingCall (λ (room : Room). structureReading body table final sheet settings depth room order) e t e′ t′ n m r
@@ -41,16 +43,18 @@ ShapeCall Shape.Map body table final sheet settings depth = ReadingCall (mapRead
 ShapeCall Shape.StringList body table final sheet settings depth = ReadingCall (stringListReading body table final sheet settings depth)
 
 -- THE PROMISE of a call
-pub record SheetCall (shape : Shape) (body table : List ℕ) (final : ℕ) (sheet : List ℕ) (settings : Settings) (depth : ShapeDepth) (e t e′ t′ : List ℕ) (n m r : ℕ) : Type 0 where
+pub record SheetCall (shape : Shape) (body table : List ℕ) (final : ℕ) (sheet : List ℕ) (settings : Settings) (depth : ShapeDepth)
+    (e t e′ t′ : List ℕ) (n m r : ℕ) : Type 0 where
   pub is : ShapeCall shape body table final sheet settings depth e t e′ t′ n m r
 
 -- of a step: its count, its bytes and its number
-pub record SheetRead (shape : Shape) (body table : List ℕ) (final : ℕ) (sheet : List ℕ) (settings : Settings) (depth : ShapeDepth) (e t e′ t′ : List ℕ) (r : Step) : Type 0 where
+pub record SheetRead (shape : Shape) (body table : List ℕ) (final : ℕ) (sheet : List ℕ) (settings : Settings) (depth : ShapeDepth)
+    (e t e′ t′ : List ℕ) (r : Step) : Type 0 where
   pub call : SheetCall shape body table final sheet settings depth e t e′ t′ (writtenOf r .count) (writtenOf r .used) (numberOf r)
 
 -- the same below the depth guard, which was entered or not
-pub record EnteredRead (shape : Shape) (body table : List ℕ) (final : ℕ) (sheet : List ℕ) (settings : Settings) (depth : ShapeDepth) (entered : Bool) (e t e′ t′ : List ℕ) (r : Step)
-    : Type 0 where
+pub record EnteredRead (shape : Shape) (body table : List ℕ) (final : ℕ) (sheet : List ℕ) (settings : Settings) (depth : ShapeDepth)
+    (entered : Bool) (e t e′ t′ : List ℕ) (r : Step) : Type 0 where
   pub read : entered ≡ not (tooDeep settings depth) → SheetRead shape body table final sheet settings depth e t e′ t′ r
 
 -- ---- by numbers, for C
@@ -82,10 +86,11 @@ abbrev pub shapeOf : ℕ → Shape
 shapeOf kind = pick (eqb kind 1) Shape.Struct (pick (eqb kind 2) Shape.List (pick (eqb kind 3) Shape.Map Shape.StringList))
 
 -- a call whose count and bytes are told in two numbers that are lent for them
-pub record ToldCall (shape : Shape) (body table : List ℕ) (final : ℕ) (sheet : List ℕ) (settings : Settings) (depth : ShapeDepth) (e t e′ t′ two two′ : List ℕ) (r : ℕ) : Type 0 where
+pub record ToldCall (shape : Shape) (body table : List ℕ) (final : ℕ) (sheet : List ℕ) (settings : Settings) (depth : ShapeDepth)
+    (e t e′ t′ two two′ : List ℕ) (r : ℕ) : Type 0 where
   pub call : 2 ≤ length two → SheetCall shape body table final sheet settings depth e t e′ t′ (getD two′ 0 0) (getD two′ 1 0) r
 
 -- the same below the depth guard, which was entered or not
-pub record EnteredCall (shape : Shape) (body table : List ℕ) (final : ℕ) (sheet : List ℕ) (settings : Settings) (depth : ShapeDepth) (entered : Bool) (e t e′ t′ two two′ : List ℕ) (r : ℕ)
-    : Type 0 where
+pub record EnteredCall (shape : Shape) (body table : List ℕ) (final : ℕ) (sheet : List ℕ) (settings : Settings) (depth : ShapeDepth)
+    (entered : Bool) (e t e′ t′ two two′ : List ℕ) (r : ℕ) : Type 0 where
   pub told : entered ≡ not (tooDeep settings depth) → ToldCall shape body table final sheet settings depth e t e′ t′ two two′ r

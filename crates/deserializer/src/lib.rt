@@ -1,6 +1,8 @@
-// The port of src/codec/deserializer.rs: the readings by a sheet, from what is asked first to 9 at the end. What each answers is defined in `readings`.
+// The port of src/codec/deserializer.rs: the readings by a sheet, from what is asked first to 9 at the end. What each answers is defined in
+// `readings`.
 ghost use Rattle.codec.specs.Settings.{settingsOf};
-ghost use Rattle.deserializer.specs.Call.{EnteredRead, SetBy, Tells, EnteredCall, ToldCall, SheetCall, settingsBy, shapeDepth, shapeOf};
+ghost use Rattle.deserializer.specs.Call.{EnteredRead, SetBy, Tells, EnteredCall, ToldCall, SheetCall, settingsBy, shapeDepth};
+ghost use Rattle.deserializer.specs.Call.{shapeOf};
 ghost use Rattle.deserializer.specs.Demand.{Demanded};
 use codec::guard::Guard;
 use codec::settings::Settings;
@@ -29,8 +31,8 @@ fn read_struct(
     entries: &mut [u32],
     texts: &mut [u8],
 ) -> Step
-    ensures { λ r. ⌜ EnteredRead Shape.Struct (now (body .entry)) (now (rows .entry)) end (now (sheet .entry)) (settingsOf settings) depth entered
-        (now (entries .entry)) (now (texts .entry)) (now (entries .exit)) (now (texts .exit)) r ⌝ }
+    ensures { λ r. ⌜ EnteredRead Shape.Struct (now (body .entry)) (now (rows .entry)) end (now (sheet .entry))
+        (settingsOf settings) depth entered (now (entries .entry)) (now (texts .entry)) (now (entries .exit)) (now (texts .exit)) r ⌝ }
 {
     let parsed = codec::structure::parse_structure(sheet);
     let strict = codec::settings::is_strict(settings, depth);
@@ -66,8 +68,8 @@ fn read_list(
     entries: &mut [u32],
     texts: &mut [u8],
 ) -> Step
-    ensures { λ r. ⌜ EnteredRead Shape.List (now (body .entry)) (now (rows .entry)) end (now (sheet .entry)) (settingsOf settings) depth entered
-        (now (entries .entry)) (now (texts .entry)) (now (entries .exit)) (now (texts .exit)) r ⌝ }
+    ensures { λ r. ⌜ EnteredRead Shape.List (now (body .entry)) (now (rows .entry)) end (now (sheet .entry))
+        (settingsOf settings) depth entered (now (entries .entry)) (now (texts .entry)) (now (entries .exit)) (now (texts .exit)) r ⌝ }
 {
     let said = codec::collection::parse_list(sheet);
     let strict = codec::settings::is_strict(settings, depth);
@@ -99,8 +101,8 @@ fn read_string_list(
     entries: &mut [u32],
     texts: &mut [u8],
 ) -> Step
-    ensures { λ r. ⌜ EnteredRead Shape.StringList (now (body .entry)) (now (rows .entry)) end (now (sheet .entry)) (settingsOf settings) depth entered
-        (now (entries .entry)) (now (texts .entry)) (now (entries .exit)) (now (texts .exit)) r ⌝ }
+    ensures { λ r. ⌜ EnteredRead Shape.StringList (now (body .entry)) (now (rows .entry)) end (now (sheet .entry))
+        (settingsOf settings) depth entered (now (entries .entry)) (now (texts .entry)) (now (entries .exit)) (now (texts .exit)) r ⌝ }
 {
     let said = codec::collection::parse_list(sheet);
     let strict = codec::settings::is_strict(settings, depth);
@@ -133,8 +135,8 @@ fn read_map(
     entries: &mut [u32],
     texts: &mut [u8],
 ) -> Step
-    ensures { λ r. ⌜ EnteredRead Shape.Map (now (body .entry)) (now (rows .entry)) end (now (sheet .entry)) (settingsOf settings) depth entered
-        (now (entries .entry)) (now (texts .entry)) (now (entries .exit)) (now (texts .exit)) r ⌝ }
+    ensures { λ r. ⌜ EnteredRead Shape.Map (now (body .entry)) (now (rows .entry)) end (now (sheet .entry))
+        (settingsOf settings) depth entered (now (entries .entry)) (now (texts .entry)) (now (entries .exit)) (now (texts .exit)) r ⌝ }
 {
     let said = codec::collection::parse_map(sheet);
     let strict = codec::settings::is_strict(settings, depth);
@@ -203,8 +205,9 @@ fn read_entered(
     texts: &mut [u8],
     told: &mut [usize],
 ) -> u32
-    ensures { λ r. ⌜ EnteredCall (shapeOf kind) (now (body .entry)) (now (rows .entry)) end (now (sheet .entry)) (settingsBy flags «max_depth») (shapeDepth depth) entered
-        (now (entries .entry)) (now (texts .entry)) (now (entries .exit)) (now (texts .exit)) (now (told .entry)) (now (told .exit)) r ⌝ }
+    ensures { λ r. ⌜ EnteredCall (shapeOf kind) (now (body .entry)) (now (rows .entry)) end (now (sheet .entry))
+        (settingsBy flags «max_depth») (shapeDepth depth) entered (now (entries .entry)) (now (texts .entry)) (now (entries .exit))
+        (now (texts .exit)) (now (told .entry)) (now (told .exit)) r ⌝ }
 {
     let settings = settings_by(flags, max_depth);
     let deep = ShapeDepth(depth);
@@ -278,8 +281,9 @@ pub fn read_sheet(
     texts: &mut [u8],
     told: &mut [usize],
 ) -> u32
-    ensures { λ r. ⌜ ToldCall (shapeOf kind) (now (body .entry)) (now (rows .entry)) end (now (sheet .entry)) (settingsBy flags «max_depth») (shapeDepth depth)
-        (now (entries .entry)) (now (texts .entry)) (now (entries .exit)) (now (texts .exit)) (now (told .entry)) (now (told .exit)) r ⌝ }
+    ensures { λ r. ⌜ ToldCall (shapeOf kind) (now (body .entry)) (now (rows .entry)) end (now (sheet .entry)) (settingsBy flags «max_depth»)
+        (shapeDepth depth) (now (entries .entry)) (now (texts .entry)) (now (entries .exit)) (now (texts .exit)) (now (told .entry))
+        (now (told .exit)) r ⌝ }
 {
     let mut guard = Guard {
         depth,
@@ -321,10 +325,12 @@ pub fn read(
     count: &mut usize,
     length: &mut usize,
 ) -> u32
-    ensures { λ r. ⌜ SheetCall (shapeOf kind) (now (body .entry)) (now (rows .entry)) end (now (sheet .entry)) (settingsBy flags «max_depth») (shapeDepth depth)
-        (now (entries .entry)) (now (texts .entry)) (now (entries .exit)) (now (texts .exit)) (now (count .exit)) (now (length .exit)) r ⌝ }
-    ensures demand { λ r. ⌜ Demanded (shapeOf kind) (now (body .entry)) (now (rows .entry)) end (now (sheet .entry)) (settingsBy flags «max_depth») (shapeDepth depth)
-        (now (entries .entry)) (now (texts .entry)) (now (entries .exit)) (now (count .exit)) r ⌝ }
+    ensures { λ r. ⌜ SheetCall (shapeOf kind) (now (body .entry)) (now (rows .entry)) end (now (sheet .entry))
+        (settingsBy flags «max_depth») (shapeDepth depth) (now (entries .entry)) (now (texts .entry)) (now (entries .exit))
+        (now (texts .exit)) (now (count .exit)) (now (length .exit)) r ⌝ }
+    ensures demand { λ r. ⌜ Demanded (shapeOf kind) (now (body .entry)) (now (rows .entry)) end (now (sheet .entry))
+        (settingsBy flags «max_depth») (shapeDepth depth) (now (entries .entry)) (now (texts .entry)) (now (entries .exit))
+        (now (count .exit)) r ⌝ }
 {
     let mut told = [0usize; 2];
     let number = read_sheet(

@@ -1,5 +1,5 @@
--- `Name::matches` (01, src/decode.rs): "a pattern without a colon is compared with the local name alone; otherwise split at its first colon and
--- compare both".
+-- `Name::matches` (01, src/decode.rs): "a pattern without a colon is compared with the local name alone; otherwise split at its first colon
+-- and compare both".
 use Prim.Native.Nat.{ℕ, suc, _+_}
 use mathlib.Core.Bool.{Bool, false}
 use mathlib.Core.List.{List, [], _∷_}

@@ -1,6 +1,7 @@
-// The readings by a sheet. `entries` are six numbers an entry, of any length: there is room for a sixth of it, rounded down. `count` is how many entries are
-// written, and `length` how many text bytes, finished or refused; all else of both buffers stays as it was. flags: 1 validate_document, 2 validate_root_name,
-// 4 strict_collection_element_names; other bits are passed over. The second promise of each is demand 3: what holds where the drain passes the body and the table.
+// The readings by a sheet. `entries` are six numbers an entry, of any length: there is room for a sixth of it, rounded down. `count` is how
+// many entries are written, and `length` how many text bytes, finished or refused; all else of both buffers stays as it was. flags: 1
+// validate_document, 2 validate_root_name, 4 strict_collection_element_names; other bits are passed over. The second promise of each is
+// demand 3: what holds where the drain passes the body and the table.
 ghost use Rattle.deserializer.specs.Call.{SheetCall, settingsBy, shapeDepth};
 ghost use Rattle.deserializer.specs.Demand.{Demanded};
 ghost use Rattle.deserializer.specs.declared.Shape.{Shape};
@@ -20,10 +21,12 @@ pub extern "C" fn falzheod_read_struct(
     count: &mut usize,
     length: &mut usize,
 ) -> u32
-    ensures { λ r. ⌜ SheetCall Shape.Struct (now (body .entry)) (now (rows .entry)) end (now (sheet .entry)) (settingsBy flags «max_depth») (shapeDepth depth)
-        (now (entries .entry)) (now (texts .entry)) (now (entries .exit)) (now (texts .exit)) (now (count .exit)) (now (length .exit)) r ⌝ }
-    ensures demand { λ r. ⌜ Demanded Shape.Struct (now (body .entry)) (now (rows .entry)) end (now (sheet .entry)) (settingsBy flags «max_depth») (shapeDepth depth)
-        (now (entries .entry)) (now (texts .entry)) (now (entries .exit)) (now (count .exit)) r ⌝ }
+    ensures { λ r. ⌜ SheetCall Shape.Struct (now (body .entry)) (now (rows .entry)) end (now (sheet .entry)) (settingsBy flags «max_depth»)
+        (shapeDepth depth) (now (entries .entry)) (now (texts .entry)) (now (entries .exit)) (now (texts .exit)) (now (count .exit))
+        (now (length .exit)) r ⌝ }
+    ensures demand { λ r. ⌜ Demanded Shape.Struct (now (body .entry)) (now (rows .entry)) end (now (sheet .entry))
+        (settingsBy flags «max_depth») (shapeDepth depth) (now (entries .entry)) (now (texts .entry)) (now (entries .exit))
+        (now (count .exit)) r ⌝ }
 {
     deserializer::read(
         1,
@@ -56,10 +59,12 @@ pub extern "C" fn falzheod_read_list(
     count: &mut usize,
     length: &mut usize,
 ) -> u32
-    ensures { λ r. ⌜ SheetCall Shape.List (now (body .entry)) (now (rows .entry)) end (now (sheet .entry)) (settingsBy flags «max_depth») (shapeDepth depth)
-        (now (entries .entry)) (now (texts .entry)) (now (entries .exit)) (now (texts .exit)) (now (count .exit)) (now (length .exit)) r ⌝ }
-    ensures demand { λ r. ⌜ Demanded Shape.List (now (body .entry)) (now (rows .entry)) end (now (sheet .entry)) (settingsBy flags «max_depth») (shapeDepth depth)
-        (now (entries .entry)) (now (texts .entry)) (now (entries .exit)) (now (count .exit)) r ⌝ }
+    ensures { λ r. ⌜ SheetCall Shape.List (now (body .entry)) (now (rows .entry)) end (now (sheet .entry)) (settingsBy flags «max_depth»)
+        (shapeDepth depth) (now (entries .entry)) (now (texts .entry)) (now (entries .exit)) (now (texts .exit)) (now (count .exit))
+        (now (length .exit)) r ⌝ }
+    ensures demand { λ r. ⌜ Demanded Shape.List (now (body .entry)) (now (rows .entry)) end (now (sheet .entry))
+        (settingsBy flags «max_depth») (shapeDepth depth) (now (entries .entry)) (now (texts .entry)) (now (entries .exit))
+        (now (count .exit)) r ⌝ }
 {
     deserializer::read(
         2,
@@ -92,10 +97,12 @@ pub extern "C" fn falzheod_read_map(
     count: &mut usize,
     length: &mut usize,
 ) -> u32
-    ensures { λ r. ⌜ SheetCall Shape.Map (now (body .entry)) (now (rows .entry)) end (now (sheet .entry)) (settingsBy flags «max_depth») (shapeDepth depth)
-        (now (entries .entry)) (now (texts .entry)) (now (entries .exit)) (now (texts .exit)) (now (count .exit)) (now (length .exit)) r ⌝ }
-    ensures demand { λ r. ⌜ Demanded Shape.Map (now (body .entry)) (now (rows .entry)) end (now (sheet .entry)) (settingsBy flags «max_depth») (shapeDepth depth)
-        (now (entries .entry)) (now (texts .entry)) (now (entries .exit)) (now (count .exit)) r ⌝ }
+    ensures { λ r. ⌜ SheetCall Shape.Map (now (body .entry)) (now (rows .entry)) end (now (sheet .entry)) (settingsBy flags «max_depth»)
+        (shapeDepth depth) (now (entries .entry)) (now (texts .entry)) (now (entries .exit)) (now (texts .exit)) (now (count .exit))
+        (now (length .exit)) r ⌝ }
+    ensures demand { λ r. ⌜ Demanded Shape.Map (now (body .entry)) (now (rows .entry)) end (now (sheet .entry))
+        (settingsBy flags «max_depth») (shapeDepth depth) (now (entries .entry)) (now (texts .entry)) (now (entries .exit))
+        (now (count .exit)) r ⌝ }
 {
     deserializer::read(
         3,
@@ -128,10 +135,12 @@ pub extern "C" fn falzheod_read_string_list(
     count: &mut usize,
     length: &mut usize,
 ) -> u32
-    ensures { λ r. ⌜ SheetCall Shape.StringList (now (body .entry)) (now (rows .entry)) end (now (sheet .entry)) (settingsBy flags «max_depth») (shapeDepth depth)
-        (now (entries .entry)) (now (texts .entry)) (now (entries .exit)) (now (texts .exit)) (now (count .exit)) (now (length .exit)) r ⌝ }
-    ensures demand { λ r. ⌜ Demanded Shape.StringList (now (body .entry)) (now (rows .entry)) end (now (sheet .entry)) (settingsBy flags «max_depth») (shapeDepth depth)
-        (now (entries .entry)) (now (texts .entry)) (now (entries .exit)) (now (count .exit)) r ⌝ }
+    ensures { λ r. ⌜ SheetCall Shape.StringList (now (body .entry)) (now (rows .entry)) end (now (sheet .entry))
+        (settingsBy flags «max_depth») (shapeDepth depth) (now (entries .entry)) (now (texts .entry)) (now (entries .exit))
+        (now (texts .exit)) (now (count .exit)) (now (length .exit)) r ⌝ }
+    ensures demand { λ r. ⌜ Demanded Shape.StringList (now (body .entry)) (now (rows .entry)) end (now (sheet .entry))
+        (settingsBy flags «max_depth») (shapeDepth depth) (now (entries .entry)) (now (texts .entry)) (now (entries .exit))
+        (now (count .exit)) r ⌝ }
 {
     deserializer::read(
         4,

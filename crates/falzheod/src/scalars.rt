@@ -1,4 +1,5 @@
-// Scalars of a body and of a text, find, and the whole text. `value` is left alone by a refusal; a length says how many bytes were written, 0 where it refused.
+// Scalars of a body and of a text, find, and the whole text. `value` is left alone by a refusal; a length says how many bytes were written,
+// 0 where it refused.
 ghost use Rattle.readings.specs.Scalar.{booleanOf, integerOf, stringIn, booleanReading, integerReading, stringReading, wholeText};
 ghost use Rattle.readings.specs.Find as readings;
 ghost use Rattle.deserializer.specs.Call.{settingsBy, shapeDepth};
@@ -30,7 +31,8 @@ pub extern "C" fn falzheod_text_integer(text: &[u8], value: &mut i32) -> u32
 // A text as a string: 0 or 10.
 #[no_mangle]
 pub extern "C" fn falzheod_text_string(text: &[u8], out: &mut [u8], length: &mut usize) -> u32
-    ensures { λ r. ⌜ StringCall (stringIn (sizeOf (now (out .entry))) (now (text .entry))) (now (out .entry)) (now (out .exit)) (now (length .exit)) r ⌝ }
+    ensures { λ r. ⌜ StringCall (stringIn (sizeOf (now (out .entry))) (now (text .entry))) (now (out .entry)) (now (out .exit))
+        (now (length .exit)) r ⌝ }
 {
     give_length(scalar::text::string_of(text, out), length)
 }
@@ -86,8 +88,8 @@ pub extern "C" fn falzheod_read_string(
     out: &mut [u8],
     length: &mut usize,
 ) -> u32
-    ensures { λ r. ⌜ StringCall (stringReading (now (body .entry)) (now (rows .entry)) end (settingsBy flags 0) (shapeDepth depth) (sizeOf (now (out .entry))))
-        (now (out .entry)) (now (out .exit)) (now (length .exit)) r ⌝ }
+    ensures { λ r. ⌜ StringCall (stringReading (now (body .entry)) (now (rows .entry)) end (settingsBy flags 0) (shapeDepth depth)
+        (sizeOf (now (out .entry)))) (now (out .entry)) (now (out .exit)) (now (length .exit)) r ⌝ }
 {
     let settings = settings_by(flags, 0);
     give_length(
@@ -106,7 +108,8 @@ pub extern "C" fn falzheod_find(
     start: &mut usize,
     length: &mut usize,
 ) -> u32
-    ensures { λ r. ⌜ FindCall (readings.find (now (body .entry)) (now (rows .entry)) end (now (name .entry))) (now (start .exit)) (now (length .exit)) r ⌝ }
+    ensures { λ r. ⌜ FindCall (readings.find (now (body .entry)) (now (rows .entry)) end (now (name .entry))) (now (start .exit))
+        (now (length .exit)) r ⌝ }
 {
     give_part(
         scalar::find::finding_of(body, rows, end, name),
@@ -124,7 +127,8 @@ pub extern "C" fn falzheod_whole_text(
     out: &mut [u8],
     length: &mut usize,
 ) -> u32
-    ensures { λ r. ⌜ StringCall (wholeText (now (body .entry)) (now (rows .entry)) end (sizeOf (now (out .entry)))) (now (out .entry)) (now (out .exit)) (now (length .exit)) r ⌝ }
+    ensures { λ r. ⌜ StringCall (wholeText (now (body .entry)) (now (rows .entry)) end (sizeOf (now (out .entry)))) (now (out .entry))
+        (now (out .exit)) (now (length .exit)) r ⌝ }
 {
     give_length(scalar::whole::whole_text(body, rows, end, out), length)
 }
