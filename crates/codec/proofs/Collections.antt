@@ -9,7 +9,8 @@ use borrow.Author.Needs.{needs}
 use borrow.Author.Tests.{not-true, not-false, eq-eqb}
 use lib.Dec.{leb}
 use lib.ListN.{length}
-use Rattle.lists.specs.Tests.{pick, false-true, flags}
+use Rattle.lists.specs.Tests.{pick}
+use Rattle.lists.proofs.Tests.{false-true, flags}
 use Rattle.lists.specs.Bytes.{ascii, sameb}
 use Rattle.sheet.specs.Front.{front, broken, then, whereHolds, bitMap, bit, nameIf, all}
 use Rattle.sheet.specs.Sheet.{itemIf, onlyWith, listOf, valueIf, mapOf}

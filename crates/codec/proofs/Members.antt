@@ -11,7 +11,8 @@ use borrow.Author.Tests.{not-true, not-false}
 use lib.Dec.{leb}
 use lib.ListN.{length, getD, drop, set, length-set, length-append, List·getD-append}
 use lib.Seq.{getD-set-same, getD-set-other, getD-at, sets, length-sets}
-use Rattle.lists.specs.Tests.{pick, pick-same, pick-flag}
+use Rattle.lists.specs.Tests.{pick}
+use Rattle.lists.proofs.Tests.{pick-same, pick-flag}
 use Rattle.sheet.specs.Front.{Front, front, broken, then, bit, times}
 use Rattle.sheet.specs.Sheet.{member, memberList}
 use Rattle.sheet.specs.Sheet as defined

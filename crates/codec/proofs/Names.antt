@@ -11,7 +11,8 @@ use borrow.Author.Tests.{not-true, not-false, le-leb, lt-leb, eqb-true, eq-eqb, 
 use lib.Dec.{leb, eqb}
 use lib.ListN.{length, getD, take, drop, length-drop, drop-of-length-le}
 use lib.Seq.{drop-cons, drop-drop}
-use Rattle.lists.specs.Tests.{pick, false-true}
+use Rattle.lists.specs.Tests.{pick}
+use Rattle.lists.proofs.Tests.{false-true}
 use Rattle.sheet.specs.Front.{front, broken, then, whereHolds, nameIf}
 use Rattle.codec.specs.declared.field.Span.{Span}
 use Rattle.codec.specs.declared.field.Field.{Field}

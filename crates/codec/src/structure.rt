@@ -1,6 +1,6 @@
-// Structure sheets: a sheet that was read, its root's name, and its members by index and by name. The members are one array of numbers, three
-// a member: its bit map, the place of its name in the sheet, and the name's length. Functions over them take the part that is filled, whose
-// length says how many there are.
+// Structure sheets: a sheet that was read, its root's name, and its members by index and by name. The members are one array of numbers,
+// three a member: its bit map, the place of its name in the sheet, and the name's length. Functions over them take the part that is filled,
+// whose length says how many there are.
 ghost use mathlib.Core.Path.{_≡_};
 ghost use mathlib.Core.List.{[], _∷_};
 ghost use Prim.Native.Nat.{_+_, _*_, _≤_, _<_};

@@ -4,14 +4,15 @@ use mathlib.Core.Path.{_≡_, refl}
 use mathlib.Core.Bool.{true, false}
 use mathlib.Core.List.{List, []}
 use native.Mathlib.Omega.{arith}
-use Rattle.lists.specs.Tests.{pick, false-true}
+use Rattle.lists.specs.Tests.{pick}
+use Rattle.lists.proofs.Tests.{false-true}
 use Rattle.refusal.specs.Answer.{Answer, gives}
 use Rattle.table.specs.Row.{Name, Tok, bad, tokAs}
 use Rattle.document.specs.declared.Depth.{Depth}
 use Rattle.document.specs.Reader.{depthAfter, Scope, endsAt, StartEl, onClose, turn}
 use Rattle.document.specs.Text.{textTurn}
 use Rattle.document.specs.View.{isError}
-use Rattle.document.specs.Laws.Tags.{mayStand, inTagAfter}
+use Rattle.document.specs.Tags.{mayStand, inTagAfter}
 
 pub record Does (kind : ℕ) (u : Tok) : Type 0 where
   -- no start, close tag or `/>`: it keeps the depth

@@ -7,11 +7,12 @@ use native.Mathlib.Omega.{arith}
 use borrow.Author.Needs.{needs}
 use lib.ListN.{length, getD, drop, length-take}
 use lib.Seq.{getD-take, getD-drop}
-use Rattle.lists.specs.Parts.{getD-in}
+use Rattle.lists.proofs.Parts.{getD-in}
 use Rattle.lists.specs.Find.{Clear, NextAt}
-use Rattle.lists.specs.Tests.{pick, false-true}
+use Rattle.lists.specs.Tests.{pick}
+use Rattle.lists.proofs.Tests.{false-true}
 use Rattle.reference.specs.Text.{validated}
-use Rattle.reference.specs.Result.{plain-valid}
+use Rattle.reference.proofs.Result.{plain-valid}
 use Rattle.reference.specs.declared.Validated.{Validated}
 use Rattle.table.specs.Row.{Name, cut, tokAs}
 use Rattle.xml.specs.Drain.{sameName, seen}

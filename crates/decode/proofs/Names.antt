@@ -10,7 +10,7 @@ use mir.Val.{Fits}
 use mir.Syntax.{w64}
 use lib.ListN.{length, getD, take, drop}
 use Rattle.lists.specs.Bytes.{sameb}
-use Rattle.lists.specs.Parts.{tail}
+use Rattle.lists.proofs.Parts.{tail}
 use Rattle.lists.specs.Find.{NextAt}
 use Rattle.table.specs.Row.{cut}
 use Rattle.xml.specs.Drain.{sameName}

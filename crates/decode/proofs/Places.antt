@@ -9,11 +9,11 @@ use borrow.Author.Needs.{needs}
 use borrow.Author.Tests.{eq-eqb, ne-eqb}
 use lib.ListN.{getD}
 use Rattle.table.specs.Row.{Tok, tokAs, toksOf}
-use Rattle.table.specs.Flat.{unroll, rolled-out}
+use Rattle.table.proofs.Flat.{unroll, rolled-out}
 use Rattle.xml.specs.Drain.{sameName}
 use Rattle.document.specs.declared.Depth.{Depth}
 use Rattle.document.specs.Reader.{depth, less, isEnd, endsAt}
-use Rattle.document.specs.Laws.Tags.{mayStand, inTagAfter, Tags, token}
+use Rattle.document.specs.Tags.{mayStand, inTagAfter, Tags, token}
 use Rattle.decode.specs.declared.reader.ScopeRow.{ScopeRow}
 use Rattle.decode.specs.declared.reader.StartRow.{StartRow}
 use Rattle.decode.specs.Rows.{InTable, nameAt, valueAt, tokAt}

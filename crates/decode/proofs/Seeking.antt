@@ -12,8 +12,8 @@ use Rattle.document.specs.Reader.{reader, depth, depthAfter, endsAt, StartEl, b
 use Rattle.document.specs.Reader as doc
 use Rattle.document.specs.declared.Depth.{Depth}
 use Rattle.document.specs.Scope.{rootOf, onRoot}
-use Rattle.document.specs.Laws.Steps.{next-token, next-end}
-use Rattle.document.specs.Laws.Tags.{inTagAfter}
+use Rattle.document.proofs.Laws.Steps.{next-token, next-end}
+use Rattle.document.specs.Tags.{inTagAfter}
 use Rattle.decode.specs.declared.reader.ScopeRow.{ScopeRow}
 use Rattle.decode.specs.declared.reader.Past.{Past}
 use Rattle.decode.specs.declared.reader.Next.{Next}

@@ -8,13 +8,15 @@ use native.Mathlib.Omega.{arith}
 use borrow.Author.Tests.{leb-true, leb-false}
 use lib.Dec.{leb}
 use lib.ListN.{length, getD, take}
-use Rattle.lists.specs.Tests.{false-true}
+use Rattle.lists.proofs.Tests.{false-true}
 use Rattle.table.specs.Row.{Row, toksOf, rowsOf}
 use Rattle.table.specs.Rules.{Place, RowRules, EachRow}
-use Rattle.table.specs.Test.{first}
-use Rattle.table.specs.Flat.{rowAt, rowsFrom, length-rows, rows-same, rows-whole}
+use Rattle.table.proofs.Test.{first}
+use Rattle.table.specs.Flat.{rowAt, rowsFrom}
+use Rattle.table.proofs.Flat.{length-rows, rows-same, rows-whole}
 use Rattle.document.specs.View.{positionAt, isError, errorAt}
-use Rattle.document.specs.Laws.Tags.{Tags, no-token, token, rows-tags}
+use Rattle.document.specs.Tags.{Tags, no-token, token}
+use Rattle.document.proofs.Laws.Tags.{rows-tags}
 use Rattle.decode.specs.Rows.{tokAt}
 use Rattle.decode.specs.Drain.{Walkable}
 use Rattle.decode.specs.Reader.{RulesAt, Sees, Outside}

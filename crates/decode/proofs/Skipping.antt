@@ -13,8 +13,8 @@ use Rattle.document.specs.Reader.{reader, depth, depthAfter, endsAt, skip}
 use Rattle.document.specs.Reader as doc
 use Rattle.document.specs.declared.Depth.{Depth}
 use Rattle.document.specs.Scope.{shut}
-use Rattle.document.specs.Laws.Steps.{skip-token, skip-end}
-use Rattle.document.specs.Laws.Tags.{skip-outside}
+use Rattle.document.proofs.Laws.Steps.{skip-token, skip-end}
+use Rattle.document.proofs.Laws.Tags.{skip-outside}
 use Rattle.decode.specs.declared.reader.ScopeRow.{ScopeRow}
 use Rattle.decode.specs.declared.reader.Cursor.{Cursor}
 use Rattle.decode.specs.declared.reader.Past.{Past}

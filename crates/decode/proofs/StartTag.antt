@@ -9,7 +9,7 @@ use borrow.Author.Needs.{needs}
 use borrow.Author.Tests.{eqb-true, eqb-false}
 use lib.Dec.{eqb}
 use lib.ListN.{getD, length}
-use Rattle.lists.specs.Tests.{false-true}
+use Rattle.lists.proofs.Tests.{false-true}
 use Rattle.reference.specs.Text.{Out, bytes, unescaped}
 use Rattle.reference.specs.Text as ref
 use Rattle.reference.specs.declared.Unescaped.{Unescaped}
@@ -17,8 +17,8 @@ use Rattle.unescape.specs.Loops.{sizeOf}
 use Rattle.table.specs.Row.{Name, Tok, start, bad, tokAs}
 use Rattle.document.specs.Reader.{reader, depth, depthAfter, Scope, Attribute, StartEl, blank, onAttribute, takeTurn, turn, next}
 use Rattle.document.specs.Reader as doc
-use Rattle.document.specs.Laws.Steps.{next-end, next-token}
-use Rattle.document.specs.Laws.Tags.{inTagAfter, Tags}
+use Rattle.document.proofs.Laws.Steps.{next-end, next-token}
+use Rattle.document.specs.Tags.{inTagAfter, Tags}
 use Rattle.decode.specs.declared.reader.Past.{Past}
 use Rattle.decode.specs.declared.reader.Next.{Next}
 use Rattle.decode.specs.Rows.{InTable, Readable, nameAt, valueAt, tokAt}

@@ -12,7 +12,7 @@ use Rattle.refusal.specs.Answer.{Answer, gives}
 use Rattle.table.specs.Row.{Tok, tokAs}
 use Rattle.document.specs.Reader.{depth, depthAfter, endsAt}
 use Rattle.document.specs.Text.{atEnd, textTurn, firstText, textOf}
-use Rattle.document.specs.Laws.Steps.{first-text-end, first-text-token}
+use Rattle.document.proofs.Laws.Steps.{first-text-end, first-text-token}
 use Rattle.decode.specs.declared.reader.ScopeRow.{ScopeRow}
 use Rattle.decode.specs.declared.reader.Cursor.{Cursor}
 use Rattle.decode.specs.declared.reader.StartRow.{StartRow}

@@ -11,12 +11,13 @@ use lib.ListN.{length, getD, length-append}
 use Rattle.refusal.specs.declared.Refusal.{Refusal}
 use Rattle.table.specs.Row.{Row, tokAs, toksOf, rowsOf}
 use Rattle.table.specs.Rules.{row, TableRules}
-use Rattle.table.specs.Flat.{rowsFrom, length-rows, rows-whole}
+use Rattle.table.specs.Flat.{rowsFrom}
+use Rattle.table.proofs.Flat.{length-rows, rows-whole}
 use Rattle.xml.specs.declared.Cause.{Cause}
 use Rattle.xml.specs.declared.Drained.{Drained}
 use Rattle.xml.specs.Drain.{walked}
 use Rattle.xml.specs.Passed.{FirstFault, at-row, at-end}
-use Rattle.xml.specs.First.{walk-ill-formed-is}
+use Rattle.xml.proofs.First.{walk-ill-formed-is}
 use Rattle.document.specs.View.{positionAt, failureOf, isError, errorAt, view}
 use Rattle.document.specs.View as doc
 use Rattle.decode.specs.declared.view.Failure.{Failure}

@@ -13,15 +13,18 @@ use borrow.Author.Tests.{eqb-true, eqb-false}
 use lib.Dec.{eqb}
 use lib.ListN.{length, getD, set, length-set}
 use lib.Seq.{getD-set-same, getD-set-other}
-use Rattle.lists.specs.Tests.{pick, false-true}
+use Rattle.lists.specs.Tests.{pick}
+use Rattle.lists.proofs.Tests.{false-true}
 use Rattle.lists.specs.Decide.{isYes}
 use Rattle.reference.specs.Text.{validated}
 use Rattle.reference.specs.declared.Validated.{Validated}
 use Rattle.table.specs.Row.{Row, Name, Tok, start, attr, gt, close, slash, text, misc, bad, tokAs, toksOf, rowsOf}
 use Rattle.table.specs.Rules.{among, Place, atFirst, after, RowRules, EachRow, row, TableRules}
-use Rattle.table.specs.Test.{decTable, first}
-use Rattle.table.specs.Pass.{obeyed}
-use Rattle.table.specs.Flat.{rowAt, rowsFrom, length-rows, rows-same, rows-whole, unroll, rolled-out, spans-in}
+use Rattle.table.specs.Test.{decTable}
+use Rattle.table.proofs.Test.{first}
+use Rattle.table.proofs.Pass.{obeyed}
+use Rattle.table.specs.Flat.{rowAt, rowsFrom}
+use Rattle.table.proofs.Flat.{length-rows, rows-same, rows-whole, unroll, rolled-out, spans-in}
 use Rattle.xml.specs.Drain.{sameName, seen, drainedBy, drained, State, going, failed, withValue, withAttribute, popped, step, walk, verdict}
 use Rattle.xml.specs.Drain.{walked}
 use Rattle.xml.specs.Passed.{openAfter, namesAfter}

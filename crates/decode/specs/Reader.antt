@@ -15,7 +15,7 @@ use Rattle.document.specs.Reader as doc
 use Rattle.document.specs.Scope.{Child, dropped, leave, onRoot, rootOf}
 use Rattle.document.specs.View.{isError}
 use Rattle.document.specs.Names.{nameMatches}
-use Rattle.document.specs.Laws.Tags.{Tags}
+use Rattle.document.specs.Tags.{Tags}
 use Rattle.decode.specs.declared.reader.ScopeRow.{ScopeRow}
 use Rattle.decode.specs.declared.reader.Cursor.{Cursor}
 use Rattle.decode.specs.declared.reader.Past.{Past}

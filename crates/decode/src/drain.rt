@@ -23,7 +23,8 @@ pub enum Fault {
 fn is_repeated(body: &[u8], rows: &[u32], tag: usize, k: usize) -> bool
     requires { ⌜ Readable (now body) (now rows) ⌝ }
     requires { ⌜ InTable (now rows) k × (tag < k) ⌝ }
-    ensures { λ r. ⌜ r ≡ seen (nameAt (now (body .entry)) (now (rows .entry)) k) (namesBack (now (body .entry)) (now (rows .entry)) tag k) ⌝ }
+    ensures { λ r. ⌜ r ≡ seen (nameAt (now (body .entry)) (now (rows .entry)) k)
+        (namesBack (now (body .entry)) (now (rows .entry)) tag k) ⌝ }
 {
     let mut j = k;
     while tag + 1 < j {
@@ -102,7 +103,8 @@ fn row_fault(body: &[u8], rows: &[u32], k: usize, tag: usize, top: usize, plain:
     requires { ⌜ InTable (now rows) k × InTable (now rows) top ⌝ }
     requires { ⌜ Placed (now rows) tag k ⌝ }
     requires { ⌜ Clear (now body) 38 (plain .from) (plain .to) ⌝ }
-    ensures { λ r. ⌜ r ≡ faultOf (nameAt (now (body .entry)) (now (rows .entry)) top) (namesBack (now (body .entry)) (now (rows .entry)) tag k) (tokAt (now (body .entry)) (now (rows .entry)) k) ⌝ }
+    ensures { λ r. ⌜ r ≡ faultOf (nameAt (now (body .entry)) (now (rows .entry)) top)
+        (namesBack (now (body .entry)) (now (rows .entry)) tag k) (tokAt (now (body .entry)) (now (rows .entry)) k) ⌝ }
 {
     let kind = field(rows, k, 0);
     if kind == 2 {

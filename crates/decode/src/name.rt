@@ -26,7 +26,8 @@ pub fn matches(prefix: &[u8], local: &[u8], pattern: &[u8]) -> bool
 // The bytes of the span whose start is number j of row k.
 pub fn span<'a, 'b>(body: &'a [u8], rows: &'b [u32], k: usize, j: usize) -> &'a [u8]
     requires { ⌜ SpanAt (now body) (now rows) k j ⌝ }
-    ensures { λ r. ⌜ now r ≡ cut (now (body .entry)) (getD (now (rows .entry)) (k * 8 + j) 0) (getD (now (rows .entry)) (k * 8 + (j + 1)) 0) ⌝ }
+    ensures { λ r. ⌜ now r ≡ cut (now (body .entry)) (getD (now (rows .entry)) (k * 8 + j) 0)
+        (getD (now (rows .entry)) (k * 8 + (j + 1)) 0) ⌝ }
 {
     let from = field(rows, k, j);
     let to = from + field(rows, k, j + 1);

@@ -73,7 +73,8 @@ pub fn less_of(d: usize) -> usize
 // Whether the close tag of row k, which leaves depth d, ends a scope.
 pub fn is_end(body: &[u8], rows: &[u32], scope: ScopeRow, d: usize, k: usize) -> bool
     requires { ⌜ ScopeIn (now body) (now rows) scope k ⌝ }
-    ensures { λ r. ⌜ r ≡ isEnd (scopeAt (now (body .entry)) (now (rows .entry)) scope) (depth d) (nameAt (now (body .entry)) (now (rows .entry)) k) ⌝ }
+    ensures { λ r. ⌜ r ≡ isEnd (scopeAt (now (body .entry)) (now (rows .entry)) scope) (depth d)
+        (nameAt (now (body .entry)) (now (rows .entry)) k) ⌝ }
 {
     match scope {
         ScopeRow::Document => false,
@@ -102,7 +103,8 @@ pub fn depth_after(kind: usize, d: usize) -> usize
 // Whether row k, which leaves depth d, ends a scope.
 pub fn ends_here(body: &[u8], rows: &[u32], scope: ScopeRow, d: usize, k: usize) -> bool
     requires { ⌜ ScopeIn (now body) (now rows) scope k ⌝ }
-    ensures { λ r. ⌜ r ≡ endsAt (scopeAt (now (body .entry)) (now (rows .entry)) scope) (depth d) (tokAt (now (body .entry)) (now (rows .entry)) k) ⌝ }
+    ensures { λ r. ⌜ r ≡ endsAt (scopeAt (now (body .entry)) (now (rows .entry)) scope) (depth d)
+        (tokAt (now (body .entry)) (now (rows .entry)) k) ⌝ }
 {
     if field(rows, k, 0) == 4 {
         return is_end(body, rows, scope, d, k);

@@ -43,7 +43,8 @@ fn text_from(
 ) -> Text
     requires { ⌜ Sees (now body) (now rows) n ⌝ }
     requires { ⌜ HasRow (now rows) scope ⌝ }
-    ensures { λ r. ⌜ TextIs (now (body .entry)) (now (rows .entry)) r (firstFrom (now (body .entry)) (now (rows .entry)) n failure scope (depth deep) from) ⌝ }
+    ensures { λ r. ⌜ TextIs (now (body .entry)) (now (rows .entry)) r
+        (firstFrom (now (body .entry)) (now (rows .entry)) n failure scope (depth deep) from) ⌝ }
 {
     let mut k = from;
     let mut d = deep;
@@ -75,7 +76,8 @@ pub fn try_data(
 ) -> Text
     requires { ⌜ Sees (now body) (now rows) n ⌝ }
     requires { ⌜ StartIn (now body) (now rows) n start ⌝ }
-    ensures { λ r. ⌜ TextIs (now (body .entry)) (now (rows .entry)) r (textOf (failureAt failure) (childAt (now (body .entry)) (now (rows .entry)) n start at)) ⌝ }
+    ensures { λ r. ⌜ TextIs (now (body .entry)) (now (rows .entry)) r
+        (textOf (failureAt failure) (childAt (now (body .entry)) (now (rows .entry)) n start at)) ⌝ }
 {
     if start.closed {
         return Text::Empty;

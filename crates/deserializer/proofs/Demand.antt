@@ -4,11 +4,12 @@ use mathlib.Core.Path.{_≡_, refl, sym, subst}
 use mathlib.Core.List.{List, [], _∷_, _++_}
 use native.Mathlib.Omega.{arith}
 use lib.ListN.{length, drop}
-use Rattle.lists.specs.Every.{Every, every-first, every-rest}
+use Rattle.lists.specs.Every.{Every}
+use Rattle.lists.proofs.Every.{every-first, every-rest}
 use Rattle.lists.specs.Overwrite.{overwritten}
 use Rattle.xml.specs.declared.Drained.{Drained}
 use Rattle.xml.specs.Drain.{drained}
-use Rattle.xml.specs.Means.{drained-passes-is}
+use Rattle.xml.proofs.Means.{drained-passes-is}
 use Rattle.refusal.specs.declared.Refusal.{Refusal}
 use Rattle.readings.specs.Call.{Upload, Call}
 use Rattle.readings.specs.Output.{Entry, Output, Room, Reading, output, outcome, sixNumbers, numbersOf}

@@ -3,6 +3,4 @@ pub mod View
 pub mod Reader
 pub mod Scope
 pub mod Text
-pub mod Laws
-pub mod Passed
-pub mod Examples
+pub mod Tags

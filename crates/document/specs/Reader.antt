@@ -1,6 +1,6 @@
 -- A document that is being read (01, src/decode.rs, `Document`): tokens are taken one by one and the element depth is counted. Scopes
--- (`ScopedDecoder`), the skip to a scope's end, and the next start element in it (`next_start_element`). Each walk has two clauses: what a token does is
--- said by functions that do not recurse.
+-- (`ScopedDecoder`), the skip to a scope's end, and the next start element in it (`next_start_element`). Each walk has two clauses: what a
+-- token does is said by functions that do not recurse.
 use Prim.Native.Nat.{ℕ, zero, suc}
 use mathlib.Core.Bool.{Bool, true, false}
 use mathlib.Core.List.{List, [], _∷_, _++_}
@@ -124,8 +124,8 @@ addAttribute o m v =
 abbrev pub asClosed : StartEl → StartEl
 asClosed o = record { name = o .name; attributes = o .attributes; closed = true; depth = o .depth; row = o .row }
 
--- what a token does to the search for a start element: it goes on with what was met so far; the start tag is complete; or the search is over, at the
--- scope's end or at an attribute that does not unescape
+-- what a token does to the search for a start element: it goes on with what was met so far; the start tag is complete; or the search is
+-- over, at the scope's end or at an attribute that does not unescape
 pub data Turn : Type 0 where
   goes : StartEl → Turn
   complete : StartEl → Turn
@@ -164,4 +164,5 @@ takeTurn (over ended) r more = gone (record { ended = ended; reader = r })
 -- `next_start_element`: o is what was met so far
 unfoldable pub next : Scope → StartEl → Depth → ℕ → List Tok → Next
 next s o d k [] = gone (record { ended = false; reader = reader d k [] })
-next s o d k (t ∷ l) = takeTurn (turn s o d k t) (reader (depthAfter t d) (suc k) l) (λ (o' : StartEl). next s o' (depthAfter t d) (suc k) l)
+next s o d k (t ∷ l) =
+    takeTurn (turn s o d k t) (reader (depthAfter t d) (suc k) l) (λ (o' : StartEl). next s o' (depthAfter t d) (suc k) l)

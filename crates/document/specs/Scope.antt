@@ -1,5 +1,5 @@
--- Elements as a reading meets them: the root (`root_element`), the children of an element (a loop over `next_tag`), and where the reader stands
--- after each.
+-- Elements as a reading meets them: the root (`root_element`), the children of an element (a loop over `next_tag`), and where the reader
+-- stands after each.
 use Prim.Native.Nat.{ℕ, zero, suc, _-_}
 use mathlib.Core.Bool.{true, false}
 use mathlib.Core.List.{List, [], _∷_}
@@ -10,7 +10,8 @@ use Rattle.table.specs.Row.{Tok}
 use Rattle.table.specs.Rules.{lastPosition}
 use Rattle.table.specs.Piece.{pieceStart}
 use Rattle.document.specs.View.{View}
-use Rattle.document.specs.Reader.{Reader, reader, fresh, depth, Scope, document, element, Past, skip, StartEl, blank, Next, found, gone, next}
+use Rattle.document.specs.Reader.{Reader, reader, fresh, depth, Scope, document, element, Past, skip, StartEl, blank, Next, found}
+use Rattle.document.specs.Reader.{gone, next}
 
 -- an element whose start tag was read, and the reader at its content
 pub record Child : Type 0 where
@@ -43,11 +44,16 @@ onNext past more (gone p) = done p
 abbrev pub nextFrom : Scope → Reader → Next
 nextFrom s r = next s blank (r .depth) (r .row) (r .rest)
 
--- the loop over `next_tag`; past says where the reader stands after a child, and the fuel is enough where it exceeds the tokens that are left
+-- the loop over `next_tag`; past says where the reader stands after a child, and the fuel is enough where it exceeds the tokens that are
+-- left
 unfoldable pub level : ℕ → (Child → Reader) → Scope → Reader → Level
 unfolding next
 level zero past s r = done (record { ended = false; reader = r })
 level (suc fuel) past s r = onNext past (level fuel past s) (nextFrom s r)
+
+-- the children of a scope from a reader on
+abbrev pub levelFrom : (Child → Reader) → Scope → Reader → Level
+levelFrom past s r = level (suc (length (r .rest))) past s r
 
 -- of an element; one that ended in `/>` has none
 abbrev pub levelIn : (Child → Reader) → Child → Level

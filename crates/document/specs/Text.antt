@@ -22,7 +22,8 @@ abbrev pub atEnd : Option Refusal → Answer (List ℕ)
 atEnd none = gives []
 atEnd (some r) = refuses r
 
--- ---- "`try_data` gives the first Text token unescaped, \"\" if none, and fails at an inner start tag. It skips CDATA and stops after that first Text."
+-- ---- "`try_data` gives the first Text token unescaped, \"\" if none, and fails at an inner start tag. It skips CDATA and stops after that
+-- first Text."
 -- what a token that leaves depth d says of the text; `more` is what those after it say
 abbrev pub textTurn : Scope → Depth → Tok → Answer (List ℕ) → Answer (List ℕ)
 textTurn s d (start n) more = refuses Refusal.ElementInText
@@ -52,7 +53,8 @@ joinTurn s d (attr m v) more = more
 joinTurn s d gt more = more
 joinTurn s d (close m) more = pick (isEnd s d m) (gives []) more
 joinTurn s d slash more = more
-joinTurn s d (text v) more = onward (unescapedText (unescaped v)) (λ (front : List ℕ). onward more (λ (rest : List ℕ). gives (front ++ rest)))
+joinTurn s d (text v) more =
+    onward (unescapedText (unescaped v)) (λ (front : List ℕ). onward more (λ (rest : List ℕ). gives (front ++ rest)))
 joinTurn s d misc more = more
 joinTurn s d bad more = more
 

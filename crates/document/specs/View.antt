@@ -10,8 +10,8 @@ use Rattle.xml.specs.declared.Cause.{Cause}
 use Rattle.xml.specs.declared.Drained.{Drained}
 use Rattle.xml.specs.Drain.{walked}
 
--- the rows that a reader takes one by one; what it meets when they run out, if anything; whether it is refused with 9 at its end; and the stream
--- position at the end of the rows, where a piece ends whose own rows run out
+-- the rows that a reader takes one by one; what it meets when they run out, if anything; whether it is refused with 9 at its end; and the
+-- stream position at the end of the rows, where a piece ends whose own rows run out
 pub record View : Type 0 where
   pub rows : List Row
   pub failure : Option Refusal
@@ -28,8 +28,8 @@ positionAt final [] k = final
 positionAt final (r ∷ rest) zero = r .position
 positionAt final (r ∷ rest) (suc k) = positionAt final rest k
 
--- what a text meets: "In a text under strict reading a mismatched or unclosed tag gives 9". (A text never meets a repeated attribute: the start row before
--- it gives 6.)
+-- what a text meets: "In a text under strict reading a mismatched or unclosed tag gives 9". (A text never meets a repeated attribute: the
+-- start row before it gives 6.)
 abbrev pub failureOf : Cause → Refusal
 failureOf Cause.TokenError = Refusal.TokenError
 failureOf Cause.MismatchedEnd = Refusal.IllFormed
@@ -41,7 +41,8 @@ failureOf Cause.BadReference = Refusal.BadReference
 abbrev pub strictView : List Row → ℕ → Drained → View
 strictView rows final Drained.Passes = whole rows final
 strictView rows final Drained.Table = whole rows final
-strictView rows final (Drained.IllFormed k cause) = record { rows = take k rows; failure = some (failureOf cause); illFormed = true; ends = positionAt final rows k }
+strictView rows final (Drained.IllFormed k cause) =
+    record { rows = take k rows; failure = some (failureOf cause); illFormed = true; ends = positionAt final rows k }
 
 abbrev pub isError : Tok → Bool
 isError (start n) = false

@@ -1,4 +1,5 @@
-// The bodies at the edges that are read by a sheet (01, "Bodies at the edges", "Where a hasty port strays"): each with its table, sheet, flags and depth.
+// The bodies at the edges that are read by a sheet (01, "Bodies at the edges", "Where a hasty port strays"): each with its table, sheet,
+// flags and depth.
 use crate::put_row;
 use crate::show::list_edge;
 use crate::show::map_edge;

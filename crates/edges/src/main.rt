@@ -1,7 +1,8 @@
-// The bodies at the edges of the scope paper (01, "Bodies at the edges"), run through the proved functions. For each text a line: the text, what
-// `validate_references` answers, and the bytes that `unescape` gives, in hexadecimal; a refusal is its number. For each body with a table a line: the body, and
-// the drain's number, row and cause, the causes counted from 1 in the paper's order; then readings, with their entries and texts, and integers. `stdout` has what the paper expects, written by hand from the paper, and the
-// check compares. It rests on `unescape` and `falzheod`.
+// The bodies at the edges of the scope paper (01, "Bodies at the edges"), run through the proved functions. For each text a line: the text,
+// what `validate_references` answers, and the bytes that `unescape` gives, in hexadecimal; a refusal is its number. For each body with a
+// table a line: the body, and the drain's number, row and cause, the causes counted from 1 in the paper's order; then readings, with their
+// entries and texts, and integers. `stdout` has what the paper expects, written by hand from the paper, and the check compares. It rests on
+// `unescape` and `falzheod`.
 mod bodies;
 mod show;
 

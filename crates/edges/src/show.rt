@@ -1,5 +1,5 @@
-// Readings of a body at the edges, each a line: the body, the operation, the flags and the depth where they are not 0, the number, and each entry as its six
-// numbers, with the texts behind them.
+// Readings of a body at the edges, each a line: the body, the operation, the flags and the depth where they are not 0, the number, and each
+// entry as its six numbers, with the texts behind them.
 use falzheod::aggregates::falzheod_read_list;
 use falzheod::aggregates::falzheod_read_map;
 use falzheod::aggregates::falzheod_read_struct;

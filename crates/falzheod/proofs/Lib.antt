@@ -1,2 +1,3 @@
--- Laws of the scalar readings as open operations.
+-- Laws of the open operations.
 pub mod Flags
+pub mod Numbers

@@ -3,11 +3,10 @@ use Prim.Native.Nat.{ℕ}
 use mathlib.Core.Path.{_≡_}
 use mathlib.Core.Bool.{Bool, true, false}
 use mathlib.Core.List.{List}
-use borrow.Author.Needs.{needs}
 use lib.ListN.{length}
 use Rattle.refusal.specs.declared.Refusal.{Refusal}
 use Rattle.refusal.specs.Numbers.{number}
-use Rattle.reference.specs.Text.{answer, filled, unescaped, Unescape}
+use Rattle.reference.specs.Text.{answer, filled, unescaped}
 use Rattle.reference.specs.declared.Validated.{Validated}
 use Rattle.reference.specs.declared.Unescaped.{Unescaped}
 use Rattle.xml.specs.declared.Cause.{Cause}
@@ -75,40 +74,3 @@ pub record DrainCall (d : Drained) (row cause r : ℕ) : Type 0 where
   pub number : r ≡ drainedNumber d
   pub first : row ≡ drainedRow d
   pub why : cause ≡ drainedCause d
-
--- ---- each case, from what the call ensures of its answer and what the match found
-module _ {x : Validated} (y : Validated) (q : x ≡ y) where
-  pub call-valid : x ≡ Validated.Valid → finished ≡ validatedNumber y
-  call-valid e = rw (← q, e)
-
-  pub call-invalid : x ≡ Validated.BadReference → number Refusal.BadReference ≡ validatedNumber y
-  call-invalid e = rw (← q, e)
-
-module _ {text old new : List ℕ} {x : Unescaped} (u : Unescape text old new x) where
-  pub call-length : {n : ℕ} → x ≡ Unescaped.Length n → UnescapeCall text old new n finished
-  call-length e = record { number = rw (← u .number, e); written = rw (← u .number, e); buffer = u .buffer }
-
-  pub call-bad : x ≡ Unescaped.BadReference → UnescapeCall text old new 0 (number Refusal.BadReference)
-  call-bad e = record { number = rw (← u .number, e); written = rw (← u .number, e); buffer = u .buffer }
-
-  pub call-none : x ≡ Unescaped.NoRoom → UnescapeCall text old new 0 (number Refusal.NoRoom)
-  call-none e = record { number = rw (← u .number, e); written = rw (← u .number, e); buffer = u .buffer }
-
-module _ (d : Drained) {x : Drained} (q : x ≡ d) where
-  pub call-passes : x ≡ Drained.Passes → DrainCall d 0 0 finished
-  call-passes e = record { number = rw (← q, e); first = rw (← q, e); why = rw (← q, e) }
-
-  pub call-table : x ≡ Drained.Table → DrainCall d 0 0 (number Refusal.Table)
-  call-table e = record { number = rw (← q, e); first = rw (← q, e); why = rw (← q, e) }
-
-  pub call-ill-formed : {row n : ℕ} {cause : Cause} → x ≡ Drained.IllFormed row cause → n ≡ causeNumber cause → DrainCall d row n (number Refusal.IllFormed)
-  call-ill-formed e c = record { number = rw (← q, e); first = rw (← q, e); why = rw (← q, e) c }
-
-module _ {x : Bool} (y : Bool) (q : x ≡ y) where
-  pub call-yes : x ≡ true → 1 ≡ yesNo y
-  call-yes e = rw (← q, e)
-
-  pub call-no : x ≡ false → 0 ≡ yesNo y
-  call-no e = rw (← q, e)
-
-pub ruleset call-laws = (needs, call-valid, call-invalid, call-length, call-bad, call-none, call-yes, call-no, call-passes, call-table, call-ill-formed)

@@ -14,7 +14,7 @@ use Rattle.reference.specs.Text.{decode, unescaped}
 use Rattle.document.specs.Reader.{Reader}
 use Rattle.document.specs.Scope.{Child, childrenOf, dropping}
 use Rattle.document.specs.Text.{unescapedText, textOf}
-use Rattle.document.specs.Laws.Short.{cut-short}
+use Rattle.document.proofs.Laws.Short.{cut-short}
 use Rattle.sheet.specs.declared.ShapeDepth.{ShapeDepth}
 use Rattle.sheet.specs.Settings.{isStrict, tooDeep}
 use Rattle.sheet.specs.Names.{itemName}

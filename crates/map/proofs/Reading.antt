@@ -9,7 +9,7 @@ use lib.ListN.{length}
 use Rattle.refusal.specs.declared.Refusal.{Refusal}
 use Rattle.refusal.specs.Answer.{Answer, onward}
 use Rattle.document.specs.Scope.{Level, done, children, childrenOf, dropping, endOf, leave, afterChildren}
-use Rattle.document.specs.Laws.Fuel.{dropping-shortens}
+use Rattle.document.proofs.Laws.Fuel.{dropping-shortens}
 use Rattle.sheet.specs.Sheet.{MapSheet}
 use Rattle.readings.specs.Collection.{noFields, readFields, readPlan, entryPlan, afterEntry}
 use Rattle.readings.specs.Collection as read

@@ -7,14 +7,14 @@ use mathlib.Core.Option.{Option, none, some}
 use native.Mathlib.Omega.{arith}
 use borrow.Author.Needs.{needs}
 use borrow.Author.Tests.{not-true, not-false}
-use Rattle.lists.specs.Tests.{false-true}
+use Rattle.lists.proofs.Tests.{false-true}
 use Rattle.lists.specs.Decide.{isYes}
 use Rattle.refusal.specs.declared.Refusal.{Refusal}
 use Rattle.refusal.specs.Answer.{Answer, gives, refuses, onward}
 use Rattle.table.specs.Row.{rowsOf, toksOf}
 use Rattle.table.specs.Rules.{TableRules}
 use Rattle.table.specs.Test.{decTable}
-use Rattle.table.specs.Pass.{obeyed}
+use Rattle.table.proofs.Pass.{obeyed}
 use Rattle.document.specs.View.{view}
 use Rattle.document.specs.View as doc
 use Rattle.document.specs.Scope.{rootOf}

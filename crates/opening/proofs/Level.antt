@@ -5,7 +5,8 @@ use mathlib.Core.List.{List, [], _∷_}
 use native.Mathlib.Omega.{arith}
 use Rattle.document.specs.Reader.{Reader}
 use Rattle.document.specs.Scope.{Child, meets, done, onNext, children, dropping}
-use Rattle.document.specs.Laws.Fuel.{Shortens, levelFrom, level-step, dropping-shortens}
+use Rattle.document.proofs.Laws.Fuel.{Shortens, level-step, dropping-shortens}
+use Rattle.document.specs.Scope.{levelFrom}
 use Rattle.decode.specs.declared.reader.ScopeRow.{ScopeRow}
 use Rattle.decode.specs.declared.reader.Cursor.{Cursor}
 use Rattle.decode.specs.declared.reader.Past.{Past}

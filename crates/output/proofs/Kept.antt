@@ -14,10 +14,11 @@ use lib.ListN.{length, set, getD, take, drop, length-append, length-drop}
 use lib.Seq.{sets, length-sets, drop-cons}
 use Rattle.lists.specs.Tests.{pick}
 use Rattle.lists.specs.Bytes.{ascii}
-use Rattle.lists.specs.Overwrite.{Stored, sets-append}
+use Rattle.lists.specs.Overwrite.{Stored}
+use Rattle.lists.proofs.Overwrite.{sets-append}
 use Rattle.refusal.specs.declared.Refusal.{Refusal}
 use Rattle.table.specs.Row.{cut}
-use Rattle.table.specs.Moved.{length-cut}
+use Rattle.table.proofs.Moved.{length-cut}
 use Rattle.document.specs.Scope.{Piece}
 use Rattle.readings.specs.Output.{sixNumbers, groupEntry}
 use Rattle.output.specs.declared.Written.{Written}

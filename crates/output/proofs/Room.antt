@@ -12,8 +12,9 @@ use mir.Syntax.{w64}
 use lib.Dec.{ltb, leb}
 use lib.ListN.{length, set, length-append}
 use lib.Seq.{sets, length-sets}
-use Rattle.lists.specs.Tests.{pick, false-true}
-use Rattle.lists.specs.Overwrite.{overwrite-more}
+use Rattle.lists.specs.Tests.{pick}
+use Rattle.lists.proofs.Tests.{false-true}
+use Rattle.lists.proofs.Overwrite.{overwrite-more}
 use Rattle.refusal.specs.declared.Refusal.{Refusal}
 use Rattle.refusal.specs.Numbers.{number}
 use Rattle.readings.specs.Output.{Entry, Output, refused, sixNumbers, numbersOf, fits}

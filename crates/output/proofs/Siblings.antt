@@ -10,7 +10,7 @@ use lib.Dec.{eqb, leb}
 use lib.ListN.{length, getD, take, length-append, List·getD-append}
 use lib.Seq.{sets, length-sets, length-take-le, getD-append-add}
 use Rattle.lists.specs.Tests.{pick}
-use Rattle.lists.specs.Overwrite.{take-sets}
+use Rattle.lists.proofs.Overwrite.{take-sets}
 use Rattle.table.specs.Row.{cut}
 use Rattle.document.specs.View.{View}
 use Rattle.document.specs.Scope.{Child, Piece, pieceOf}

@@ -8,10 +8,11 @@ use borrow.Author.Needs.{needs}
 use borrow.Author.Tests.{le-leb}
 use lib.ListN.{length, length-append}
 use lib.Seq.{sets, length-sets}
-use Rattle.lists.specs.Overwrite.{overwritten, rest, back, rest-length, back-stored, sets-append}
+use Rattle.lists.specs.Overwrite.{overwritten}
+use Rattle.lists.proofs.Overwrite.{rest, back, rest-length, back-stored, sets-append}
 use Rattle.refusal.specs.declared.Refusal.{Refusal}
 use Rattle.reference.specs.Text.{Out, bytes, bad, decode, unescaped, filled}
-use Rattle.reference.specs.Result.{unescaped-shorter}
+use Rattle.reference.proofs.Result.{unescaped-shorter}
 use Rattle.reference.specs.declared.Unescaped.{Unescaped}
 use Rattle.unescape.specs.Loops.{sizeOf}
 use Rattle.unescape.specs.Fill.{Room}

@@ -17,7 +17,8 @@ pub fn refuse_long(what: &[u8]) {
     );
 }
 
-// One more read, after the buffer is full or the file is at its end, tells a file that fits from one that is too long and from one that cannot be read.
+// One more read, after the buffer is full or the file is at its end, tells a file that fits from one that is too long and from one that
+// cannot be read.
 fn read_opened(fd: i32, path: &[u8], out: &mut [u8]) -> Content {
     let n = io::read_full(fd, out);
     let mut more = [0u8; 1];

@@ -1,5 +1,5 @@
-// Where a row's token begins in the body, as a place, and that place as a person counts it: by line and column. Every index is tested, so that a table that is not
-// the body's gives a wrong place at worst.
+// Where a row's token begins in the body, as a place, and that place as a person counts it: by line and column. Every index is tested, so
+// that a table that is not the body's gives a wrong place at worst.
 
 fn wide(x: u32) -> usize {
     x as usize

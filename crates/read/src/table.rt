@@ -1,5 +1,5 @@
-// A file with a token table: 32-bit numbers, four bytes each, the lowest first. The first number is the final position, the others are those of the rows. Whether
-// they obey the rules of a table is the drain's to test.
+// A file with a token table: 32-bit numbers, four bytes each, the lowest first. The first number is the final position, the others are
+// those of the rows. Whether they obey the rules of a table is the drain's to test.
 ghost use Prim.Native.Nat.{_<_};
 use crate::file;
 use crate::file::Content;

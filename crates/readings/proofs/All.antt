@@ -1,6 +1,6 @@
 -- One name that unfolds every definition of the readings, for an answer that computes: `unfolding computed`.
 use Rattle.lists.specs.Bytes.{sameb}
-use Rattle.reference.specs.All as reference
+use Rattle.reference.proofs.All as reference
 use Rattle.table.specs.Row.{rowsOf, tokAs}
 use Rattle.table.specs.Rules.{lastLt}
 use Rattle.table.specs.Piece.{closing, isClosed}

@@ -1,12 +1,4 @@
 pub mod Number
 pub mod Entity
 pub mod Text
-pub mod Taken
-pub mod Walk
-pub mod Lenient
-pub mod Result
-pub mod Answer
 pub mod Xml
-pub mod Grammar
-pub mod All
-pub mod Examples

@@ -26,8 +26,8 @@ fn is_valid(text: &[u8]) -> bool {
     }
 }
 
-// The byte that is to stand at place `i` after a call with `room` bytes lent: the result's, and past the result what stood there before the call. That differs
-// from place to place and from room to room, so that a byte written where none should be shows in one of the calls.
+// The byte that is to stand at place `i` after a call with `room` bytes lent: the result's, and past the result what stood there before the
+// call. That differs from place to place and from room to room, so that a byte written where none should be shows in one of the calls.
 fn expected(result: &[u8], room: usize, i: usize) -> u8 {
     if i < result.len() {
         result[i]

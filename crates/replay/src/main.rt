@@ -1,8 +1,9 @@
-// Replays recorded answers of the Rust against the proved functions. Standard input has an answer a line, `v TEXT NUMBER` of `validate_references`,
-// `u TEXT NUMBER [RESULT]` of `unescape`, or `d BODY FINAL ROWS NUMBER [ROW CAUSE]` of the drain: bytes in lower-case hexadecimal, rows as their numbers parted by
-// commas, `-` for none, the number 0, 7 or 9, the result where it is 0, and row and cause where it is 9. The program says
-// how many answers it replayed and how many differ, and names the first lines that differ or that it cannot read, so its output is the expected one only where
-// all agree. It rests on `unescape` and `falzheod`, and on the recording being the Rust's; that the input is read as it stands rests on the system's calls.
+// Replays recorded answers of the Rust against the proved functions. Standard input has an answer a line, `v TEXT NUMBER` of
+// `validate_references`, `u TEXT NUMBER [RESULT]` of `unescape`, or `d BODY FINAL ROWS NUMBER [ROW CAUSE]` of the drain: bytes in
+// lower-case hexadecimal, rows as their numbers parted by commas, `-` for none, the number 0, 7 or 9, the result where it is 0, and row and
+// cause where it is 9. The program says how many answers it replayed and how many differ, and names the first lines that differ or that it
+// cannot read, so its output is the expected one only where all agree. It rests on `unescape` and `falzheod`, and on the recording being
+// the Rust's; that the input is read as it stands rests on the system's calls.
 mod answer;
 mod field;
 mod reading;

@@ -1,5 +1,5 @@
-// One recorded answer of a reading: read from its line, and compared with ours. Fields are counted from 0; after the operation come the body, the final
-// position and the rows, and then what is asked and what was answered, as src/main.rt says.
+// One recorded answer of a reading: read from its line, and compared with ours. Fields are counted from 0; after the operation come the
+// body, the final position and the rows, and then what is asked and what was answered, as src/main.rt says.
 use crate::answer::Outcome;
 use crate::field;
 use crate::field::Decoded;
@@ -266,8 +266,8 @@ fn replay_sheet(operation: u8, line: &[u8], body: &[u8], rows: &[u32]) -> Outcom
     replay_answer(operation, line, body, rows, &sheet[0..n], a)
 }
 
-// The scalars of a body: field 4 has the flags, 5 the depth, 6 the number, and 7 the value where it is 0. What a value is lent holds before is left alone by a
-// refusal.
+// The scalars of a body: field 4 has the flags, 5 the depth, 6 the number, and 7 the value where it is 0. What a value is lent holds before
+// is left alone by a refusal.
 fn reads_boolean(line: &[u8], body: &[u8], rows: &[u32]) -> bool {
     let mut value = MARK;
     let answer = falzheod_read_boolean(

@@ -11,7 +11,8 @@ use mir.Val.{Fits}
 use mir.Syntax.{w64}
 use lib.Dec.{leb}
 use lib.ListN.{length}
-use Rattle.lists.specs.Overwrite.{overwritten, Stored, rest, back, rest-length, back-stored}
+use Rattle.lists.specs.Overwrite.{overwritten, Stored}
+use Rattle.lists.proofs.Overwrite.{rest, back, rest-length, back-stored}
 use Rattle.refusal.specs.declared.Refusal.{Refusal}
 use Rattle.refusal.specs.Answer.{Answer, gives, refuses, onward}
 use Rattle.reference.specs.Text.{answer, filled, unescaped, Unescape}
@@ -24,7 +25,7 @@ use Rattle.xml.specs.declared.Drained.{Drained}
 use Rattle.xml.specs.Drain.{drainedBy, drained}
 use Rattle.document.specs.View.{view}
 use Rattle.document.specs.View as doc
-use Rattle.document.specs.Passed.View.{view-passed}
+use Rattle.document.proofs.Passed.View.{view-passed}
 use Rattle.document.specs.Scope.{Child, rootOf}
 use Rattle.document.specs.Text.{wholeOf}
 use Rattle.readings.specs.Call.{uploaded}

@@ -10,18 +10,19 @@ use mir.Syntax.{w64}
 use lib.ListN.{length, getD, length-append}
 use lib.Seq.{length-sets}
 use Rattle.lists.specs.Tests.{pick}
-use Rattle.lists.specs.Overwrite.{overwritten, overwrite-none, overwrite-more, Stored}
+use Rattle.lists.specs.Overwrite.{overwritten, Stored}
+use Rattle.lists.proofs.Overwrite.{overwrite-none, overwrite-more}
 use Rattle.refusal.specs.declared.Refusal.{Refusal}
 use Rattle.refusal.specs.Answer.{Answer, gives, refuses}
 use Rattle.reference.specs.Text.{Out, bytes, bad, unescaped}
-use Rattle.reference.specs.Result.{unescaped-shorter}
+use Rattle.reference.proofs.Result.{unescaped-shorter}
 use Rattle.reference.specs.declared.Unescaped.{Unescaped}
 use Rattle.unescape.specs.Loops.{sizeOf}
 use Rattle.table.specs.Row.{Name, Tok, tokAs}
 use Rattle.document.specs.declared.Depth.{Depth}
 use Rattle.document.specs.Reader.{depth, depthAfter, Scope, endsAt}
 use Rattle.document.specs.Text.{joinTurn, joined}
-use Rattle.document.specs.Laws.Short.{cut-short}
+use Rattle.document.proofs.Laws.Short.{cut-short}
 use Rattle.decode.specs.declared.reader.ScopeRow.{ScopeRow}
 use Rattle.decode.specs.declared.view.View.{View}
 use Rattle.decode.specs.Rows.{InTable, nameAt, valueAt, tokAt}

@@ -9,17 +9,18 @@ use lib.Dec.{leb}
 use lib.IntN.{ℤ}
 use lib.ListN.{length, getD, take, drop}
 use Rattle.lists.specs.Tests.{pick}
-use Rattle.lists.specs.Bytes.{ascii, sameb, same-is}
+use Rattle.lists.specs.Bytes.{ascii, sameb}
+use Rattle.lists.proofs.Bytes.{same-is}
 use Rattle.lists.specs.Find.{NextAt}
 use Rattle.lists.specs.Overwrite.{overwritten}
 use Rattle.refusal.specs.declared.Refusal.{Refusal}
 use Rattle.refusal.specs.Answer.{Answer, gives, refuses, onward}
 use Rattle.reference.specs.Text.{Out, bytes, bad, answer, filled, unescaped, Unescape}
-use Rattle.reference.specs.Result.{unescaped-shorter}
+use Rattle.reference.proofs.Result.{unescaped-shorter}
 use Rattle.reference.specs.declared.Unescaped.{Unescaped}
 use Rattle.unescape.specs.Loops.{sizeOf}
 use Rattle.document.specs.Text.{unescapedText, textOf}
-use Rattle.document.specs.Laws.Short.{cut-short}
+use Rattle.document.proofs.Laws.Short.{cut-short}
 use Rattle.sheet.specs.declared.ShapeDepth.{ShapeDepth}
 use Rattle.sheet.specs.Settings.{isStrict}
 use Rattle.sheet.specs.Settings as sheet

@@ -15,9 +15,11 @@ use lib.Dec.{leb, ltb, eqb}
 use lib.IntN.{ℤ, pos, negsuc, _-ℤ_}
 use lib.ListN.{length, getD, drop, drop-of-length-le}
 use lib.Seq.{drop-cons, sets-eq}
-use Rattle.lists.specs.Tests.{pick, within, is-within, within-is}
+use Rattle.lists.specs.Tests.{pick, within}
+use Rattle.lists.proofs.Tests.{is-within, within-is}
 use Rattle.lists.specs.Bytes.{ascii, sameb}
-use Rattle.lists.specs.Overwrite.{overwritten, overwrite-none, Stored}
+use Rattle.lists.specs.Overwrite.{overwritten, Stored}
+use Rattle.lists.proofs.Overwrite.{overwrite-none}
 use Rattle.refusal.specs.declared.Refusal.{Refusal}
 use Rattle.refusal.specs.Answer.{Answer}
 use Rattle.reference.specs.Number.{digit, number}

@@ -9,11 +9,11 @@ use lib.Dec.{leb}
 use lib.ListN.{length, take, drop, length-append}
 use lib.Seq.{take-append-seam}
 use Rattle.lists.specs.Tests.{pick}
-use Rattle.lists.specs.Parts.{getD-in}
+use Rattle.lists.proofs.Parts.{getD-in}
 use Rattle.lists.specs.Find.{NextAt}
 use Rattle.lists.specs.Overwrite.{overwritten}
 use Rattle.reference.specs.Text.{Out, bytes, bad, answer, filled, unescaped, Unescape}
-use Rattle.reference.specs.Result.{plain-unescapes}
+use Rattle.reference.proofs.Result.{plain-unescapes}
 use Rattle.reference.specs.declared.Unescaped.{Unescaped}
 use Rattle.unescape.specs.Loops.{sizeOf}
 

@@ -1,5 +1,5 @@
--- Fields at the front of a sheet's bytes (01, "Sheets and entries"): "A sheet is a bit map byte, then only the fields whose bit stands, in bit
--- order; higher bits are 0. A name is a length byte 1..255, then bytes." .. "The sheet ends with its last field."
+-- Fields at the front of a sheet's bytes (01, "Sheets and entries"): "A sheet is a bit map byte, then only the fields whose bit stands, in
+-- bit order; higher bits are 0. A name is a length byte 1..255, then bytes." .. "The sheet ends with its last field."
 use Prim.Native.Nat.{ℕ, zero, suc, _/_, _%_}
 use mathlib.Core.Bool.{Bool, true, false}
 use mathlib.Core.List.{List, [], _∷_}

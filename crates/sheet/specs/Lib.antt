@@ -2,6 +2,3 @@ pub mod Settings
 pub mod Front
 pub mod Sheet
 pub mod Names
-pub mod Limits
-pub mod Exact
-pub mod Examples

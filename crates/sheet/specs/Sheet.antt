@@ -40,8 +40,8 @@ memberList s = then (byte s) (λ n rest. whereHolds (leb n mostMembers) (times m
 unfoldable pub structureOf : List ℕ → Option Structure
 unfolding times
 structureOf sheet =
-    all (then (bitMap 16 sheet) (λ b s1. then (nameIf (bit 1 b) s1) (λ x s2. then (nameIf (bit 2 b) s2) (λ o s3. then (nameIf (bit 4 b) s3) (λ m s4.
-    then (name s4) (λ shape s5. then (memberList s5) (λ l s6.
+    all (then (bitMap 16 sheet) (λ b s1. then (nameIf (bit 1 b) s1) (λ x s2. then (nameIf (bit 2 b) s2) (λ o s3.
+    then (nameIf (bit 4 b) s3) (λ m s4. then (name s4) (λ shape s5. then (memberList s5) (λ l s6.
     front (record { xmlName = x; originalName = o; memberName = m; unwrapped = bit 8 b; shapeName = shape; members = l }) s6)))))))
 
 -- ---- list

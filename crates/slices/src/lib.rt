@@ -27,7 +27,8 @@ pub fn same(a: &[u8], b: &[u8]) -> bool
     true
 }
 
-// Whether a byte may stand in a block: where this says no, it does not. The loop has no way out, so that it compiles to vectors; so the count is a byte, and the block short.
+// Whether a byte may stand in a block: where this says no, it does not. The loop has no way out, so that it compiles to vectors; so the
+// count is a byte, and the block short.
 fn block_has(s: &[u8], from: usize, width: usize, x: u8) -> bool
     requires { ⌜ (from + width ≤ length (now s)) × (width < 256) ⌝ }
     ensures { λ r. ⌜ Tested (now (s .entry)) x from (from + width) r ⌝ }

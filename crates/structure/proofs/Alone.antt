@@ -14,7 +14,8 @@ use Rattle.lists.specs.Tests.{pick}
 use Rattle.refusal.specs.declared.Refusal.{Refusal}
 use Rattle.table.specs.Row.{Row, Name, tokAs}
 use Rattle.table.specs.Rules.{among}
-use Rattle.table.specs.Flat.{rowAt, rowsFrom, unroll, rolled-out}
+use Rattle.table.specs.Flat.{rowAt, rowsFrom}
+use Rattle.table.proofs.Flat.{unroll, rolled-out}
 use Rattle.table.specs.Piece.{openCount, closing, isClosed, pieceStart}
 use Rattle.document.specs.declared.Depth.{Depth}
 use Rattle.document.specs.Reader.{depth, depthAfter, less}

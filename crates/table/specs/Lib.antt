@@ -2,10 +2,7 @@ pub mod Row
 pub mod Rules
 pub mod Piece
 pub mod Flat
-pub mod Moved
-pub mod Element
 pub mod Test
-pub mod Examples
 pub mod Spans
 pub mod Bytes
 pub mod Order

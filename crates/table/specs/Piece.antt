@@ -33,8 +33,8 @@ moved s r =
 abbrev pub openCount : ℕ → Row → ℕ
 openCount n r = pick (eqb (r .kind) 1) (suc n) (pick (among (4 ∷ 5 ∷ []) (r .kind)) (n - 1) n)
 
--- "the row that closes it, kind 4 or 5": how many rows there are up to and with the first after which none is open, where n elements are open, the element
--- itself among them (0 before its start row); all rows where none closes it
+-- "the row that closes it, kind 4 or 5": how many rows there are up to and with the first after which none is open, where n elements are
+-- open, the element itself among them (0 before its start row); all rows where none closes it
 unfoldable pub closing : ℕ → List Row → ℕ
 closing n [] = zero
 closing n (r ∷ rest) =

@@ -1,9 +1,7 @@
 -- Rows of a token table (01, "Token table"), and the token that a row stands for.
-use Prim.Native.Nat.{ℕ, zero, suc, _%_}
-use mathlib.Core.Path.{_≡_, refl, ap}
+use Prim.Native.Nat.{ℕ, zero, suc}
 use mathlib.Core.List.{List, [], _∷_, map}
-use native.Mathlib.Omega.{arith}
-use lib.ListN.{length, take, drop}
+use lib.ListN.{take, drop}
 
 -- "Eight 32-bit numbers a row: kind, prefix start and length, local start and length, value start and length, stream position after
 -- the token"
@@ -35,16 +33,6 @@ unfoldable pub tableOf : List Row → List ℕ
 tableOf [] = []
 tableOf (r ∷ rows) =
     r .kind ∷ r .prefixStart ∷ r .prefixLen ∷ r .localStart ∷ r .localLen ∷ r .valueStart ∷ r .valueLen ∷ r .position ∷ tableOf rows
-
-pub rows-table : (rows : List Row) → rowsOf (tableOf rows) ≡ rows
-unfolding rowsOf tableOf
-rows-table [] = refl
-rows-table (r ∷ rows) = ap {B = List Row} (λ l. r ∷ l) (rows-table rows)
-
-pub table-whole : (rows : List Row) → length (tableOf rows) % 8 ≡ 0
-unfolding tableOf
-table-whole [] = refl
-table-whole (r ∷ rows) = omega (arith, table-whole rows)
 
 -- the bytes of a span
 abbrev pub cut : List ℕ → ℕ → ℕ → List ℕ

@@ -7,7 +7,9 @@ use Rattle.lists.specs.Decide.{_and_, _implies_, same, isTrue, isFalse}
 use Rattle.utf8.specs.Table.{isUtf8, walk, inRange}
 use Rattle.utf8.specs.Table as utf8
 use Rattle.table.specs.Row.{Row, rowsOf}
-use Rattle.table.specs.Rules.{mostRows, mostBytes, mostOpen, among, usesName, usesValue, Place, atFirst, after, KnownKind, ZeroFields, FilledSpan, FilledSpans, LocalStart, lastLt, beginOf, TagBegins, EndsIn, Ending, TagOrder, NeedsOpen, AfterRoot, ErrorLast, OpenLimit, RowRules, EachRow, none, row, lastPosition, Rules, TableRules}
+use Rattle.table.specs.Rules.{mostRows, mostBytes, mostOpen, among, usesName, usesValue, Place, atFirst, after, KnownKind, ZeroFields}
+use Rattle.table.specs.Rules.{FilledSpan, FilledSpans, LocalStart, lastLt, beginOf, TagBegins, EndsIn, Ending, TagOrder, NeedsOpen}
+use Rattle.table.specs.Rules.{AfterRoot, ErrorLast, OpenLimit, RowRules, EachRow, none, row, lastPosition, Rules, TableRules}
 
 unfoldable pub decKind : (r : Row) → Dec (KnownKind r)
 unfolding decLe
@@ -44,7 +46,8 @@ unfoldable pub decTag : (body : List ℕ) (p : Place) (r : Row) → Dec (TagBegi
 unfolding ℕ-discrete decLe decLt lastLt
 decTag body p r =
     isTrue (among (1 ∷ 4 ∷ []) (r .kind)) implies
-    same (λ t. record { is = t .0; before = t .1 .0; late = t .1 .1 .0; prefix = t .1 .1 .1 }) (λ l. (l .is, (l .before, (l .late, l .prefix))))
+    same (λ t. record { is = t .0; before = t .1 .0; late = t .1 .1 .0; prefix = t .1 .1 .1 })
+    (λ l. (l .is, (l .before, (l .late, l .prefix))))
     (ℕ-discrete (getD body (beginOf body r) 0) 60
     and decLt (beginOf body r) (r .localStart)
     and decLe (p .position) (beginOf body r)
@@ -122,19 +125,26 @@ decRow body p r rest =
     (decKind r and decZero r and decLe (p .position) (r .position) and decSpans p r and decLocal p r and decTag body p r
     and decEnding body r and decOrder p r and decOpen p r and decRoot p r and decError r rest and decLimit p r)
 
--- the rules of the first row, and of the rest
-pub first : {body : List ℕ} {p : Place} {r : Row} {rest : List Row} → EachRow body p (r ∷ rest) → RowRules body p r rest × EachRow body (after p r) rest
-first (row k t) = (k, t)
-
 unfoldable pub decEach : (body : List ℕ) (p : Place) (rows : List Row) → Dec (EachRow body p rows)
 unfolding decRow
 decEach body p [] = yes none
 decEach body p (r ∷ rest) = same (λ t. row (t .0) (t .1)) first (decRow body p r rest and decEach body (after p r) rest)
+  where
+    first : EachRow body p (r ∷ rest) → RowRules body p r rest × EachRow body (after p r) rest
+    first (row k t) = (k, t)
 
 unfoldable pub decRules : (body : List ℕ) (rows : List Row) (final : ℕ) → Dec (Rules body rows final)
 unfolding decLe decLt decEach isUtf8 walk inRange utf8.after utf8.table
 decRules body rows final =
-    same (λ t. record { fewRows = t .0; fewBytes = t .1 .0; utf8 = t .1 .1 .0; ends = t .1 .1 .1 .0; within = t .1 .1 .1 .1 .0; each = t .1 .1 .1 .1 .1 })
+    same
+    (λ t. record {
+      fewRows = t .0;
+      fewBytes = t .1 .0;
+      utf8 = t .1 .1 .0;
+      ends = t .1 .1 .1 .0;
+      within = t .1 .1 .1 .1 .0;
+      each = t .1 .1 .1 .1 .1;
+    })
     (λ k. (k .fewRows, (k .fewBytes, (k .utf8, (k .ends, (k .within, k .each))))))
     (decLe (length rows) mostRows and decLe (length body) mostBytes
     and (decLt 0 (length rows) implies isTrue (isUtf8 body))

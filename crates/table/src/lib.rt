@@ -304,7 +304,8 @@ fn less(n: usize) -> usize
 // The place after a row.
 fn place_after(p: Place, kind: usize, own: usize) -> Place
     requires { ⌜ p .opened < 65536 ⌝ }
-    ensures { λ r. ⌜ StepsTo (place (p .position) (p .in_tag) (p .opened) (p .rooted)) kind own (place (r .position) (r .in_tag) (r .opened) (r .rooted)) ⌝ }
+    ensures { λ r. ⌜ StepsTo (place (p .position) (p .in_tag) (p .opened) (p .rooted)) kind own
+        (place (r .position) (r .in_tag) (r .opened) (r .rooted)) ⌝ }
 {
     let mut q = p;
     q.position = own;
@@ -335,7 +336,8 @@ fn place_after(p: Place, kind: usize, own: usize) -> Place
 // The place after row k.
 fn step(rows: &[u32], k: usize, p: Place) -> Place
     requires { ⌜ (k * 8 + 8 ≤ length (now rows)) × (p .opened < 65536) ⌝ }
-    ensures { λ r. ⌜ StepAt (now (rows .entry)) k (place (p .position) (p .in_tag) (p .opened) (p .rooted)) (place (r .position) (r .in_tag) (r .opened) (r .rooted)) ⌝ }
+    ensures { λ r. ⌜ StepAt (now (rows .entry)) k (place (p .position) (p .in_tag) (p .opened) (p .rooted))
+        (place (r .position) (r .in_tag) (r .opened) (r .rooted)) ⌝ }
 {
     place_after(p, field(rows, k, 0), field(rows, k, 7))
 }
@@ -351,7 +353,8 @@ fn row_of(
     p: Place,
 ) -> bool
     requires { ⌜ (k * 8 + 8 ≤ length (now rows)) × (last ≤ length (now body)) × (kind ≡ getD (now rows) (k * 8 + 0) 0) ⌝ }
-    ensures { λ r. ⌜ Says (RowIn (now (body .entry)) last (place (p .position) (p .in_tag) (p .opened) (p .rooted)) (now (rows .entry)) k left) r ⌝ }
+    ensures { λ r. ⌜ Says (RowIn (now (body .entry)) last (place (p .position) (p .in_tag) (p .opened) (p .rooted))
+        (now (rows .entry)) k left) r ⌝ }
 {
     let own = field(rows, k, 7);
     if own < p.position {
@@ -369,10 +372,12 @@ fn row_of(
     order(kind, p, left)
 }
 
-// Whether row k does. Most rows are of four kinds, which are told apart first, so that the compiler leaves out tests that a kind does not need.
+// Whether row k does. Most rows are of four kinds, which are told apart first, so that the compiler leaves out tests that a kind does not
+// need.
 fn row(body: &[u8], rows: &[u32], k: usize, left: usize, last: usize, p: Place) -> bool
     requires { ⌜ (k * 8 + 8 ≤ length (now rows)) × (last ≤ length (now body)) ⌝ }
-    ensures { λ r. ⌜ Says (RowIn (now (body .entry)) last (place (p .position) (p .in_tag) (p .opened) (p .rooted)) (now (rows .entry)) k left) r ⌝ }
+    ensures { λ r. ⌜ Says (RowIn (now (body .entry)) last (place (p .position) (p .in_tag) (p .opened) (p .rooted))
+        (now (rows .entry)) k left) r ⌝ }
 {
     let kind = field(rows, k, 0);
     if kind == 1 {

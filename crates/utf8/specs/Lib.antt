@@ -1,8 +1,3 @@
 pub mod Table
 pub mod Encode
-pub mod Store
-pub mod Agree
-pub mod Cut
-pub mod Chars
 pub mod Scan
-pub mod Examples

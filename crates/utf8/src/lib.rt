@@ -66,7 +66,8 @@ pub fn put_char(out: &mut [u8], at: usize, c: u32) -> usize
     at + 4
 }
 
-// Whether 32 bytes are ASCII, by the greatest of them: a loop that leaves off nowhere, of which the compiler makes two vector loads and a few maxima.
+// Whether 32 bytes are ASCII, by the greatest of them: a loop that leaves off nowhere, of which the compiler makes two vector loads and a
+// few maxima.
 fn ascii_block(s: &[u8], from: usize) -> bool
     requires { ⌜ from + 32 ≤ length (now s) ⌝ }
     ensures { λ r. ⌜ AsciiBlock (now (s .entry)) from r ⌝ }
@@ -174,8 +175,8 @@ fn len_if(t: bool, n: usize) -> usize
     0
 }
 
-// The length of a character that is not ASCII, or 0 if there is none: row by row of the table. It is a number that is known on each path and no
-// place, so that the next character waits for the branch and not for the bytes.
+// The length of a character that is not ASCII, or 0 if there is none: row by row of the table. It is a number that is known on each path
+// and no place, so that the next character waits for the branch and not for the bytes.
 fn char_len(s: &[u8], at: usize) -> usize
     requires { ⌜ (at < length (now s)) × (0x80 ≤ getD (now s) at 0) ⌝ }
     ensures { λ r. ⌜ CharLen (now (s .entry)) at r ⌝ }

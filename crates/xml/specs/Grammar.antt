@@ -1,8 +1,9 @@
 -- Documents by W3C XML 1.0 (fifth edition) and by nothing else: productions 1, 22, 27 and 39 to 44 over the tokens of a table.
 -- Each type relates a list and what is left of it: `Element l r` says that l begins with an element, and r is what follows it.
--- Left to the tokenizer: what stands between the tokens, characters written literally, which of CDSect, PI, Comment and declaration a kind 7 row is and
--- so whether it may stand where it does, and how a Name is split at its colon: two names are one where the tokenizer gives them the same prefix and local
--- name, so `:b` and `b` are. Entities that the document declares are left out: a Reference is one of reference/specs/Xml.antt.
+-- Left to the tokenizer: what stands between the tokens, characters written literally, which of CDSect, PI, Comment and declaration a kind
+-- 7 row is and so whether it may stand where it does, and how a Name is split at its colon: two names are one where the tokenizer gives
+-- them the same prefix and local name, so `:b` and `b` are. Entities that the document declares are left out: a Reference is one of
+-- reference/specs/Xml.antt.
 use Prim.Native.Nat.{ℕ}
 use mathlib.Core.List.{List, [], _∷_, List·Memᴰ}
 use Rattle.reference.specs.Xml.{EachReference}
@@ -12,8 +13,8 @@ use Rattle.table.specs.Row.{Name, Tok, start, attr, gt, close, slash, text, mis
 -- Att Spec); each `&` of the value begins a Reference ([10] AttValue)
 pub data Attributes : List Name → List Tok → List Tok → Type 0 where
   no-attribute : {seen : List Name} {r : List Tok} → Attributes seen r r
-  attribute : {seen : List Name} {m : Name} {v : List ℕ} {l r : List Tok} → (List·Memᴰ m seen → ⊥) → EachReference v → Attributes (m ∷ seen) l r
-      → Attributes seen (attr m v ∷ l) r
+  attribute : {seen : List Name} {m : Name} {v : List ℕ} {l r : List Tok} → (List·Memᴰ m seen → ⊥) → EachReference v
+      → Attributes (m ∷ seen) l r → Attributes seen (attr m v ∷ l) r
 
 mutual
   -- [39] element ::= EmptyElemTag | STag content ETag; the end tag has the start tag's name (WFC: Element Type Match)

@@ -1,13 +1,4 @@
 pub mod Grammar
 pub mod Drain
 pub mod Passed
-pub mod Tests
-pub mod Fault
-pub mod First
-pub mod Means
-pub mod Order
-pub mod Pass
-pub mod Past
-pub mod Again
-pub mod Closing
 pub mod Piece

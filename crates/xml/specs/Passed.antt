@@ -41,8 +41,8 @@ unfoldable pub attributes : List Name → List Tok → List Name
 attributes a [] = a
 attributes a (t ∷ l) = attributes (namesAfter a t) l
 
--- "It passes exactly when the rules hold, no row is of kind 8, each close tag has the innermost open element's prefix and local name, none is
--- open at the end, no start tag has two attributes alike in prefix and local name, and validate takes each value in kinds 2 and 6."
+-- "It passes exactly when the rules hold, no row is of kind 8, each close tag has the innermost open element's prefix and local name, none
+-- is open at the end, no start tag has two attributes alike in prefix and local name, and validate takes each value in kinds 2 and 6."
 pub record WellFormed (toks : List Tok) : Type 0 where
   pub noError : (a b : List Tok) → toks ≡ a ++ (bad ∷ b) → ⊥
   pub matching : (a : List Tok) (m : Name) (b : List Tok) → toks ≡ a ++ (close m ∷ b) → (s : List Name) × (opens [] a ≡ m ∷ s)
@@ -60,7 +60,8 @@ pub data Fault (before : List Tok) : Tok → Cause → Type 0 where
   token-error : Fault before bad Cause.TokenError
   mismatched-end : {m : Name} → ((s : List Name) → opens [] before ≡ m ∷ s → ⊥) → Fault before (close m) Cause.MismatchedEnd
   repeated-attribute : {m : Name} {v : List ℕ} → List·Memᴰ m (attributes [] before) → Fault before (attr m v) Cause.RepeatedAttribute
-  bad-attribute : {m : Name} {v : List ℕ} → (List·Memᴰ m (attributes [] before) → ⊥) → validated v ≡ Validated.BadReference → Fault before (attr m v) Cause.BadReference
+  bad-attribute : {m : Name} {v : List ℕ} → (List·Memᴰ m (attributes [] before) → ⊥) → validated v ≡ Validated.BadReference
+      → Fault before (attr m v) Cause.BadReference
   bad-text : {v : List ℕ} → validated v ≡ Validated.BadReference → Fault before (text v) Cause.BadReference
 
 pub record Faultless (toks : List Tok) : Type 0 where
@@ -68,5 +69,6 @@ pub record Faultless (toks : List Tok) : Type 0 where
 
 -- "the first failing row and its cause", and "unclosed element (row = row count)"
 pub data FirstFault (toks : List Tok) (row : ℕ) (cause : Cause) : Type 0 where
-  at-row : (a : List Tok) (t : Tok) (b : List Tok) → toks ≡ a ++ (t ∷ b) → row ≡ length a → Faultless a → Fault a t cause → FirstFault toks row cause
+  at-row : (a : List Tok) (t : Tok) (b : List Tok) → toks ≡ a ++ (t ∷ b) → row ≡ length a → Faultless a → Fault a t cause
+      → FirstFault toks row cause
   at-end : row ≡ length toks → cause ≡ Cause.UnclosedElement → Faultless toks → (opens [] toks ≡ [] → ⊥) → FirstFault toks row cause

@@ -6,7 +6,8 @@ use mathlib.Core.Logic.{_↔_}
 use mathlib.Core.Bool.{Bool, true, false, not}
 use mathlib.Core.List.{List, [], _∷_}
 use mathlib.Core.Option.{Option, none, some}
-use Rattle.lists.specs.Tests.{pick, false-true}
+use Rattle.lists.specs.Tests.{pick}
+use Rattle.lists.proofs.Tests.{false-true}
 use Rattle.refusal.specs.declared.Refusal.{Refusal}
 use Rattle.refusal.specs.Answer.{Answer, gives, refuses}
 use Rattle.reference.specs.Text.{Out, unescaped}

@@ -9,8 +9,10 @@ use borrow.Author.Tests.{eqb-true, eq-eqb, leb-true, leb-false, le-leb, lt-leb}
 use lib.Dec.{eqb, leb}
 use lib.IntN.{ℤ, pos}
 use lib.ListN.{length}
-use Rattle.lists.specs.Tests.{pick, false-true}
-use Rattle.lists.specs.Bytes.{ascii, sameb, same-is, same-self}
+use Rattle.lists.specs.Tests.{pick}
+use Rattle.lists.proofs.Tests.{false-true}
+use Rattle.lists.specs.Bytes.{ascii, sameb}
+use Rattle.lists.proofs.Bytes.{same-is, same-self}
 use Rattle.refusal.specs.declared.Refusal.{Refusal}
 use Rattle.refusal.specs.Answer.{Answer, gives, refuses}
 use Rattle.reference.specs.Number.{digit, number}

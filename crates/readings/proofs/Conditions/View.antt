@@ -6,7 +6,7 @@ use mathlib.Core.Logic.{_↔_}
 use mathlib.Core.Bool.{Bool, true, false}
 use mathlib.Core.List.{List}
 use mathlib.Core.Option.{Option, none, some, Option·none-ne-some, Option·some-injective}
-use Rattle.lists.specs.Tests.{false-true}
+use Rattle.lists.proofs.Tests.{false-true}
 use Rattle.refusal.specs.declared.Refusal.{Refusal}
 use Rattle.table.specs.Row.{rowsOf, toksOf}
 use Rattle.table.specs.Rules.{TableRules}
@@ -14,7 +14,7 @@ use Rattle.table.specs.Test.{decTable}
 use Rattle.xml.specs.declared.Cause.{Cause}
 use Rattle.xml.specs.declared.Drained.{Drained}
 use Rattle.xml.specs.Drain.{walked, drained, drainedBy}
-use Rattle.xml.specs.First.{not-ill}
+use Rattle.xml.proofs.First.{not-ill}
 use Rattle.document.specs.View.{view, failureOf, strictView, lenientView, errorAt}
 use Rattle.readings.specs.Opening.{Opened}
 use Rattle.readings.proofs.Conditions.Opening.{OpenedAs}

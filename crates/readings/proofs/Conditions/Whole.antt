@@ -7,18 +7,19 @@ use mathlib.Core.Bool.{Bool, true, false}
 use mathlib.Core.List.{List, [], _∷_, _++_, List·Memᴰ, List·Memᴰ·head, List·Memᴰ·tail}
 use mathlib.Core.Option.{Option, none, some, Option·some-injective, Option·none-ne-some}
 use lib.ListN.{length}
-use Rattle.lists.specs.Tests.{pick, false-true}
+use Rattle.lists.specs.Tests.{pick}
+use Rattle.lists.proofs.Tests.{false-true}
 use Rattle.refusal.specs.declared.Refusal.{Refusal}
 use Rattle.refusal.specs.Answer.{Answer, gives, refuses, onward}
 use Rattle.reference.specs.Text.{Out, unescaped}
 use Rattle.reference.specs.Text as text
-use Rattle.reference.specs.Lenient.{valid-unescapes}
+use Rattle.reference.proofs.Lenient.{valid-unescapes}
 use Rattle.table.specs.Row.{Name, Tok, start, attr, gt, close, slash, text, misc, bad, rowsOf, toksOf}
 use Rattle.xml.specs.declared.Cause.{Cause}
 use Rattle.xml.specs.declared.Drained.{Drained}
 use Rattle.xml.specs.Drain.{drained}
-use Rattle.xml.specs.First.{drained-table-is}
-use Rattle.xml.specs.Means.{drained-passes-is}
+use Rattle.xml.proofs.First.{drained-table-is}
+use Rattle.xml.proofs.Means.{drained-passes-is}
 use Rattle.document.specs.declared.Depth.{Depth}
 use Rattle.document.specs.Reader.{Reader, reader, fresh, depthAfter, Scope, document, isEnd, endsAt, StartEl, blank, Turn, goes, complete, over, turn, Next, found, gone, takeTurn, next}
 use Rattle.document.specs.Scope.{Child, scopeOf, rootOf, onRoot, nextFrom}

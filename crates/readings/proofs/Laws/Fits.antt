@@ -5,7 +5,8 @@ use mathlib.Core.List.{List, [], _∷_, _++_}
 use mathlib.Core.Option.{none}
 use native.Mathlib.Omega.{arith}
 use lib.ListN.{length, length-append}
-use Rattle.lists.specs.Every.{Every, none, every-snoc, every-map}
+use Rattle.lists.specs.Every.{Every, none}
+use Rattle.lists.proofs.Every.{every-snoc, every-map}
 use Rattle.refusal.specs.declared.Refusal.{Refusal}
 use Rattle.refusal.specs.Numbers.{number}
 use Rattle.table.specs.Rules.{mostBytes}

@@ -1,13 +1,14 @@
--- The loop over the entries of a map does not depend on its fuel either (document/specs/Laws/Fuel.antt has the others').
+-- The loop over the entries of a map does not depend on its fuel either (document/proofs/Laws/Fuel.antt has the others').
 use Prim.Native.Nat.{ℕ}
 use mathlib.Core.Path.{_≡_}
 use mathlib.Core.List.{List}
 use mathlib.Core.Option.{Option}
-use Rattle.lists.specs.Tests.{pick-all}
+use Rattle.lists.proofs.Tests.{pick-all}
 use Rattle.document.specs.Reader.{Reader, Scope}
 use Rattle.document.specs.Scope.{onNext, nextFrom, dropping, afterChildren}
-use Rattle.document.specs.Laws.Onward.{GoneOn}
-use Rattle.document.specs.Laws.Fuel.{GoesOn, Shortens, levelFrom, level-step, dropping-goes-on, afterChildren-goes-on}
+use Rattle.document.proofs.Laws.Onward.{GoneOn}
+use Rattle.document.proofs.Laws.Fuel.{GoesOn, Shortens, level-step, dropping-goes-on, afterChildren-goes-on}
+use Rattle.document.specs.Scope.{levelFrom}
 use Rattle.readings.specs.Collection.{isWanted, afterEntry}
 
 -- after an entry, its fields read or not, the reader has gone on

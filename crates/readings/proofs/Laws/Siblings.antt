@@ -6,19 +6,20 @@ use mathlib.Core.List.{List, [], _∷_, _++_}
 use native.Mathlib.Omega.{arith}
 use lib.ListN.{length, take, drop, length-take, length-append}
 use Rattle.lists.specs.Bytes.{ascii}
-use Rattle.lists.specs.Tests.{pick, pick-all, pick-cases, false-true}
+use Rattle.lists.specs.Tests.{pick}
+use Rattle.lists.proofs.Tests.{pick-all, pick-cases, false-true}
 use Rattle.table.specs.Row.{Row, cut, toksOf}
 use Rattle.table.specs.Rules.{Place, EachRow, none, row, lastPosition}
-use Rattle.table.specs.Moved.{last-taken}
-use Rattle.table.specs.Element.{each-take}
+use Rattle.table.proofs.Moved.{last-taken}
+use Rattle.table.proofs.Element.{each-take}
 use Rattle.document.specs.View.{View}
 use Rattle.document.specs.Reader.{Reader, Scope, Next}
 use Rattle.document.specs.Scope.{Child, scopeOf, skipFrom, shut, done, onNext, level, children, childrenOf, dropped, dropping, pieceOf}
-use Rattle.document.specs.Laws.Onward.{skip-leaves-none}
-use Rattle.document.specs.Laws.Fuel.{dropping-goes-on, dropping-shortens}
-use Rattle.document.specs.Laws.Placed.{Outside, Placed, Meets, meets-child, meets-none, next-meets, dropping-outward}
-use Rattle.document.specs.Laws.Inside.{ViewIn, piece-since, piece-ends}
-use Rattle.document.specs.Laws.Short.{few-children}
+use Rattle.document.proofs.Laws.Onward.{skip-leaves-none}
+use Rattle.document.proofs.Laws.Fuel.{dropping-goes-on, dropping-shortens}
+use Rattle.document.proofs.Laws.Placed.{Outside, Placed, Meets, meets-child, meets-none, next-meets, dropping-outward}
+use Rattle.document.proofs.Laws.Inside.{ViewIn, piece-since, piece-ends}
+use Rattle.document.proofs.Laws.Short.{few-children}
 use Rattle.sheet.specs.Sheet.{Structure}
 use Rattle.readings.specs.Structure.{inGroup, siblings, groupOf}
 

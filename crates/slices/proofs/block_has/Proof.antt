@@ -1,6 +1,6 @@
 use Prim.Native.Nat.{_-_}
 use lib.ListN.{length}
-use Rattle.slices.specs.Scan.{BlockAt, scan-laws}
+use Rattle.slices.proofs.Scan.{BlockAt, scan-laws}
 use Rattle.slices.proofs.block_has.Statement.{statement}
 use Rattle.slices.proofs.block_has.Tie as tie
 

@@ -1,4 +1,4 @@
-use Rattle.slices.specs.Copy.{LoadAt, load-laws}
+use Rattle.slices.proofs.Copy.{LoadAt, load-laws}
 use Prim.Native.Nat.{_-_}
 use Rattle.slices.proofs.block_of.Statement.{statement}
 use Rattle.slices.proofs.block_of.Tie as tie

@@ -1,4 +1,4 @@
-use Rattle.slices.specs.Scan.{later-laws}
+use Rattle.slices.proofs.Scan.{later-laws}
 use borrow.Author.Needs.{needs}
 use Rattle.slices.proofs.find_far.Statement.{statement}
 use Rattle.slices.proofs.find_far.Tie as tie

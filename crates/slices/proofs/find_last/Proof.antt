@@ -1,4 +1,4 @@
-use Rattle.slices.specs.Scan.{scan-laws}
+use Rattle.slices.proofs.Scan.{scan-laws}
 use Rattle.lists.specs.Find.{Clear}
 use Prim.Native.Nat.{_-_}
 use lib.ListN.{length}

@@ -1,4 +1,4 @@
-use Rattle.slices.specs.Scan.{later-laws}
+use Rattle.slices.proofs.Scan.{later-laws}
 use Rattle.lists.specs.Find.{Clear}
 use Prim.Native.Nat.{_-_}
 use lib.ListN.{length}

@@ -1,6 +1,6 @@
 use Prim.Native.Nat.{_-_}
 use lib.ListN.{length}
-use Rattle.slices.specs.Scan.{FirstAt, first-laws}
+use Rattle.slices.proofs.Scan.{FirstAt, first-laws}
 use Rattle.slices.proofs.first_in_block.Statement.{statement}
 use Rattle.slices.proofs.first_in_block.Tie as tie
 

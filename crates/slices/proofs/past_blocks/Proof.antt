@@ -1,7 +1,7 @@
 use Prim.Native.Nat.{_-_}
 use lib.ListN.{length}
 use Rattle.lists.specs.Find.{Clear}
-use Rattle.slices.specs.Scan.{scan-laws}
+use Rattle.slices.proofs.Scan.{scan-laws}
 use Rattle.slices.proofs.past_blocks.Statement.{statement}
 use Rattle.slices.proofs.past_blocks.Tie as tie
 

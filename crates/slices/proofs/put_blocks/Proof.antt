@@ -1,5 +1,5 @@
 use borrow.Author.Needs.{needs}
-use Rattle.slices.specs.Copy.{CopyAt, copy-block, copy-laws}
+use Rattle.slices.proofs.Copy.{CopyAt, copy-block, copy-laws}
 use Prim.Native.Nat.{_-_}
 use lib.ListN.{length}
 use Rattle.slices.proofs.put_blocks.Statement.{statement}

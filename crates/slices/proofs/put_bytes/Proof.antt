@@ -1,6 +1,6 @@
 use Prim.Native.Nat.{_-_}
 use lib.ListN.{length}
-use Rattle.slices.specs.Copy.{CopyAt, copy-laws}
+use Rattle.slices.proofs.Copy.{CopyAt, copy-laws}
 use Rattle.slices.proofs.put_bytes.Statement.{statement}
 use Rattle.slices.proofs.put_bytes.Tie as tie
 

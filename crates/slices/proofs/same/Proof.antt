@@ -1,6 +1,6 @@
 use Prim.Native.Nat.{_-_}
 use lib.ListN.{length}
-use Rattle.slices.specs.Same.{SameAt, same-laws}
+use Rattle.slices.proofs.Comparing.{SameAt, same-laws}
 use Rattle.slices.proofs.same.Statement.{statement}
 use Rattle.slices.proofs.same.Tie as tie
 

@@ -1,4 +1,4 @@
-use Rattle.table.specs.Spans.{between-laws}
+use Rattle.table.proofs.SpanLaws.{between-laws}
 use Rattle.table.proofs.between.Statement.{statement}
 use Rattle.table.proofs.between.Tie as tie
 

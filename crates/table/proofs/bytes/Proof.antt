@@ -1,4 +1,4 @@
-use Rattle.table.specs.Bytes.{bytes-laws}
+use Rattle.table.proofs.ByteLaws.{bytes-laws}
 use borrow.Author.Needs.{needs}
 use Rattle.table.proofs.bytes.Statement.{statement}
 use Rattle.table.proofs.bytes.Tie as tie

@@ -1,4 +1,4 @@
-use Rattle.table.specs.Spans.{kinds}
+use Rattle.table.proofs.SpanLaws.{kinds}
 use Rattle.table.proofs.comes_inside.Statement.{statement}
 use Rattle.table.proofs.comes_inside.Tie as tie
 

@@ -1,6 +1,6 @@
 use Prim.Native.Nat.{_-_}
 use Rattle.table.specs.Order.{place}
-use Rattle.table.specs.Pass.{Walking, walk-laws}
+use Rattle.table.proofs.Pass.{Walking, walk-laws}
 use Rattle.table.proofs.each_row.Statement.{statement}
 use Rattle.table.proofs.each_row.Tie as tie
 

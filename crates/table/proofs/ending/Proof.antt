@@ -1,4 +1,4 @@
-use Rattle.table.specs.Bytes.{ends-laws}
+use Rattle.table.proofs.ByteLaws.{ends-laws}
 use borrow.Author.Needs.{needs}
 use Rattle.table.proofs.ending.Statement.{statement}
 use Rattle.table.proofs.ending.Tie as tie

@@ -1,4 +1,4 @@
-use Rattle.table.specs.Bytes.{BackAt, back-laws}
+use Rattle.table.proofs.ByteLaws.{BackAt, back-laws}
 use Rattle.table.proofs.last_lt.Statement.{statement}
 use Rattle.table.proofs.last_lt.Tie as tie
 

@@ -1,4 +1,4 @@
-use Rattle.table.specs.Spans.{local-laws}
+use Rattle.table.proofs.SpanLaws.{local-laws}
 use borrow.Author.Needs.{needs}
 use Rattle.table.proofs.local_span.Statement.{statement}
 use Rattle.table.proofs.local_span.Tie as tie

@@ -1,4 +1,4 @@
-use Rattle.table.specs.Pass.{obeys-laws}
+use Rattle.table.proofs.Pass.{obeys-laws}
 use borrow.Author.Needs.{needs}
 use Rattle.table.proofs.obeys.Statement.{statement}
 use Rattle.table.proofs.obeys.Tie as tie

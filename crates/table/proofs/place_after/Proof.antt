@@ -1,4 +1,4 @@
-use Rattle.table.specs.Order.{step-laws}
+use Rattle.table.proofs.OrderLaws.{step-laws}
 use borrow.Author.Needs.{needs}
 use Rattle.table.proofs.place_after.Statement.{statement}
 use Rattle.table.proofs.place_after.Tie as tie

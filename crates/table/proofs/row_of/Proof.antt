@@ -1,4 +1,4 @@
-use Rattle.table.specs.Pass.{row-laws}
+use Rattle.table.proofs.Pass.{row-laws}
 use borrow.Author.Needs.{needs}
 use Rattle.table.proofs.row_of.Statement.{statement}
 use Rattle.table.proofs.row_of.Tie as tie

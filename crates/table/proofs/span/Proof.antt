@@ -1,4 +1,4 @@
-use Rattle.table.specs.Spans.{span-laws}
+use Rattle.table.proofs.SpanLaws.{span-laws}
 use borrow.Author.Needs.{needs}
 use Rattle.table.proofs.span.Statement.{statement}
 use Rattle.table.proofs.span.Tie as tie

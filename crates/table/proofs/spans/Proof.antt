@@ -1,4 +1,4 @@
-use Rattle.table.specs.Spans.{spans-laws}
+use Rattle.table.proofs.SpanLaws.{spans-laws}
 use borrow.Author.Needs.{needs}
 use Rattle.table.proofs.spans.Statement.{statement}
 use Rattle.table.proofs.spans.Tie as tie

@@ -1,4 +1,4 @@
-use Rattle.table.specs.Pass.{at-laws}
+use Rattle.table.proofs.Pass.{at-laws}
 use borrow.Author.Needs.{needs}
 use Rattle.table.proofs.step.Statement.{statement}
 use Rattle.table.proofs.step.Tie as tie

@@ -1,4 +1,4 @@
-use Rattle.table.specs.Bytes.{begins-laws}
+use Rattle.table.proofs.ByteLaws.{begins-laws}
 use borrow.Author.Needs.{needs}
 use Rattle.table.proofs.tag_begins.Statement.{statement}
 use Rattle.table.proofs.tag_begins.Tie as tie

@@ -1,5 +1,5 @@
 use borrow.Author.Needs.{needs}
-use Rattle.unescape.specs.Parse.{BeginsAt, begins-laws}
+use Rattle.unescape.proofs.Parse.{BeginsAt, begins-laws}
 use Prim.Native.Nat.{_-_}
 use lib.ListN.{length}
 use Rattle.unescape.proofs.begins_at.Statement.{statement}

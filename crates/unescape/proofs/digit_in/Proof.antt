@@ -1,4 +1,4 @@
-use Rattle.lists.specs.Tests.{tests}
+use Rattle.lists.proofs.Tests.{tests}
 use borrow.Author.Needs.{needs}
 use Rattle.unescape.proofs.digit_in.Statement.{statement}
 use Rattle.unescape.proofs.digit_in.Tie as tie

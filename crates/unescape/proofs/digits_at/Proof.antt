@@ -1,5 +1,5 @@
 use borrow.Author.Needs.{needs}
-use Rattle.unescape.specs.Parse.{DigitsAt, digits-laws}
+use Rattle.unescape.proofs.Parse.{DigitsAt, digits-laws}
 use Prim.Native.Nat.{_-_}
 use lib.ListN.{length}
 use Rattle.unescape.proofs.digits_at.Statement.{statement}

@@ -1,7 +1,7 @@
 use Rattle.lists.specs.Find.{Clear}
 use Prim.Native.Nat.{_-_}
 use lib.ListN.{length}
-use Rattle.unescape.specs.Fill.{FillAt, fill-laws}
+use Rattle.unescape.proofs.Filling.{FillAt, fill-laws}
 use Rattle.unescape.proofs.fill.Statement.{statement}
 use Rattle.unescape.proofs.fill.Tie as tie
 

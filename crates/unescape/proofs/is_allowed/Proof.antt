@@ -1,6 +1,6 @@
 use borrow.Author.Needs.{needs}
 use Rattle.reference.specs.Entity.{allowed}
-use Rattle.lists.specs.Tests.{tests}
+use Rattle.lists.proofs.Tests.{tests}
 use Rattle.unescape.proofs.is_allowed.Statement.{statement}
 use Rattle.unescape.proofs.is_allowed.Tie as tie
 

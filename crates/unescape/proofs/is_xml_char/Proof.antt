@@ -1,5 +1,5 @@
 use Rattle.reference.specs.Entity.{xmlChar}
-use Rattle.lists.specs.Tests.{tests}
+use Rattle.lists.proofs.Tests.{tests}
 use Rattle.unescape.proofs.is_xml_char.Statement.{statement}
 use Rattle.unescape.proofs.is_xml_char.Tie as tie
 

@@ -1,7 +1,7 @@
 use Rattle.lists.specs.Find.{Clear}
 use Prim.Native.Nat.{_-_}
 use lib.ListN.{length}
-use Rattle.unescape.specs.Loops.{MeasureAt, measure-laws}
+use Rattle.unescape.proofs.Loops.{MeasureAt, measure-laws}
 use Rattle.unescape.proofs.measure.Statement.{statement}
 use Rattle.unescape.proofs.measure.Tie as tie
 

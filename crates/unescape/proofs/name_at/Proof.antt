@@ -1,4 +1,4 @@
-use Rattle.unescape.specs.Parse.{name-laws}
+use Rattle.unescape.proofs.Parse.{name-laws}
 use borrow.Author.Needs.{needs}
 use Rattle.unescape.proofs.name_at.Statement.{statement}
 use Rattle.unescape.proofs.name_at.Tie as tie

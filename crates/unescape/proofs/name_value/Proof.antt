@@ -1,4 +1,4 @@
-use Rattle.lists.specs.Tests.{flags}
+use Rattle.lists.proofs.Tests.{flags}
 use Rattle.unescape.specs.Parse.{nameValue}
 use borrow.Author.Needs.{needs}
 use Rattle.unescape.proofs.name_value.Statement.{statement}

@@ -1,4 +1,4 @@
-use Rattle.unescape.specs.Parse.{packed-laws}
+use Rattle.unescape.proofs.Parse.{packed-laws}
 use borrow.Author.Needs.{needs}
 use Rattle.unescape.proofs.named_at.Statement.{statement}
 use Rattle.unescape.proofs.named_at.Tie as tie

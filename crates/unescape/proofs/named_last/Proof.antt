@@ -1,4 +1,4 @@
-use Rattle.lists.specs.Tests.{flags}
+use Rattle.lists.proofs.Tests.{flags}
 use Rattle.unescape.specs.Parse.{namedRef}
 use borrow.Author.Needs.{needs}
 use Rattle.unescape.proofs.named_last.Statement.{statement}

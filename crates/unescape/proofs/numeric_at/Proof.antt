@@ -1,4 +1,4 @@
-use Rattle.unescape.specs.Parse.{numeric-laws}
+use Rattle.unescape.proofs.Parse.{numeric-laws}
 use borrow.Author.Needs.{needs}
 use Rattle.unescape.proofs.numeric_at.Statement.{statement}
 use Rattle.unescape.proofs.numeric_at.Tie as tie

@@ -1,4 +1,4 @@
-use Rattle.unescape.specs.Parse.{only-laws}
+use Rattle.unescape.proofs.Parse.{only-laws}
 use borrow.Author.Needs.{needs}
 use Rattle.unescape.proofs.only_allowed.Statement.{statement}
 use Rattle.unescape.proofs.only_allowed.Tie as tie

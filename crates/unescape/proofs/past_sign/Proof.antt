@@ -1,4 +1,4 @@
-use Rattle.unescape.specs.Parse.{sign-laws}
+use Rattle.unescape.proofs.Parse.{sign-laws}
 use borrow.Author.Needs.{needs}
 use Rattle.unescape.proofs.past_sign.Statement.{statement}
 use Rattle.unescape.proofs.past_sign.Tie as tie

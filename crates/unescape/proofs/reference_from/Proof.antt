@@ -1,4 +1,4 @@
-use Rattle.unescape.specs.Parse.{reference-laws}
+use Rattle.unescape.proofs.Parse.{reference-laws}
 use borrow.Author.Needs.{needs}
 use Rattle.unescape.proofs.reference_from.Statement.{statement}
 use Rattle.unescape.proofs.reference_from.Tie as tie

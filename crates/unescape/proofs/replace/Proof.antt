@@ -1,4 +1,4 @@
-use Rattle.unescape.specs.Fill.{answer-laws}
+use Rattle.unescape.proofs.Filling.{answer-laws}
 use borrow.Author.Needs.{needs}
 use Rattle.unescape.proofs.replace.Statement.{statement}
 use Rattle.unescape.proofs.replace.Tie as tie

@@ -1,7 +1,7 @@
 use Rattle.lists.specs.Find.{Clear}
 use Prim.Native.Nat.{_-_}
 use lib.ListN.{length}
-use Rattle.unescape.specs.Loops.{ValidAt, valid-laws}
+use Rattle.unescape.proofs.Loops.{ValidAt, valid-laws}
 use Rattle.unescape.proofs.validate_references.Statement.{statement}
 use Rattle.unescape.proofs.validate_references.Tie as tie
 

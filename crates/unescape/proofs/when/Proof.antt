@@ -1,4 +1,4 @@
-use Rattle.lists.specs.Tests.{tests}
+use Rattle.lists.proofs.Tests.{tests}
 use Rattle.unescape.proofs.when.Statement.{statement}
 use Rattle.unescape.proofs.when.Tie as tie
 

@@ -1,4 +1,4 @@
-use Rattle.lists.specs.Tests.{flags}
+use Rattle.lists.proofs.Tests.{flags}
 use borrow.Author.Needs.{needs}
 use Rattle.unescape.proofs.when_both.Statement.{statement}
 use Rattle.unescape.proofs.when_both.Tie as tie

@@ -1,6 +1,6 @@
 use Prim.Native.Nat.{_-_}
 use mathlib.Core.Logic.{⊎-elim}
-use Rattle.utf8.specs.Scan.{BlockAt, block-laws}
+use Rattle.utf8.proofs.Scan.{BlockAt, block-laws}
 use Rattle.utf8.proofs.ascii_block.Statement.{statement}
 use Rattle.utf8.proofs.ascii_block.Tie as tie
 

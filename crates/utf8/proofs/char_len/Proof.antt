@@ -1,4 +1,4 @@
-use Rattle.utf8.specs.Scan.{char-laws}
+use Rattle.utf8.proofs.Scan.{char-laws}
 use Rattle.utf8.proofs.char_len.Statement.{statement}
 use Rattle.utf8.proofs.char_len.Tie as tie
 

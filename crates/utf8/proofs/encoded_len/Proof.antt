@@ -1,5 +1,5 @@
 use Rattle.utf8.specs.Encode.{encode}
-use Rattle.lists.specs.Tests.{tests}
+use Rattle.lists.proofs.Tests.{tests}
 use Rattle.utf8.proofs.encoded_len.Statement.{statement}
 use Rattle.utf8.proofs.encoded_len.Tie as tie
 

@@ -1,5 +1,5 @@
 use Rattle.utf8.specs.Encode.{scalar}
-use Rattle.lists.specs.Tests.{tests}
+use Rattle.lists.proofs.Tests.{tests}
 use Rattle.utf8.proofs.is_scalar.Statement.{statement}
 use Rattle.utf8.proofs.is_scalar.Tie as tie
 

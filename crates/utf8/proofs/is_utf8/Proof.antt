@@ -1,6 +1,6 @@
 use Prim.Native.Nat.{_-_}
 use lib.ListN.{length}
-use Rattle.utf8.specs.Scan.{TextAt, text-laws}
+use Rattle.utf8.proofs.Scan.{TextAt, text-laws}
 use Rattle.utf8.proofs.is_utf8.Statement.{statement}
 use Rattle.utf8.proofs.is_utf8.Tie as tie
 

@@ -1,6 +1,7 @@
 use Prim.Native.Nat.{_-_}
 use lib.ListN.{length}
-use Rattle.utf8.specs.Scan.{Run, run-laws}
+use Rattle.utf8.specs.Scan.{Run}
+use Rattle.utf8.proofs.Scan.{run-laws}
 use Rattle.utf8.proofs.past_ascii.Statement.{statement}
 use Rattle.utf8.proofs.past_ascii.Tie as tie
 

@@ -1,4 +1,4 @@
-use Rattle.utf8.specs.Scan.{run-laws}
+use Rattle.utf8.proofs.Scan.{run-laws}
 use Rattle.utf8.proofs.past_run.Statement.{statement}
 use Rattle.utf8.proofs.past_run.Tie as tie
 

@@ -1,6 +1,6 @@
 use borrow.Author.Needs.{needs}
 use lib.ListN.{length-set}
-use Rattle.utf8.specs.Store.{put-laws, room-1, room-2, room-3, room-4}
+use Rattle.utf8.proofs.Store.{put-laws, room-1, room-2, room-3, room-4}
 use Rattle.utf8.proofs.put_char.Statement.{statement}
 use Rattle.utf8.proofs.put_char.Tie as tie
 

@@ -1,4 +1,4 @@
-use Rattle.lists.specs.Tests.{tests}
+use Rattle.lists.proofs.Tests.{tests}
 use borrow.Author.Needs.{needs}
 use Rattle.codec.proofs.guard.deeper.Statement.{statement}
 use Rattle.codec.proofs.guard.deeper.Tie as tie

@@ -1,0 +1,155 @@
+-- How much a reader meets: no text and no attribute value is longer than the body, and there are no more children than tokens.
+use Prim.Native.Nat.{ℕ, zero, suc, _≤_}
+use mathlib.Core.Path.{_≡_, refl}
+use mathlib.Core.Bool.{Bool, true, false}
+use mathlib.Core.List.{List, [], _∷_}
+use mathlib.Core.Option.{Option, none, some}
+use native.Mathlib.Omega.{arith}
+use lib.ListN.{length, drop, length-take, length-drop}
+use Rattle.lists.specs.Every.{Every, none, and}
+use Rattle.lists.proofs.Every.{every-snoc}
+use Rattle.lists.proofs.Tests.{pick-all}
+use Rattle.refusal.specs.declared.Refusal.{Refusal}
+use Rattle.refusal.specs.Answer.{Answer, gives, refuses}
+use Rattle.reference.specs.Text.{Out, bytes, unescaped}
+use Rattle.reference.specs.Text as text
+use Rattle.reference.proofs.Result.{unescaped-shorter}
+use Rattle.table.specs.Row.{Row, Name, Tok, start, attr, gt, close, slash, text, misc, bad, cut, tokAs, toksOf}
+use Rattle.document.specs.declared.Depth.{Depth}
+use Rattle.document.specs.Reader.{Reader, reader, fresh, shallower, depthAfter, Scope, document, isEnd, Past, Attribute, StartEl, blank, addAttribute, onAttribute, onClose, Next, found, gone, takeTurn, next}
+use Rattle.document.specs.Scope.{Child, scopeOf, shut, done, onNext, level, levelIn, children, onRoot, rootOf}
+use Rattle.document.specs.Text.{unescapedText, atEnd, textTurn, firstText, textOf}
+use Rattle.document.proofs.Laws.Onward.{Leaves, leaves-found, leaves-none, next-leaves}
+use Rattle.document.proofs.Laws.Fuel.{Shortens}
+
+-- ---- tokens
+-- the value of an attribute or a text; others have none
+abbrev pub valueIn : Tok → List ℕ
+valueIn (start n) = []
+valueIn (attr m v) = v
+valueIn gt = []
+valueIn (close m) = []
+valueIn slash = []
+valueIn (text v) = v
+valueIn misc = []
+valueIn bad = []
+
+abbrev pub ShortValue : ℕ → Tok → Type 0
+ShortValue most t = length (valueIn t) ≤ most
+
+short-value : (most k : ℕ) (n : Name) (v : List ℕ) → length v ≤ most → ShortValue most (tokAs k n v)
+unfolding tokAs
+short-value most zero n v h = omega arith
+short-value most (suc zero) n v h = omega arith
+short-value most (suc (suc zero)) n v h = h
+short-value most (suc (suc (suc zero))) n v h = omega arith
+short-value most (suc (suc (suc (suc zero)))) n v h = omega arith
+short-value most (suc (suc (suc (suc (suc zero))))) n v h = omega arith
+short-value most (suc (suc (suc (suc (suc (suc zero)))))) n v h = h
+short-value most (suc (suc (suc (suc (suc (suc (suc zero))))))) n v h = omega arith
+short-value most (suc (suc (suc (suc (suc (suc (suc (suc k)))))))) n v h = omega arith
+
+pub cut-short : (body : List ℕ) (from len : ℕ) → length (cut body from len) ≤ length body
+cut-short body from len = omega (arith, length-take len (drop from body), length-drop from body)
+
+-- of any rows over a body
+pub values-short : (body : List ℕ) (rows : List Row) → Every (ShortValue (length body)) (toksOf body rows)
+values-short body [] = none
+values-short body (r ∷ rows) = and (short-value (length body) (r .kind) _ _ (cut-short body (r .valueStart) (r .valueLen))) (values-short body rows)
+
+-- ---- attributes of a start element that is found
+abbrev pub ShortAttribute : ℕ → Attribute → Type 0
+ShortAttribute most a = length (a .value) ≤ most
+
+data ShortStart (most : ℕ) : Next → Type 0 where
+  short-start : {el : StartEl} {r : Reader} → Every (ShortAttribute most) (el .attributes) → ShortStart most (found el r)
+  no-start : {p : Past} → ShortStart most (gone p)
+
+module _ (most : ℕ) (s : Scope) where
+  next-short : (o : StartEl) (d : Depth) (k : ℕ) (l : List Tok) → Every (ShortValue most) l → Every (ShortAttribute most) (o .attributes) → ShortStart most (next s o d k l)
+  unfolding next
+  next-short o d k [] none a = no-start
+  next-short o d k (start n ∷ l) (and h e) a = next-short _ _ (suc k) l e a
+  next-short o d k (attr n v ∷ l) (and h e) a =
+      go (unescaped v) refl (λ (x : List ℕ) i. next-short (addAttribute o n x) d (suc k) l e (every-snoc a (omega (arith, i, h))))
+    where
+      go : (u : Out) → unescaped v ≡ u → ((x : List ℕ) → length x ≤ length v → ShortStart most (next s (addAttribute o n x) d (suc k) l))
+          → ShortStart most (takeTurn (onAttribute o n u) (reader d (suc k) l) (λ (o' : StartEl). next s o' d (suc k) l))
+      go (bytes x) q ih = ih x (unescaped-shorter v x q)
+      go (text.bad at) q ih = no-start
+  next-short o d k (gt ∷ l) (and h e) a = short-start a
+  next-short o d k (close n ∷ l) (and h e) a = go (isEnd s (shallower d) n) (next-short o (shallower d) (suc k) l e a)
+    where
+      go : (ends : Bool) → ShortStart most (next s o (shallower d) (suc k) l)
+          → ShortStart most (takeTurn (onClose o ends) (reader (shallower d) (suc k) l) (λ (o' : StartEl). next s o' (shallower d) (suc k) l))
+      go true ih = no-start
+      go false ih = ih
+  next-short o d k (slash ∷ l) (and h e) a = short-start a
+  next-short o d k (text v ∷ l) (and h e) a = next-short o d (suc k) l e a
+  next-short o d k (misc ∷ l) (and h e) a = next-short o d (suc k) l e a
+  next-short o d k (bad ∷ l) (and h e) a = next-short o d (suc k) l e a
+
+pub root-attributes-short : (most : ℕ) (toks : List Tok) → Every (ShortValue most) toks → (c : Child) → rootOf toks ≡ some c → Every (ShortAttribute most) (c .start .attributes)
+unfolding rootOf
+root-attributes-short most toks h c e = go (next-short most document blank (fresh toks .depth) 0 toks h none) e
+  where
+    go : {x : Next} → ShortStart most x → onRoot x ≡ some c → Every (ShortAttribute most) (c .start .attributes)
+    go (short-start {el = el} {r = r} a) e = let q : record { start = el; inner = r } ≡ c = cc in rw (← q) a
+    go no-start e = let z : _≡_ {A = ℕ} 0 1 = cc in absurd (omega arith)
+
+-- ---- the first text of an element
+pub data ShortText (most : ℕ) : Answer (List ℕ) → Type 0 where
+  short-text : {b : List ℕ} → length b ≤ most → ShortText most (gives b)
+  no-text : {r : Refusal} → ShortText most (refuses r)
+
+module _ (most : ℕ) where
+  at-end-short : (failure : Option Refusal) → ShortText most (atEnd failure)
+  at-end-short none = short-text {b = []} (omega arith)
+  at-end-short (some r) = no-text
+
+  unescaped-short : (v : List ℕ) → length v ≤ most → ShortText most (unescapedText (unescaped v))
+  unescaped-short v h = go (unescaped v) refl
+    where
+      go : (u : Out) → unescaped v ≡ u → ShortText most (unescapedText u)
+      go (bytes x) q = short-text {b = x} (omega (arith, unescaped-shorter v x q, h))
+      go (text.bad at) q = no-text
+
+  turn-short : (s : Scope) (d : Depth) (t : Tok) → ShortValue most t → (more : Answer (List ℕ)) → ShortText most more → ShortText most (textTurn s d t more)
+  turn-short s d (start n) h more m = no-text
+  turn-short s d (attr n v) h more m = m
+  turn-short s d gt h more m = m
+  turn-short s d (close n) h more m = pick-all (ShortText most) (isEnd s d n) (gives []) more (short-text {b = []} (omega arith)) m
+  turn-short s d slash h more m = m
+  turn-short s d (text v) h more m = unescaped-short v h
+  turn-short s d misc h more m = m
+  turn-short s d bad h more m = m
+
+  first-text-short : (failure : Option Refusal) (s : Scope) (d : Depth) {l : List Tok} → Every (ShortValue most) l → ShortText most (firstText failure s d l)
+  unfolding firstText
+  first-text-short failure s d none = at-end-short failure
+  first-text-short failure s d (and {x = t} {l = l} h e) =
+      turn-short s (depthAfter t d) t h (firstText failure s (depthAfter t d) l) (first-text-short failure s (depthAfter t d) e)
+
+  pub text-short : (failure : Option Refusal) (c : Child) → Every (ShortValue most) (c .inner .rest) → ShortText most (textOf failure c)
+  unfolding textOf
+  text-short failure c e =
+      pick-all (ShortText most) (c .start .closed) (gives []) (firstText failure (scopeOf (c .start)) (c .inner .depth) (c .inner .rest))
+      (short-text {b = []} (omega arith)) (first-text-short failure (scopeOf (c .start)) (c .inner .depth) e)
+
+-- ---- each child takes a token at least
+pub few-children : (past : Child → Reader) → Shortens past → (f : ℕ) (s : Scope) (r : Reader) → length (children (level f past s r)) ≤ length (r .rest)
+unfolding level children
+few-children past short zero s r = omega arith
+few-children past short (suc f) s r = go (next-leaves s blank (r .depth) (r .row) (r .rest)) (few-children past short f s)
+  where
+    go : {x : Next} → Leaves r x → ((q : Reader) → length (children (level f past s q)) ≤ length (q .rest)) → length (children (onNext past (level f past s) x)) ≤ length (r .rest)
+    go (leaves-found {el = el} q g h) ih =
+        let c : Child = record { start = el; inner = q } in
+        omega (arith, ih (past c), short c, h)
+    go (leaves-none p g) ih = omega arith
+
+pub few-inside : (past : Child → Reader) → Shortens past → (c : Child) → length (children (levelIn past c)) ≤ length (c .inner .rest)
+unfolding children
+few-inside past short c =
+    pick-all (λ l. length (children l) ≤ length (c .inner .rest)) (c .start .closed) (done (shut (c .inner))) (level (suc (length (c .inner .rest))) past (scopeOf (c .start)) (c .inner))
+    (omega arith) (few-children past short (suc (length (c .inner .rest))) (scopeOf (c .start)) (c .inner))

@@ -1,0 +1,4 @@
+pub mod Names
+pub mod Laws
+pub mod Passed
+pub mod Examples

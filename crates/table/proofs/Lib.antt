@@ -1,0 +1,10 @@
+pub mod RowLaws
+pub mod Flat
+pub mod Moved
+pub mod Element
+pub mod Test
+pub mod Examples
+pub mod SpanLaws
+pub mod ByteLaws
+pub mod OrderLaws
+pub mod Pass

@@ -1,0 +1,10 @@
+pub mod Tests
+pub mod Fault
+pub mod First
+pub mod Means
+pub mod Order
+pub mod Pass
+pub mod Past
+pub mod Again
+pub mod Closing
+pub mod Piece
