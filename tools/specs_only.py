@@ -15,7 +15,7 @@ import sys
 ROOT = os.path.dirname(os.path.dirname(os.path.abspath(__file__)))
 WIDE = 140
 # crates that are not held to this yet
-EXEMPT = ["readings"]
+EXEMPT = []
 
 SECTION = re.compile(r"(unfoldable |abbrev )*(module|mutual)\b")
 PLAIN = re.compile(r"((pub )?(record|data|use|mod) |infix[lr]? |unfolding )")

@@ -10,7 +10,7 @@ use borrow.Author.Needs.{needs}
 use lib.ListN.{length, getD, set, take, length-append}
 use lib.Seq.{sets, length-sets}
 use Rattle.lists.specs.Tests.{pick}
-use Rattle.lists.specs.Overwrite.{sets-append}
+use Rattle.lists.proofs.Overwrite.{sets-append}
 use Rattle.table.specs.Row.{Row, tableOf}
 use Rattle.table.specs.Rules.{usesName}
 use Rattle.table.specs.Flat.{rowAt, rowsFrom}

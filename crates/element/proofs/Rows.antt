@@ -11,10 +11,12 @@ use lib.Dec.{eqb, leb, ltb}
 use lib.ListN.{length, getD}
 use lib.Seq.{sets}
 use Rattle.lists.specs.Tests.{pick}
-use Rattle.lists.specs.Decide.{Says, says-no, says-same, says-not, says-ltb}
+use Rattle.lists.specs.Decide.{Says}
+use Rattle.lists.proofs.Decide.{says-no, says-same, says-not, says-ltb}
 use Rattle.table.specs.Row.{Row}
 use Rattle.table.specs.Rules.{among}
-use Rattle.table.specs.Flat.{rowAt, rowsFrom, length-rows, unroll, rolled-out}
+use Rattle.table.specs.Flat.{rowAt, rowsFrom}
+use Rattle.table.proofs.Flat.{length-rows, unroll, rolled-out}
 use Rattle.table.specs.Piece.{openCount, closing}
 use Rattle.element.specs.Rows.{openAfter, StartsAfter, FirstAfter, movedTable, OwnRows}
 

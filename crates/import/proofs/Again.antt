@@ -12,11 +12,12 @@ use lib.Seq.{sets, length-sets, getD-set-same, getD-set-other}
 use Rattle.lists.specs.Parts.{part}
 use Rattle.table.specs.Row.{cut, rowsOf, tableOf}
 use Rattle.table.specs.Rules.{TableRules}
-use Rattle.table.specs.Flat.{rowsFrom, length-rows}
+use Rattle.table.specs.Flat.{rowsFrom}
+use Rattle.table.proofs.Flat.{length-rows}
 use Rattle.table.specs.Piece.{closing, elementRows, pieceRows}
 use Rattle.xml.specs.declared.Drained.{Drained}
 use Rattle.xml.specs.Drain.{drained}
-use Rattle.xml.specs.Pass.{drained-document-is}
+use Rattle.xml.proofs.Pass.{drained-document-is}
 use Rattle.xml.specs.Piece.{PieceAt, ElementPiece}
 use Rattle.readings.specs.Call.{Upload, Call, uploaded, calling}
 use Rattle.readings.specs.Output.{pieceKind}
@@ -73,8 +74,8 @@ module _ {t : List ℕ} {place : ℕ} {old new : List ℕ} {n : ℕ} (o : OwnRow
           → Reread shape (uploaded body t end) place len call (length e) (length tx) r
       reread {shape} {call} {e} {tx} {e′} {tx′} {c} {l} {r} reads d =
           let is : uploaded (part body from (from + size)) (part new 0 (n * 8)) len ≡ pieceUpload (uploaded body t end) (x .row) place len =
-              ap (λ (b : List ℕ). uploaded b (part new 0 (n * 8)) len) bytes
-              ∙ ap (λ (rows : List ℕ). uploaded (cut body place len) rows len) (own-table (x .is)) in
+          ap (λ (b : List ℕ). uploaded b (part new 0 (n * 8)) len) bytes
+          ∙ ap (λ (rows : List ℕ). uploaded (cut body place len) rows len) (own-table (x .is)) in
           let kept = subst (λ (u : Upload). Demanded shape u call e tx e′ c r) is d .kept (x .is .again) in
           record {
             row = x .row;
@@ -176,7 +177,7 @@ pub ruleset again-laws = (needs, again-start, again-more, again-done, again-long
 module _ (body t : List ℕ) (end : ℕ) {row cause r : ℕ} (d : DrainCall (drained body t end) row cause r) where
   pub import-refused : (r ≡ 0 → ⊥) → {shape piece : Shape} {call inner : Call} (e tx numbers : List ℕ) {room texts : ℕ}
       → ImportCall shape piece (uploaded body t end) call inner e tx e tx numbers numbers room texts
-          (record { drained = r; read = 0; count = 0; length = 0 })
+      (record { drained = r; read = 0; count = 0; length = 0 })
   import-refused f e tx numbers =
       record {
         drained = d .number;
@@ -201,7 +202,7 @@ module _ {shape : Shape} {body t : List ℕ} {end : ℕ} {call : Call} {e tx e�
       → {piece : Shape} {inner : Call} (numbers : List ℕ) {numbers′ : List ℕ} {room texts : ℕ}
       → EachReread piece (uploaded body t end) e′ n inner room texts numbers′
       → ImportCall shape piece (uploaded body t end) call inner e tx e′ tx′ numbers numbers′ room texts
-          (record { drained = r; read = x; count = n; length = m })
+      (record { drained = r; read = x; count = n; length = m })
   import-read c z numbers a =
       let kept = k .kept (import-passed body t end d z .is) in
       record {

@@ -9,12 +9,13 @@ use lib.Dec.{eqb, leb}
 use lib.ListN.{length, getD, take, drop}
 use lib.Seq.{sets}
 use Rattle.lists.specs.Tests.{pick}
-use Rattle.lists.specs.Overwrite.{take-sets}
+use Rattle.lists.proofs.Overwrite.{take-sets}
 use Rattle.table.specs.Row.{Row, rowsOf, tableOf}
 use Rattle.table.specs.Rules.{Place, atFirst, lastLt, EachRow, none, row, TableRules}
-use Rattle.table.specs.Flat.{rowAt, rowsFrom, length-rows, rows-same, rows-whole}
+use Rattle.table.specs.Flat.{rowAt, rowsFrom}
+use Rattle.table.proofs.Flat.{length-rows, rows-same, rows-whole}
 use Rattle.table.specs.Piece.{openCount, closing, elementRows, pieceStart, pieceRows, ElementAt}
-use Rattle.table.specs.Element.{element-is}
+use Rattle.table.proofs.Element.{element-is}
 use Rattle.decode.proofs.Seen.{take-rows}
 use Rattle.element.specs.Rows.{movedTable, StartsAfter, FirstAfter}
 use Rattle.element.proofs.Numbers.{moved-length}

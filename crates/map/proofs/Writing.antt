@@ -8,7 +8,7 @@ use mir.Val.{Fits}
 use mir.Syntax.{w32, w64}
 use lib.ListN.{length, drop, take}
 use Rattle.table.specs.Row.{cut}
-use Rattle.document.specs.Laws.Short.{cut-short}
+use Rattle.document.proofs.Laws.Short.{cut-short}
 use Rattle.readings.specs.Plan.{perform}
 use Rattle.decode.specs.declared.piece.Piece.{Piece}
 use Rattle.output.specs.declared.Written.{Written}

@@ -13,7 +13,7 @@ use Rattle.lists.specs.Tests.{pick}
 use Rattle.refusal.specs.declared.Refusal.{Refusal}
 use Rattle.document.specs.Reader.{Reader}
 use Rattle.document.specs.Scope.{Child, children, levelIn, dropping}
-use Rattle.document.specs.Laws.Fuel.{Shortens, dropping-shortens}
+use Rattle.document.proofs.Laws.Fuel.{Shortens, dropping-shortens}
 use Rattle.readings.specs.Plan.{Plan, end, perform, oneByOne}
 use Rattle.readings.specs.Collection.{isWanted}
 use Rattle.decode.specs.Rows.{nameAt}

@@ -7,7 +7,7 @@ use mathlib.Core.List.{List}
 use Rattle.refusal.specs.declared.Refusal.{Refusal}
 use Rattle.document.specs.Reader.{Reader}
 use Rattle.document.specs.Scope.{Child, Level, children, levelIn, dropping}
-use Rattle.document.specs.Laws.Fuel.{levelFrom}
+use Rattle.document.specs.Scope.{levelFrom}
 use Rattle.readings.specs.Plan.{Plan, followedBy, oneByOne, endTest}
 use Rattle.decode.specs.declared.reader.ScopeRow.{ScopeRow}
 use Rattle.decode.specs.declared.reader.Cursor.{Cursor}

@@ -8,7 +8,7 @@ use mir.Val.{Fits}
 use mir.Syntax.{w32}
 use lib.ListN.{length, getD}
 use Rattle.refusal.specs.declared.Refusal.{Refusal}
-use Rattle.document.specs.Laws.Short.{cut-short}
+use Rattle.document.proofs.Laws.Short.{cut-short}
 use Rattle.readings.specs.Plan.{Plan, end, perform, oneByOne}
 use Rattle.decode.specs.Rows.{valueAt}
 use Rattle.decode.specs.declared.view.View.{View}

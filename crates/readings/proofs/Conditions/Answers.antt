@@ -1,7 +1,7 @@
 -- What an answer is: given, with what holds of what it gives; or refused, with the condition of the refusal. Answers that go on from one another are so in turn.
 use mathlib.Core.Path.{_≡_, refl, sym, ap, subst}
 use mathlib.Core.Bool.{Bool, true, false}
-use Rattle.lists.specs.Tests.{false-true}
+use Rattle.lists.proofs.Tests.{false-true}
 use Rattle.refusal.specs.declared.Refusal.{Refusal}
 use Rattle.refusal.specs.Answer.{Answer, gives, refuses, onward}
 

@@ -5,7 +5,8 @@ use mathlib.Core.List.{List, _++_}
 use native.Mathlib.Omega.{arith}
 use lib.ListN.{length, drop, length-append, length-drop}
 use lib.Seq.{take-append-le, drop-append-le, drop-append-seam, take-length}
-use Rattle.lists.specs.Every.{Every, none, every-snoc, every-map}
+use Rattle.lists.specs.Every.{Every, none}
+use Rattle.lists.proofs.Every.{every-snoc, every-map}
 use Rattle.refusal.specs.declared.Refusal.{Refusal}
 use Rattle.refusal.specs.Numbers.{number}
 use Rattle.table.specs.Row.{cut}

@@ -5,24 +5,27 @@ use mathlib.Core.Path.{_≡_, refl, sym, _∙_, subst}
 use mathlib.Core.Bool.{Bool, true, false}
 use mathlib.Core.List.{List, [], _∷_, _++_, List·Memᴰ, List·Memᴰ·head, List·Memᴰ·tail}
 use mathlib.Core.Option.{Option, none, some, Option·none-ne-some, Option·some-injective}
-use Rattle.lists.specs.Tests.{pick, false-true}
-use Rattle.lists.specs.Every.{Every, every-in}
+use Rattle.lists.specs.Tests.{pick}
+use Rattle.lists.proofs.Tests.{false-true}
+use Rattle.lists.specs.Every.{Every}
+use Rattle.lists.proofs.Every.{every-in}
 use Rattle.refusal.specs.declared.Refusal.{Refusal}
 use Rattle.refusal.specs.Answer.{Answer, refuses}
 use Rattle.table.specs.Row.{Tok, cut, rowsOf, toksOf}
 use Rattle.xml.specs.declared.Drained.{Drained}
 use Rattle.xml.specs.Drain.{drained}
 use Rattle.xml.specs.Passed.{Passed}
-use Rattle.xml.specs.Means.{drained-passes-is}
-use Rattle.xml.specs.Pass.{drained-document-is}
-use Rattle.xml.specs.Closing.{element-closed, element-last}
-use Rattle.xml.specs.Piece.{ElementPiece, element-piece}
+use Rattle.xml.proofs.Means.{drained-passes-is}
+use Rattle.xml.proofs.Pass.{drained-document-is}
+use Rattle.xml.proofs.Closing.{element-closed, element-last}
+use Rattle.xml.specs.Piece.{ElementPiece}
+use Rattle.xml.proofs.Piece.{element-piece}
 use Rattle.document.specs.View.{View, whole, view}
 use Rattle.document.specs.Scope.{Child, childrenOf, dropping, afterChildren, rootOf, pieceOf}
 use Rattle.document.specs.Text.{textOf}
-use Rattle.document.specs.Passed.View.{view-passed}
-use Rattle.document.specs.Passed.Walks.{either-past, PastElements, level-in, dropping-past, after-children-past}
-use Rattle.document.specs.Passed.Pieces.{Met, met, inside-met, children-met, RootMet, root-met, no-root, document-root, TextOrElement, is-text, is-element, text-met, element-row, IsPieceAt, piece-met}
+use Rattle.document.proofs.Passed.View.{view-passed}
+use Rattle.document.proofs.Passed.Walks.{either-past, PastElements, level-in, dropping-past, after-children-past}
+use Rattle.document.proofs.Passed.Pieces.{Met, met, inside-met, children-met, RootMet, root-met, no-root, document-root, TextOrElement, is-text, is-element, text-met, element-row, IsPieceAt, piece-met}
 use Rattle.sheet.specs.declared.ShapeDepth.{ShapeDepth}
 use Rattle.sheet.specs.Settings.{Settings, isStrict}
 use Rattle.sheet.specs.Sheet.{Structure}

@@ -5,12 +5,13 @@ use mathlib.Core.Path.{_≡_, refl}
 use mathlib.Core.Bool.{true, false}
 use mathlib.Core.List.{List, [], _∷_, _++_, List·Memᴰ·head, List·Memᴰ·tail}
 use Rattle.lists.specs.Bytes.{ascii}
-use Rattle.lists.specs.Every.{Every, every-in}
+use Rattle.lists.specs.Every.{Every}
+use Rattle.lists.proofs.Every.{every-in}
 use Rattle.table.specs.Row.{cut, rowsOf, tableOf}
 use Rattle.table.specs.Piece.{elementRows, pieceRows}
 use Rattle.xml.specs.declared.Drained.{Drained}
 use Rattle.xml.specs.Drain.{drained}
-use Rattle.xml.specs.Means.{drained-passes-is}
+use Rattle.xml.proofs.Means.{drained-passes-is}
 use Rattle.xml.specs.Piece.{ElementPiece}
 use Rattle.sheet.specs.Settings.{Settings}
 use Rattle.sheet.specs.Sheet.{structureOf}

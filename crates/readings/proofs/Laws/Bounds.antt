@@ -7,7 +7,8 @@ use mathlib.Core.List.{List, [], _∷_}
 use mathlib.Core.Option.{Option, none, some}
 use native.Mathlib.Omega.{arith}
 use lib.ListN.{length, length-map, length-take, drop}
-use Rattle.lists.specs.Every.{Every, none, and, every-map}
+use Rattle.lists.specs.Every.{Every, none, and}
+use Rattle.lists.proofs.Every.{every-map}
 use Rattle.lists.specs.Tests.{pick}
 use Rattle.refusal.specs.Answer.{Answer, gives}
 use Rattle.table.specs.Row.{rowsOf, tokOf, toksOf}
@@ -15,15 +16,15 @@ use Rattle.table.specs.Rules.{mostRows, mostBytes}
 use Rattle.document.specs.Names.{nameMatches}
 use Rattle.document.specs.Reader.{Attribute}
 use Rattle.document.specs.Scope.{childrenOf, dropping}
-use Rattle.document.specs.Laws.Fuel.{dropping-shortens}
-use Rattle.document.specs.Laws.Placed.{Placed}
-use Rattle.document.specs.Laws.Inside.{piece-inside}
-use Rattle.document.specs.Laws.Short.{ShortValue, values-short, ShortAttribute, root-attributes-short, ShortText, short-text, no-text, text-short, few-inside}
+use Rattle.document.proofs.Laws.Fuel.{dropping-shortens}
+use Rattle.document.proofs.Laws.Placed.{Placed}
+use Rattle.document.proofs.Laws.Inside.{piece-inside}
+use Rattle.document.proofs.Laws.Short.{ShortValue, values-short, ShortAttribute, root-attributes-short, ShortText, short-text, no-text, text-short, few-inside}
 use Rattle.sheet.specs.declared.ShapeDepth.{ShapeDepth}
 use Rattle.sheet.specs.Settings.{Settings}
 use Rattle.sheet.specs.Sheet.{mostMembers, Member, Structure, structureOf}
 use Rattle.sheet.specs.Names.{indexed, entryName}
-use Rattle.sheet.specs.Limits.{few-members}
+use Rattle.sheet.proofs.Limits.{few-members}
 use Rattle.readings.specs.Call.{uploaded, calling}
 use Rattle.readings.specs.Output.{Entry, Room, Output, nothing, output}
 use Rattle.readings.specs.Plan.{performed}

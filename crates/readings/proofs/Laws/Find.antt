@@ -6,7 +6,7 @@ use mathlib.Core.List.{List, [], _∷_, List·Memᴰ, List·Memᴰ·head, List·
 use mathlib.Core.Option.{Option, none, some}
 use native.Mathlib.Omega.{arith}
 use lib.ListN.{length}
-use Rattle.lists.specs.Tests.{pick-all}
+use Rattle.lists.proofs.Tests.{pick-all}
 use Rattle.refusal.specs.declared.Refusal.{Refusal}
 use Rattle.refusal.specs.Answer.{Answer, gives, refuses, onward}
 use Rattle.table.specs.Row.{Row, rowsOf, toksOf}
@@ -14,9 +14,9 @@ use Rattle.table.specs.Rules.{TableRules}
 use Rattle.table.specs.Test.{decTable}
 use Rattle.document.specs.View.{View, view}
 use Rattle.document.specs.Scope.{Child, rootOf, childrenOf, Piece, pieceOf}
-use Rattle.document.specs.Laws.Tags.{rows-tags}
-use Rattle.document.specs.Laws.Placed.{Placed, children-placed, root-placed}
-use Rattle.document.specs.Laws.Inside.{ViewIn, view-in, piece-inside}
+use Rattle.document.proofs.Laws.Tags.{rows-tags}
+use Rattle.document.proofs.Laws.Placed.{Placed, children-placed, root-placed}
+use Rattle.document.proofs.Laws.Inside.{ViewIn, view-in, piece-inside}
 use Rattle.readings.specs.Call.{uploaded}
 use Rattle.readings.specs.Opening.{withTable, present}
 use Rattle.readings.specs.Find.{hasLocal, firstChild, wholeBody, findIn, find, partOf}

@@ -7,15 +7,17 @@ use mathlib.Core.Option.{none}
 use native.Mathlib.Omega.{arith}
 use lib.Dec.{eqb}
 use lib.ListN.{length, take, drop}
-use Rattle.lists.specs.Every.{Every, none, every-snoc}
-use Rattle.lists.specs.Tests.{pick, pick-all}
+use Rattle.lists.specs.Every.{Every, none}
+use Rattle.lists.proofs.Every.{every-snoc}
+use Rattle.lists.specs.Tests.{pick}
+use Rattle.lists.proofs.Tests.{pick-all}
 use Rattle.table.specs.Row.{Row, toksOf}
 use Rattle.table.specs.Rules.{lastPosition}
 use Rattle.table.specs.Piece.{openCount, closing, isClosed}
-use Rattle.table.specs.Moved.{last-taken}
-use Rattle.table.specs.Element.{each-take, last-drop}
-use Rattle.document.specs.Laws.Placed.{Placed}
-use Rattle.document.specs.Laws.Inside.{StartRow, start-row, view-end-in, PieceIn, piece-to-in, piece-inside}
+use Rattle.table.proofs.Moved.{last-taken}
+use Rattle.table.proofs.Element.{each-take, last-drop}
+use Rattle.document.proofs.Laws.Placed.{Placed}
+use Rattle.document.proofs.Laws.Inside.{StartRow, start-row, view-end-in, PieceIn, piece-to-in, piece-inside}
 use Rattle.sheet.specs.declared.ShapeDepth.{ShapeDepth}
 use Rattle.sheet.specs.Settings.{Settings}
 use Rattle.readings.specs.Call.{uploaded, calling}

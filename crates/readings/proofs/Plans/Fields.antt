@@ -5,7 +5,7 @@ use mathlib.Core.Bool.{Bool, true, false}
 use mathlib.Core.List.{List, [], _∷_, List·Memᴰ, List·Memᴰ·head, List·Memᴰ·tail}
 use mathlib.Core.Option.{Option, none, some}
 use Rattle.lists.specs.Bytes.{sameb}
-use Rattle.lists.specs.Tests.{pick-cases}
+use Rattle.lists.proofs.Tests.{pick-cases}
 use Rattle.refusal.specs.declared.Refusal.{Refusal}
 use Rattle.refusal.specs.Answer.{Answer, gives, refuses, onward}
 use Rattle.document.specs.View.{View}

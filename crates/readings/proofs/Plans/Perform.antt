@@ -8,7 +8,8 @@ use native.Mathlib.Omega.{arith}
 use borrow.Author.Tests.{ltb-true, ltb-false, leb-true, leb-false, le-leb, lt-ltb}
 use lib.Dec.{ltb, leb}
 use lib.ListN.{length, length-append}
-use Rattle.lists.specs.Tests.{pick, pick-cases, false-true}
+use Rattle.lists.specs.Tests.{pick}
+use Rattle.lists.proofs.Tests.{pick-cases, false-true}
 use Rattle.refusal.specs.declared.Refusal.{Refusal}
 use Rattle.readings.specs.Output.{Entry, Room, Output, nothing, Reading, finished, refused, output, fits, written}
 use Rattle.readings.specs.Plan.{Plan, put, end, stop, perform, followedBy, Whole, allOrNone, thenGroups, performed}

@@ -1,20 +1,20 @@
--- Of a table that obeys the rules: the root and the children that a reading meets stand in the tokens (document/specs/Laws/Placed.antt).
+-- Of a table that obeys the rules: the root and the children that a reading meets stand in the tokens (document/proofs/Laws/Placed.antt).
 use Prim.Native.Nat.{ℕ}
 use mathlib.Core.Path.{_≡_}
 use mathlib.Core.Bool.{Bool}
 use mathlib.Core.List.{List, List·Memᴰ}
 use mathlib.Core.Option.{Option}
-use Rattle.lists.specs.Every.{every-in}
-use Rattle.lists.specs.Tests.{pick-all}
+use Rattle.lists.proofs.Every.{every-in}
+use Rattle.lists.proofs.Tests.{pick-all}
 use Rattle.refusal.specs.declared.Refusal.{Refusal}
 use Rattle.refusal.specs.Answer.{gives, refuses}
 use Rattle.table.specs.Row.{Tok, rowsOf, toksOf}
 use Rattle.document.specs.Reader.{Reader}
 use Rattle.document.specs.Scope.{Child, dropping, afterChildren, Piece, pieceOf}
 use Rattle.document.specs.Text.{textOf}
-use Rattle.document.specs.Laws.Tags.{rows-tags}
-use Rattle.document.specs.Laws.Placed.{Outside, Placed, Outward, level-in-placed, dropping-outward, afterChildren-outward, children-placed, root-placed}
-use Rattle.document.specs.Laws.Inside.{ViewIn, view-in}
+use Rattle.document.proofs.Laws.Tags.{rows-tags}
+use Rattle.document.proofs.Laws.Placed.{Outside, Placed, Outward, level-in-placed, dropping-outward, afterChildren-outward, children-placed, root-placed}
+use Rattle.document.proofs.Laws.Inside.{ViewIn, view-in}
 use Rattle.readings.specs.Opening.{Opened}
 use Rattle.readings.specs.Collection.{isWanted, afterEntry, entriesOf}
 use Rattle.readings.proofs.Conditions.Opening.{OpenedAs}
