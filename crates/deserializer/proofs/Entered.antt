@@ -153,7 +153,7 @@ module _ (body t : List ℕ) (final : ℕ) (sheet : List ℕ) {parsed : Structur
           reads = record {
             is = record {
               order = rising;
-              ordered = an-order body t final sheet settings depth;
+              ordered = an-order (uploaded body t final) (calling sheet settings depth);
               reads = call-early (structureReading (uploaded body t final) (calling sheet settings depth) rising) {why = why}
                   (ap (performed (roomOf e tx)) (structure-early body t final sheet settings depth rising (asked-early a settings depth (deep-struct g) i (λ o. p .there o .said) (p .broken) q))) refl;
             };
@@ -171,7 +171,7 @@ module _ (body t : List ℕ) (final : ℕ) (sheet : List ℕ) {parsed : Structur
           reads = record {
             is = record {
               order = rising;
-              ordered = an-order body t final sheet settings depth;
+              ordered = an-order (uploaded body t final) (calling sheet settings depth);
               reads = told (structureReading (uploaded body t final) (calling sheet settings depth) rising) got
                   (ends-as (ap (performed (roomOf e tx)) (structure-is body t final sheet settings depth (saidBy sheet) (openedAt body t v s c)
                   (asked-found a settings depth (deep-struct g) i (λ o. p .there o .said) q))) (rw k at (x .does) .is (holds-nothing e tx)));

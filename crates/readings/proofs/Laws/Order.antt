@@ -14,7 +14,7 @@ use Rattle.sheet.specs.declared.ShapeDepth.{ShapeDepth}
 use Rattle.sheet.specs.Settings.{Settings}
 use Rattle.sheet.specs.Sheet.{Member, Structure, structureOf}
 use Rattle.sheet.specs.Names.{childName, isNamed, Indexed, indexed, firstNamed, membersOf}
-use Rattle.readings.specs.Call.{uploaded, calling}
+use Rattle.readings.specs.Call.{Upload, Call}
 use Rattle.readings.specs.Opening.{Asked, asked}
 use Rattle.readings.specs.Structure.{flatMember, isIndex, inGroup, Once, once-none, once-more, GroupOrder, OrderFor}
 
@@ -141,6 +141,6 @@ abbrev pub orderIn : Answer (Asked Structure) → List ℕ
 orderIn (gives a) = memberOrder (a .sheet) (childrenOf (a .opened .root))
 orderIn (refuses r) = []
 
-pub an-order : (body table : List ℕ) (final : ℕ) (sheet : List ℕ) (settings : Settings) (depth : ShapeDepth)
-    → OrderFor (uploaded body table final) (calling sheet settings depth) (orderIn (asked (uploaded body table final) (structureOf sheet) settings depth))
-an-order body table final sheet settings depth = record { is = λ a e. rw e (member-order (a .sheet) (childrenOf (a .opened .root))) }
+pub an-order : (u : Upload) (call : Call)
+    → OrderFor u call (orderIn (asked u (structureOf (call .sheet)) (call .settings) (call .depth)))
+an-order u call = record { is = λ a e. rw e (member-order (a .sheet) (childrenOf (a .opened .root))) }
