@@ -28,7 +28,7 @@ use Rattle.readings.specs.Plan.{Plan, put, end}
 use Rattle.readings.specs.Opening.{Asked}
 use Rattle.readings.specs.Structure.{inGroup}
 use Rattle.readings.specs.Collection.{isWanted, entriesOf}
-use Rattle.readings.specs.Shape.{Shape, structure, list, map, strings, SheetOf, sheetOf, planOf, read}
+use Rattle.readings.specs.Shape.{Shape, structure, map, strings, SheetOf, sheetOf, planOf, read}
 
 -- ---- "For every body and table that the strict drain passes, a later structure, list or map reading .. is refused only for"
 -- what is read of such a table: the sheet that its bytes say, all the rows, and the root

@@ -1,6 +1,6 @@
 -- 01, "Numbers": "No other number". The numbers with which each reading may be refused, on every input.
 use Prim.Native.Nat.{ℕ}
-use mathlib.Core.Path.{_≡_, refl, subst}
+use mathlib.Core.Path.{_≡_, refl}
 use mathlib.Core.Bool.{Bool, true}
 use mathlib.Core.List.{List, [], _∷_}
 use Rattle.refusal.specs.declared.Refusal.{Refusal}

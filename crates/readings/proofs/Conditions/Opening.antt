@@ -1,9 +1,8 @@
 -- 01, "Numbers": "No other number, and no number where its condition does not hold." What stands here is common to the readings: the conditions of
 -- 1, 2, 3 and 4 in their order, what holds where none of them does, and the condition of 9. Every law is for every input.
-use Prim.Native.Nat.{ℕ, _≤_, _<_}
+use Prim.Native.Nat.{_≤_, _<_}
 use mathlib.Core.Path.{_≡_, refl, _∙_}
 use mathlib.Core.Bool.{Bool, true, false}
-use mathlib.Core.List.{List}
 use mathlib.Core.Option.{Option, none, some}
 use borrow.Author.Tests.{leb-true, leb-false, le-leb, lt-leb}
 use Rattle.refusal.specs.declared.Refusal.{Refusal}

@@ -12,13 +12,13 @@ use Rattle.document.specs.Text.{textOf}
 use Rattle.sheet.specs.declared.ShapeDepth.{ShapeDepth}
 use Rattle.sheet.specs.Settings.{Settings}
 use Rattle.readings.specs.Call.{Upload, Call}
-use Rattle.readings.specs.Output.{Entry, Room, Output, nothing, Reading, refused, written}
-use Rattle.readings.specs.Plan.{Plan, put, end, stop, Whole, performed}
+use Rattle.readings.specs.Output.{Entry, Room, Output, nothing, refused, written}
+use Rattle.readings.specs.Plan.{Plan, put, end, stop, Whole}
 use Rattle.readings.specs.Opening.{Opened, Asked}
 use Rattle.readings.specs.Shape.{Shape, structure, list, map, strings, SheetOf, sheetOf, planOf, read}
 use Rattle.readings.specs.Demand.{Reaches, here, Exceeds, RootDiffers, TextWanted}
 use Rattle.readings.proofs.Conditions.Opening.{AskedRefused, AskedAs}
-use Rattle.readings.proofs.Plans.Perform.{Ended, all-done, at-stop, no-room, EndedWhole, as-met, in-groups, performed-ended}
+use Rattle.readings.proofs.Plans.Perform.{all-done, at-stop, no-room, EndedWhole, as-met, in-groups, performed-ended}
 use Rattle.readings.proofs.Plans.Made.{MadeWhole, made-stops}
 use Rattle.readings.proofs.Plans.Sources.{Source, Anything, Sources, ShapeSources}
 use Rattle.readings.proofs.Plans.Readings.{read-is, askedPlan, PlanIs, before, while, plan-is, mostMet, mostGroups, plan-made}

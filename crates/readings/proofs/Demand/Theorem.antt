@@ -17,17 +17,16 @@ use Rattle.xml.specs.Means.{drained-passes-is}
 use Rattle.xml.specs.Pass.{drained-document-is}
 use Rattle.xml.specs.Closing.{element-closed, element-last}
 use Rattle.xml.specs.Piece.{ElementPiece, element-piece}
-use Rattle.document.specs.View.{View, whole, view}
+use Rattle.document.specs.View.{View, whole}
 use Rattle.document.specs.Scope.{Child, childrenOf, dropping, afterChildren, rootOf, pieceOf}
 use Rattle.document.specs.Text.{textOf}
 use Rattle.document.specs.Passed.View.{view-passed}
 use Rattle.document.specs.Passed.Walks.{either-past, PastElements, level-in, dropping-past, after-children-past}
 use Rattle.document.specs.Passed.Pieces.{Met, met, inside-met, children-met, RootMet, root-met, no-root, document-root, TextOrElement, is-text, is-element, text-met, element-row, IsPieceAt, piece-met}
-use Rattle.sheet.specs.declared.ShapeDepth.{ShapeDepth}
-use Rattle.sheet.specs.Settings.{Settings, isStrict}
+use Rattle.sheet.specs.Settings.{isStrict}
 use Rattle.sheet.specs.Sheet.{Structure}
 use Rattle.sheet.specs.Names.{entryName}
-use Rattle.readings.specs.Call.{Upload, Call, calling}
+use Rattle.readings.specs.Call.{Upload, Call}
 use Rattle.readings.specs.Output.{Entry, pieceKind, Room, Output, nothing, Reading, finished, refused, output}
 use Rattle.readings.specs.Opening.{Asked}
 use Rattle.readings.specs.Structure.{inGroup, siblings, groupOf, rootPiece}

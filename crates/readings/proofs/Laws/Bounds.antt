@@ -19,8 +19,6 @@ use Rattle.document.specs.Laws.Fuel.{dropping-shortens}
 use Rattle.document.specs.Laws.Placed.{Placed}
 use Rattle.document.specs.Laws.Inside.{piece-inside}
 use Rattle.document.specs.Laws.Short.{ShortValue, values-short, ShortAttribute, root-attributes-short, ShortText, short-text, no-text, text-short, few-inside}
-use Rattle.sheet.specs.declared.ShapeDepth.{ShapeDepth}
-use Rattle.sheet.specs.Settings.{Settings}
 use Rattle.sheet.specs.Sheet.{mostMembers, Member, Structure, structureOf}
 use Rattle.sheet.specs.Names.{indexed, entryName}
 use Rattle.sheet.specs.Limits.{few-members}

@@ -16,8 +16,6 @@ use Rattle.table.specs.Moved.{last-taken}
 use Rattle.table.specs.Element.{each-take, last-drop}
 use Rattle.document.specs.Laws.Placed.{Placed}
 use Rattle.document.specs.Laws.Inside.{StartRow, start-row, view-end-in, PieceIn, piece-to-in, piece-inside}
-use Rattle.sheet.specs.declared.ShapeDepth.{ShapeDepth}
-use Rattle.sheet.specs.Settings.{Settings}
 use Rattle.readings.specs.Call.{Upload, Call}
 use Rattle.readings.specs.Output.{Entry, pieceKind, Output, nothing, output, Room}
 use Rattle.readings.specs.Opening.{Opened, Asked}

@@ -10,28 +10,12 @@ use borrow.Author.Tests.{eqb-true}
 use Rattle.lists.specs.Tests.{pick, false-true}
 use Rattle.refusal.specs.Answer.{Answer, gives, refuses}
 use Rattle.document.specs.Scope.{Child, childrenOf}
-use Rattle.sheet.specs.declared.ShapeDepth.{ShapeDepth}
-use Rattle.sheet.specs.Settings.{Settings}
 use Rattle.sheet.specs.Sheet.{Member, Structure, structureOf}
 use Rattle.sheet.specs.Names.{childName, isNamed, Indexed, indexed, firstNamed, membersOf}
 use Rattle.readings.specs.Call.{Upload, Call}
 use Rattle.readings.specs.Opening.{Asked, asked}
+use Rattle.readings.specs.Order.{hasGroup, grouped, memberOrder}
 use Rattle.readings.specs.Structure.{flatMember, isIndex, inGroup, Once, once-none, once-more, GroupOrder, OrderFor}
-
--- a child is in the group of member i
-unfoldable pub hasGroup : Structure → ℕ → List Child → Bool
-hasGroup s i [] = false
-hasGroup s i (c ∷ rest) = pick (inGroup s i c) true (hasGroup s i rest)
-
--- the indexes of some members, those without a group left out
-unfoldable pub grouped : Structure → List Child → List Indexed → List ℕ
-unfolding hasGroup
-grouped s children [] = []
-grouped s children (m ∷ rest) = let more = grouped s children rest in pick (hasGroup s (m .index) children) (m .index ∷ more) more
-
--- the groups by rising member index
-abbrev pub memberOrder : Structure → List Child → List ℕ
-memberOrder s children = grouped s children (membersOf s)
 
 -- ---- each once
 module _ (s : Structure) (children : List Child) where

@@ -1,9 +1,5 @@
 -- No reading writes more than there is room for, on any input: "An entry and its text are written only if both fit".
-use Prim.Native.Nat.{ℕ}
-use mathlib.Core.List.{List}
 use mathlib.Core.Path.{subst⁻¹}
-use Rattle.sheet.specs.declared.ShapeDepth.{ShapeDepth}
-use Rattle.sheet.specs.Settings.{Settings}
 use Rattle.readings.specs.Call.{Upload, Call}
 use Rattle.readings.specs.Output.{Room, Reading, output}
 use Rattle.readings.specs.Shape.{Shape, planOf, read}

@@ -1,8 +1,8 @@
 -- THE ONE INDUCTION over the readings: each of the four, on every input, is a plan made of what there is to be written, which stops where it may.
-use Prim.Native.Nat.{ℕ, suc, _+_}
+use Prim.Native.Nat.{ℕ, _+_}
 use mathlib.Core.Path.{_≡_, refl, subst⁻¹}
 use mathlib.Core.Bool.{Bool, true, false}
-use mathlib.Core.List.{List, [], List·Memᴰ}
+use mathlib.Core.List.{List, List·Memᴰ}
 use mathlib.Core.Option.{Option, none, some}
 use native.Mathlib.Omega.{arith}
 use lib.ListN.{length}
@@ -20,7 +20,7 @@ use Rattle.readings.specs.Output.{Room, Output, nothing, Reading, finish
 use Rattle.readings.specs.Plan.{Plan, stop, perform, oneByOne, Whole, withoutGroups, thenGroups, performed}
 use Rattle.readings.specs.Opening.{Opened, Asked, asked, asking}
 use Rattle.readings.specs.Structure.{attributeOf, foundPlan, attributePlan, scalarPlan, memberPlan, childPlan, groupPlan, membersPlan, rootPiece, rootPlan, unwrappedPlan, withRootName, openedPlan, structurePlan, structureReading}
-use Rattle.readings.specs.Collection.{isWanted, itemPlan, itemsPlan, listPlan, listReading, textPlan, stringPlan, stringsPlan, stringListPlan, stringListReading, MapValue, Fields, noFields, readFields, fieldsPlan, readPlan, entryPlan, entriesOf, entriesPlan, mapPlan, mapReading}
+use Rattle.readings.specs.Collection.{isWanted, itemPlan, itemsPlan, listPlan, listReading, textPlan, stringPlan, stringsPlan, stringListPlan, stringListReading, MapValue, Fields, noFields, fieldsPlan, readPlan, entryPlan, entriesOf, entriesPlan, mapPlan, mapReading}
 use Rattle.readings.specs.Shape.{Shape, structure, list, map, strings, SheetOf, sheetOf, planOf, read}
 use Rattle.readings.specs.Demand.{RootDiffers, differs, TextWanted, of-item, of-field}
 use Rattle.readings.proofs.Laws.Order.{named-in}
