@@ -235,7 +235,7 @@ use mathlib.Core.Path.{_≡_, refl}
 use mathlib.Core.List.{List, [], _∷_, map}
 use Rattle.readings.specs.Call.{Upload}
 use Rattle.readings.proofs.All.{computed}
-use Rattle.readings.proofs.Laws.Order.{hasGroup, grouped}
+use Rattle.readings.specs.Order.{hasGroup, grouped}
 use Rattle.faith.specs.Ask.{
   Case, at, answer, ask-struct, ask-list, ask-map, ask-strings, ask-bool, ask-int, ask-string, ask-find, ask-whole, ask-drain,
   ask-textbool, ask-textint, ask-textstring,

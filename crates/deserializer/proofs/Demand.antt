@@ -10,9 +10,8 @@ use Rattle.lists.specs.Overwrite.{overwritten}
 use Rattle.xml.specs.declared.Drained.{Drained}
 use Rattle.xml.specs.Drain.{drained}
 use Rattle.xml.proofs.Means.{drained-passes-is}
-use Rattle.refusal.specs.declared.Refusal.{Refusal}
 use Rattle.readings.specs.Call.{Upload, Call}
-use Rattle.readings.specs.Output.{Entry, Output, Room, Reading, output, outcome, sixNumbers, numbersOf}
+use Rattle.readings.specs.Output.{Entry, Room, Reading, output, outcome, sixNumbers, numbersOf}
 use Rattle.readings.specs.Shape as readings
 use Rattle.readings.specs.Shape.{read}
 use Rattle.readings.specs.Demand.{Handed, Promised, finishes, refuses}
@@ -21,7 +20,7 @@ use Rattle.output.specs.Held.{roomOf}
 use Rattle.output.specs.Call.{ReadingCall}
 use Rattle.deserializer.specs.declared.Shape.{Shape}
 use Rattle.deserializer.specs.Call.{ShapeCall, SheetCall}
-use Rattle.deserializer.specs.Demand.{MayAnswer, finished, refused, PieceAt, PiecesIn, shapeAt, Demanded}
+use Rattle.deserializer.specs.Demand.{MayAnswer, finished, refused, PieceAt, shapeAt, Demanded}
 
 -- ---- the numbers of the k-th entry stand at k * 6
 first-piece : {u : Upload} {sheet texts : List ℕ} (y : Entry) (s : List ℕ) → Handed u sheet texts y → PieceAt u (sixNumbers y ++ s) 0

@@ -1,16 +1,14 @@
 -- What each way through a reading gives, below the depth guard.
 use Prim.Native.Nat.{ℕ, _≤_, _<_}
-use mathlib.Core.Path.{_≡_, refl, sym, _∙_, ap}
+use mathlib.Core.Path.{_≡_, refl, ap}
 use mathlib.Core.Bool.{Bool, true, false, not}
 use mathlib.Core.List.{List, [], _∷_}
-use mathlib.Core.Option.{Option, none, some}
 use native.Mathlib.Omega.{arith}
 use borrow.Author.Needs.{needs}
 use lib.ListN.{length, getD, set}
 use Rattle.refusal.specs.Numbers.{number}
 use borrow.Author.Tests.{eq-eqb, ne-eqb}
 use Rattle.refusal.specs.declared.Refusal.{Refusal}
-use Rattle.document.specs.Scope.{childrenOf}
 use Rattle.sheet.specs.declared.ShapeDepth.{ShapeDepth}
 use Rattle.sheet.specs.Settings.{Settings, isStrict, tooDeep, testsRootName}
 use Rattle.sheet.specs.Sheet.{structureOf}
@@ -22,14 +20,12 @@ use Rattle.codec.specs.declared.collection.MapSheet.{MapSheet}
 use Rattle.codec.specs.Settings.{settingsOf}
 use Rattle.codec.specs.Collection.{listSaid, ListSaid, ListRead, mapSaid, MapSaid, MapRead}
 use Rattle.readings.specs.Call.{uploaded, calling}
-use Rattle.readings.specs.Output.{Room, nothing, Reading, refused}
-use Rattle.readings.specs.Plan.{Plan, stop, perform, Whole, withoutGroups, performed}
+use Rattle.readings.specs.Output.{Room, nothing, Reading}
+use Rattle.readings.specs.Plan.{Plan, perform, performed}
 use Rattle.readings.specs.Collection.{itemsPlan, listPlan, listReading, stringsPlan, stringListPlan, stringListReading, mapPlan, mapReading}
 use Rattle.decode.specs.declared.reader.StartRow.{StartRow}
 use Rattle.decode.specs.declared.reader.Cursor.{Cursor}
 use Rattle.decode.specs.declared.view.View.{View}
-use Rattle.decode.specs.Reader.{childAt}
-use Rattle.decode.specs.View.{viewAt}
 use Rattle.output.specs.declared.Written.{Written}
 use Rattle.output.specs.declared.Step.{Step}
 use Rattle.output.specs.Held.{roomOf, writtenOf, Ends}
@@ -37,14 +33,14 @@ use Rattle.output.specs.Call.{ReadingCall}
 use Rattle.output.proofs.Then.{ends-as}
 use Rattle.output.proofs.Called.{holds-nothing, call-early, call-done, call-refused}
 use Rattle.opening.specs.declared.Opening.{Opening}
-use Rattle.opening.specs.Opening.{AskedIs, RootAt}
+use Rattle.opening.specs.Opening.{AskedIs}
 use Rattle.opening.proofs.Asked.{asked-ok, asked-root, asked-early, asked-found}
 use Rattle.opening.specs.Level.{none-written, collected}
 use Rattle.list.specs.List.{WholeIs}
 use Rattle.list.specs.StringList.{StringsWholeIs}
 use Rattle.codec.specs.Structure.{saidBy, StructureSaid, StructureRead}
 use Rattle.readings.specs.Opening.{asked}
-use Rattle.readings.specs.Structure.{structurePlan, structureReading}
+use Rattle.readings.specs.Structure.{structureReading}
 use Rattle.readings.proofs.Laws.Order.{orderIn, an-order}
 use Rattle.structure.specs.Steps.{openedAt}
 use Rattle.structure.specs.Structure.{StructureIs}
@@ -153,7 +149,7 @@ module _ (body t : List ℕ) (final : ℕ) (sheet : List ℕ) {parsed : Structur
           reads = record {
             is = record {
               order = rising;
-              ordered = an-order body t final sheet settings depth;
+              ordered = an-order (uploaded body t final) (calling sheet settings depth);
               reads = call-early (structureReading (uploaded body t final) (calling sheet settings depth) rising) {why = why}
                   (ap (performed (roomOf e tx)) (structure-early body t final sheet settings depth rising (asked-early a settings depth (deep-struct g) i (λ o. p .there o .said) (p .broken) q))) refl;
             };
@@ -171,7 +167,7 @@ module _ (body t : List ℕ) (final : ℕ) (sheet : List ℕ) {parsed : Structur
           reads = record {
             is = record {
               order = rising;
-              ordered = an-order body t final sheet settings depth;
+              ordered = an-order (uploaded body t final) (calling sheet settings depth);
               reads = told (structureReading (uploaded body t final) (calling sheet settings depth) rising) got
                   (ends-as (ap (performed (roomOf e tx)) (structure-is body t final sheet settings depth (saidBy sheet) (openedAt body t v s c)
                   (asked-found a settings depth (deep-struct g) i (λ o. p .there o .said) q))) (rw k at (x .does) .is (holds-nothing e tx)));

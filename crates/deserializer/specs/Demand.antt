@@ -1,4 +1,5 @@
--- Demand 3 of a call: what is promised of it where the drain passes the body and the table that were lent, down to the numbers in the entries' buffer.
+-- Demand 3 of a call: what is promised of it where the drain passes the body and the table that were lent, down to the numbers in the
+-- entries' buffer.
 use Prim.Native.Nat.{ℕ, _+_, _*_, _<_}
 use mathlib.Core.Path.{_≡_}
 use mathlib.Core.List.{List}
@@ -36,7 +37,7 @@ shapeAt Shape.StringList order = readings.strings
 -- that was answered
 pub data MayAnswer (shape : readings.Shape) (u : Upload) (call : Call) (room : Room) : ℕ → Type 0 where
   finished : MayAnswer shape u call room 0
-  refused : {why : Refusal} {out : Output} → MayRefuse u call room shape why out → MayAnswer shape u call room (number why)
+  refused : {why : Refusal} {out : Output} → MayRefuse u call room shape out why → MayAnswer shape u call room (number why)
 
 -- what is promised of a call that a passed body and table were lent to: its number, its pieces, and of the definition's reading, at any
 -- order of groups, the whole of demand 3 (readings/specs/Demand.antt)

@@ -1,6 +1,8 @@
-// The port of src/codec/deserializer.rs: the readings by a sheet, from what is asked first to 9 at the end. What each answers is defined in `readings`.
+// The port of src/codec/deserializer.rs: the readings by a sheet, from what is asked first to 9 at the end. What each answers is defined in
+// `readings`.
 ghost use Rattle.codec.specs.Settings.{settingsOf};
-ghost use Rattle.deserializer.specs.Call.{EnteredRead, SetBy, Tells, EnteredCall, ToldCall, SheetCall, settingsBy, shapeDepth, shapeOf};
+ghost use Rattle.deserializer.specs.Call.{EnteredRead, SetBy, Tells, EnteredCall, ToldCall, SheetCall, settingsBy, shapeDepth};
+ghost use Rattle.deserializer.specs.Call.{shapeOf};
 ghost use Rattle.deserializer.specs.Demand.{Demanded};
 ghost use Rattle.readings.specs.Call.{uploaded, calling};
 use codec::guard::Guard;

@@ -1,6 +1,7 @@
-// The readings by a sheet. `entries` are six numbers an entry, of any length: there is room for a sixth of it, rounded down. `count` is how many entries are
-// written, and `length` how many text bytes, finished or refused; all else of both buffers stays as it was. flags: 1 validate_document, 2 validate_root_name,
-// 4 strict_collection_element_names; other bits are passed over. The second promise of each is demand 3: what holds where the drain passes the body and the table.
+// The readings by a sheet. `entries` are six numbers an entry, of any length: there is room for a sixth of it, rounded down. `count` is how
+// many entries are written, and `length` how many text bytes, finished or refused; all else of both buffers stays as it was. flags: 1
+// validate_document, 2 validate_root_name, 4 strict_collection_element_names; other bits are passed over. The second promise of each is
+// demand 3: what holds where the drain passes the body and the table.
 ghost use Rattle.deserializer.specs.Call.{SheetCall, settingsBy, shapeDepth};
 ghost use Rattle.deserializer.specs.Demand.{Demanded};
 ghost use Rattle.deserializer.specs.declared.Shape.{Shape};

@@ -1,4 +1,5 @@
-// Scalars of a body and of a text, find, and the whole text. `value` is left alone by a refusal; a length says how many bytes were written, 0 where it refused.
+// Scalars of a body and of a text, find, and the whole text. `value` is left alone by a refusal; a length says how many bytes were written,
+// 0 where it refused.
 ghost use Rattle.readings.specs.Call.{uploaded};
 ghost use Rattle.readings.specs.Scalar.{booleanOf, integerOf, stringIn, booleanReading, integerReading, stringReading, wholeText};
 ghost use Rattle.readings.specs.Find as readings;
@@ -31,7 +32,8 @@ pub extern "C" fn falzheod_text_integer(text: &[u8], value: &mut i32) -> u32
 // A text as a string: 0 or 10.
 #[no_mangle]
 pub extern "C" fn falzheod_text_string(text: &[u8], out: &mut [u8], length: &mut usize) -> u32
-    ensures { λ r. ⌜ StringCall (stringIn (sizeOf (now (out .entry))) (now (text .entry))) (now (out .entry)) (now (out .exit)) (now (length .exit)) r ⌝ }
+    ensures { λ r. ⌜ StringCall (stringIn (sizeOf (now (out .entry))) (now (text .entry))) (now (out .entry)) (now (out .exit))
+        (now (length .exit)) r ⌝ }
 {
     give_length(scalar::text::string_of(text, out), length)
 }
@@ -46,8 +48,8 @@ pub extern "C" fn falzheod_read_boolean(
     depth: u32,
     value: &mut u32,
 ) -> u32
-    ensures { λ r. ⌜ BooleanCall (booleanReading (uploaded (now (body .entry)) (now (rows .entry)) end) (settingsBy flags 0) (shapeDepth depth))
-        (now (value .entry)) (now (value .exit)) r ⌝ }
+    ensures { λ r. ⌜ BooleanCall (booleanReading (uploaded (now (body .entry)) (now (rows .entry)) end) (settingsBy flags 0)
+        (shapeDepth depth)) (now (value .entry)) (now (value .exit)) r ⌝ }
 {
     let settings = settings_by(flags, 0);
     give_boolean(
@@ -66,8 +68,8 @@ pub extern "C" fn falzheod_read_integer(
     depth: u32,
     value: &mut i32,
 ) -> u32
-    ensures { λ r. ⌜ IntegerCall (integerReading (uploaded (now (body .entry)) (now (rows .entry)) end) (settingsBy flags 0) (shapeDepth depth))
-        (now (value .entry)) (now (value .exit)) r ⌝ }
+    ensures { λ r. ⌜ IntegerCall (integerReading (uploaded (now (body .entry)) (now (rows .entry)) end) (settingsBy flags 0)
+        (shapeDepth depth)) (now (value .entry)) (now (value .exit)) r ⌝ }
 {
     let settings = settings_by(flags, 0);
     give_integer(
@@ -87,8 +89,8 @@ pub extern "C" fn falzheod_read_string(
     out: &mut [u8],
     length: &mut usize,
 ) -> u32
-    ensures { λ r. ⌜ StringCall (stringReading (uploaded (now (body .entry)) (now (rows .entry)) end) (settingsBy flags 0) (shapeDepth depth) (sizeOf (now (out .entry))))
-        (now (out .entry)) (now (out .exit)) (now (length .exit)) r ⌝ }
+    ensures { λ r. ⌜ StringCall (stringReading (uploaded (now (body .entry)) (now (rows .entry)) end) (settingsBy flags 0)
+        (shapeDepth depth) (sizeOf (now (out .entry)))) (now (out .entry)) (now (out .exit)) (now (length .exit)) r ⌝ }
 {
     let settings = settings_by(flags, 0);
     give_length(
@@ -107,7 +109,8 @@ pub extern "C" fn falzheod_find(
     start: &mut usize,
     length: &mut usize,
 ) -> u32
-    ensures { λ r. ⌜ FindCall (readings.find (uploaded (now (body .entry)) (now (rows .entry)) end) (now (name .entry))) (now (start .exit)) (now (length .exit)) r ⌝ }
+    ensures { λ r. ⌜ FindCall (readings.find (uploaded (now (body .entry)) (now (rows .entry)) end) (now (name .entry))) (now (start .exit))
+        (now (length .exit)) r ⌝ }
 {
     give_part(
         scalar::find::finding_of(body, rows, end, name),
@@ -125,7 +128,8 @@ pub extern "C" fn falzheod_whole_text(
     out: &mut [u8],
     length: &mut usize,
 ) -> u32
-    ensures { λ r. ⌜ StringCall (wholeText (uploaded (now (body .entry)) (now (rows .entry)) end) (sizeOf (now (out .entry)))) (now (out .entry)) (now (out .exit)) (now (length .exit)) r ⌝ }
+    ensures { λ r. ⌜ StringCall (wholeText (uploaded (now (body .entry)) (now (rows .entry)) end) (sizeOf (now (out .entry))))
+        (now (out .entry)) (now (out .exit)) (now (length .exit)) r ⌝ }
 {
     give_length(scalar::whole::whole_text(body, rows, end, out), length)
 }

@@ -57,7 +57,8 @@ pub record RereadOne (shape : Shape) (u : Upload) (entries : List ℕ) (call : C
   pub long : length numbers′ ≡ length numbers
 
 -- of each of the first n entries
-pub record EachReread (shape : Shape) (u : Upload) (entries : List ℕ) (n : ℕ) (call : Call) (room texts : ℕ) (numbers : List ℕ) : Type 0 where
+pub record EachReread (shape : Shape) (u : Upload) (entries : List ℕ) (n : ℕ) (call : Call) (room texts : ℕ)
+    (numbers : List ℕ) : Type 0 where
   pub each : (k : ℕ) → k < n → RereadAt shape u entries call room texts numbers k
 
 -- nothing is handed on: both buffers and the numbers are as they were

@@ -11,16 +11,14 @@ use mir.Syntax.{w32}
 use Rattle.lists.specs.Tests.{pick}
 use Rattle.document.specs.Scope.{childrenOf, dropping, pieceOf}
 use Rattle.document.specs.Scope as doc
-use Rattle.sheet.specs.declared.ShapeDepth.{ShapeDepth}
-use Rattle.sheet.specs.Settings.{isStrict, tooDeep}
 use Rattle.sheet.specs.Names.{itemName}
 use Rattle.codec.specs.declared.settings.Settings.{Settings}
 use Rattle.codec.specs.declared.collection.ListSheet.{ListSheet}
 use Rattle.codec.specs.Settings.{settingsOf}
-use Rattle.codec.specs.Collection.{listSaid, ListSaid, ListRead, ItemNamed, ItemsNamed}
+use Rattle.codec.specs.Collection.{listSaid, ListSaid, ItemNamed, ItemsNamed}
 use Rattle.readings.specs.Output.{pieceEntry}
 use Rattle.readings.specs.Plan.{end, one}
-use Rattle.readings.specs.Collection.{isWanted, itemPlan, itemsPlan, listPlan}
+use Rattle.readings.specs.Collection.{isWanted, itemPlan}
 use Rattle.decode.specs.declared.reader.Cursor.{Cursor}
 use Rattle.decode.specs.declared.reader.StartRow.{StartRow}
 use Rattle.decode.specs.declared.view.View.{View}
@@ -35,11 +33,9 @@ use Rattle.output.specs.declared.Step.{Step}
 use Rattle.output.specs.Plans.{piece}
 use Rattle.output.specs.Held.{Enters}
 use Rattle.output.proofs.Sound.{piece-adds}
-use Rattle.opening.specs.declared.Opening.{Opening}
-use Rattle.opening.specs.Opening.{AskedIs}
 use Rattle.opening.specs.Wanted.{nameIf, wanted}
-use Rattle.opening.specs.Level.{ChildEnters, ElementEnters, collected, lastOf}
-use Rattle.opening.proofs.Asked.{asked-found, root-viewed, root-start, root-stands}
+use Rattle.opening.specs.Level.{ChildEnters, ElementEnters, lastOf}
+use Rattle.opening.proofs.Asked.{root-viewed, root-start, root-stands}
 use Rattle.opening.proofs.Children.{child-not, child-is, element-tested}
 use Rattle.list.specs.List.{WholeIs}
 

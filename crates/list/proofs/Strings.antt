@@ -15,15 +15,13 @@ use Rattle.document.specs.Reader.{Reader}
 use Rattle.document.specs.Scope.{Child, childrenOf, dropping}
 use Rattle.document.specs.Text.{unescapedText, textOf}
 use Rattle.document.proofs.Laws.Short.{cut-short}
-use Rattle.sheet.specs.declared.ShapeDepth.{ShapeDepth}
-use Rattle.sheet.specs.Settings.{isStrict, tooDeep}
 use Rattle.sheet.specs.Names.{itemName}
 use Rattle.codec.specs.declared.settings.Settings.{Settings}
 use Rattle.codec.specs.declared.collection.ListSheet.{ListSheet}
 use Rattle.codec.specs.Settings.{settingsOf}
-use Rattle.codec.specs.Collection.{listSaid, ListSaid, ListRead, ItemNamed, ItemsNamed}
+use Rattle.codec.specs.Collection.{listSaid, ListSaid, ItemNamed, ItemsNamed}
 use Rattle.readings.specs.Plan.{Plan, end, perform}
-use Rattle.readings.specs.Collection.{isWanted, textPlan, stringPlan, stringsPlan, stringListPlan}
+use Rattle.readings.specs.Collection.{isWanted, textPlan, stringPlan}
 use Rattle.decode.specs.declared.reader.ScopeRow.{ScopeRow}
 use Rattle.decode.specs.declared.reader.Cursor.{Cursor}
 use Rattle.decode.specs.declared.reader.StartRow.{StartRow}
@@ -43,11 +41,9 @@ use Rattle.output.specs.Held.{Does, Ready, Adds}
 use Rattle.output.proofs.Room.{stays}
 use Rattle.output.proofs.Then.{does-as}
 use Rattle.output.proofs.Sound.{text-adds}
-use Rattle.opening.specs.declared.Opening.{Opening}
-use Rattle.opening.specs.Opening.{AskedIs}
 use Rattle.opening.specs.Wanted.{nameIf, wanted}
-use Rattle.opening.specs.Level.{ChildDoes, ElementDoes, collected, lastOf}
-use Rattle.opening.proofs.Asked.{asked-found, root-viewed, root-start, root-stands}
+use Rattle.opening.specs.Level.{ChildDoes, ElementDoes, lastOf}
+use Rattle.opening.proofs.Asked.{root-viewed, root-start, root-stands}
 use Rattle.opening.proofs.Children.{child-not, child-is, ChildrenAt, dropping-laws, element-tested}
 use Rattle.list.specs.StringList.{TextPlace, PutIs, StringsWholeIs}
 use Rattle.list.proofs.Items.{named-is}

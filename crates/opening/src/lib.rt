@@ -45,7 +45,8 @@ fn wide(x: u32) -> usize
 
 // "1, 4", of a reading without a sheet.
 pub fn open(strict: bool, body: &[u8], rows: &[u32], end: u32) -> Opening
-    ensures { λ r. ⌜ OpeningIs (now (body .entry)) (now (rows .entry)) (opened strict (uploaded (now (body .entry)) (now (rows .entry)) end)) r ⌝ }
+    ensures { λ r. ⌜ OpeningIs (now (body .entry)) (now (rows .entry))
+        (opened strict (uploaded (now (body .entry)) (now (rows .entry)) end)) r ⌝ }
 {
     if table::obeys(body, rows, end) {
         return root(strict, body, rows, wide(end));

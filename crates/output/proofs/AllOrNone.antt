@@ -11,8 +11,8 @@ use Rattle.refusal.specs.declared.Refusal.{Refusal}
 use Rattle.document.specs.View.{View}
 use Rattle.document.specs.Scope.{Child}
 use Rattle.sheet.specs.Sheet.{Structure}
-use Rattle.readings.specs.Output.{Entry, Room, Output, Reading, finished, refused, output, numbersOf, written, groupEntry}
-use Rattle.readings.specs.Plan.{Plan, end, perform, followedBy, oneByOne, allOrNone}
+use Rattle.readings.specs.Output.{Entry, Room, Output, Reading, finished, refused, numbersOf, written, groupEntry}
+use Rattle.readings.specs.Plan.{end, perform, followedBy, oneByOne, allOrNone}
 use Rattle.readings.specs.Structure.{groupOf, groupPlan}
 use Rattle.readings.specs.Demand.{Reaches, here, later, Exceeds, too-many, too-long}
 use Rattle.readings.proofs.Plans.Perform.{Within, within-not, Ended, all-done, at-stop, no-room, perform-ended, perform-reaches, reaches-one}

@@ -6,7 +6,7 @@ use native.Mathlib.Omega.{arith}
 use Rattle.lists.proofs.Overwrite.{overwrite-none}
 use Rattle.refusal.specs.declared.Refusal.{Refusal}
 use Rattle.refusal.specs.Numbers.{number}
-use Rattle.readings.specs.Output.{Room, Output, nothing, Reading, refused, numbersOf, outcome}
+use Rattle.readings.specs.Output.{Room, nothing, Reading, refused, numbersOf, outcome}
 use Rattle.output.specs.declared.Written.{Written}
 use Rattle.output.specs.declared.Step.{Step}
 use Rattle.output.specs.Held.{roomOf, Holds, Ends}

@@ -12,7 +12,7 @@ use Rattle.lists.specs.Overwrite.{overwritten}
 use Rattle.refusal.specs.declared.Refusal.{Refusal}
 use Rattle.reference.specs.Text.{Out, bytes, bad, unescaped}
 use Rattle.reference.proofs.Result.{unescaped-shorter}
-use Rattle.readings.specs.Output.{Entry, Room, Output, Reading, finished, refused, output, numbersOf, fits, written, textEntry}
+use Rattle.readings.specs.Output.{Entry, Room, Output, finished, refused, output, numbersOf, fits, written, textEntry}
 use Rattle.readings.specs.Output.{pieceEntry, groupEntry, failedEntry, keyTextEntry, keyPieceEntry}
 use Rattle.readings.specs.Plan.{Plan, perform, one}
 use Rattle.readings.specs.Structure.{scalarPlan}

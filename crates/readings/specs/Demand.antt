@@ -22,12 +22,13 @@ use Rattle.sheet.specs.Settings.{Settings, testsRootName}
 use Rattle.sheet.specs.Sheet.{Structure, structureOf, ListSheet, MapSheet}
 use Rattle.sheet.specs.Names.{rootName, itemName, entryName, keyName, valueName, valueAggregate}
 use Rattle.readings.specs.Call.{Upload, Call}
-use Rattle.readings.specs.Output.{Entry, textKind, pieceKind, groupKind, failedKind, Room, Output, nothing, Reading, finished, refused, written}
+use Rattle.readings.specs.Output.{Entry, textKind, pieceKind, groupKind, failedKind, Room, Output, nothing, written}
+use Rattle.readings.specs.Output.{Reading, finished, refused}
 use Rattle.readings.specs.Plan.{Plan, put, end}
 use Rattle.readings.specs.Opening.{Asked}
 use Rattle.readings.specs.Structure.{inGroup}
 use Rattle.readings.specs.Collection.{isWanted, entriesOf}
-use Rattle.readings.specs.Shape.{Shape, structure, list, map, strings, SheetOf, sheetOf, planOf, read}
+use Rattle.readings.specs.Shape.{Shape, structure, map, strings, SheetOf, sheetOf, planOf, read}
 
 -- ---- "For every body and table that the strict drain passes, a later structure, list or map reading .. is refused only for"
 -- what is read of such a table: the sheet that its bytes say, all the rows, and the root
@@ -49,10 +50,11 @@ pub data TextField (m : MapSheet) (c : Child) : Type 0 where
 
 -- of a string list's item, and of such a field of a map entry; a structure's scalar that fails is an entry of kind 4, and no refusal
 pub data TextWanted (settings : Settings) : (shape : Shape) → Asked (SheetOf shape) → Child → Type 0 where
-  of-item : (a : Asked ListSheet) {c : Child} → List·Memᴰ c (childrenOf (a .opened .root)) → isWanted (itemName settings (a .sheet)) c ≡ true
-      → TextWanted settings strings a c
+  of-item : (a : Asked ListSheet) {c : Child} → List·Memᴰ c (childrenOf (a .opened .root))
+      → isWanted (itemName settings (a .sheet)) c ≡ true → TextWanted settings strings a c
   of-field : (a : Asked MapSheet) {e c : Child} → List·Memᴰ e (entriesOf (entryName settings (a .sheet)) (a .opened .root))
-      → isWanted (entryName settings (a .sheet)) e ≡ true → List·Memᴰ c (childrenOf e) → TextField (a .sheet) c → TextWanted settings map a c
+      → isWanted (entryName settings (a .sheet)) e ≡ true → List·Memᴰ c (childrenOf e) → TextField (a .sheet) c
+      → TextWanted settings map a c
 
 -- "no room": a plan, whatever the room, writes from one output to another, and there another plan is left of it
 pub data Reaches : Plan → Output → Plan → Output → Type 0 where
@@ -65,32 +67,29 @@ pub data Exceeds (room : Room) (out : Output) : Type 0 where
   too-long : room .bytes < length (out .texts) → Exceeds room out
 
 -- "a broken sheet, the depth limit, no root, the root's name, an element where text is wanted, or no room": the numbers 2, 3, 4, 5, 6
--- and 10, "each where its condition holds" (01, "Agreement")
-pub data MayRefuse (u : Upload) (call : Call) (room : Room) (shape : Shape) : Refusal → Output → Type 0 where
-  broken-sheet : {out : Output} → sheetOf shape (call .sheet) ≡ none → MayRefuse u call room shape Refusal.Sheet out
-  depth-limit : {out : Output} → call .settings .maxDepth ≤ call .depth .0 → MayRefuse u call room shape Refusal.Depth out
-  no-root : {out : Output} → rootOf (toksOf (u .body) (rowsOf (u .rows))) ≡ none → MayRefuse u call room shape Refusal.NoRoot out
-  root-name : {out : Output} (a : Asked (SheetOf shape)) → ReadOf u (call .sheet) shape a → RootDiffers (call .settings) (call .depth) shape a
-      → MayRefuse u call room shape Refusal.RootName out
-  element-in-text : {out : Output} (a : Asked (SheetOf shape)) (c : Child) → ReadOf u (call .sheet) shape a
-      → TextWanted (call .settings) shape a c → textOf none c ≡ answer.refuses Refusal.ElementInText
-      → MayRefuse u call room shape Refusal.ElementInText out
-  -- with the next entry and its text, what is kept would exceed the room; so would it with a group and those before it
-  no-room : {entry : ℕ → Entry} {bytes : List ℕ} {more : Plan} {out : Output}
-      → Reaches (planOf shape u call .asMet) nothing (put entry bytes more) out
-      → Exceeds room (written entry bytes out) → MayRefuse u call room shape Refusal.NoRoom out
-  groups-no-room : {entry : ℕ → Entry} {bytes : List ℕ} {more : Plan} {out last : Output} → Reaches (planOf shape u call .asMet) nothing end out
-      → Reaches (planOf shape u call .groups) out (put entry bytes more) last
-      → Exceeds room (written entry bytes last) → MayRefuse u call room shape Refusal.NoRoom out
+-- and 10, "each where its condition holds"; no room: with the next entry, or a group and those before it, `out`, which is kept, exceeds it
+pub data MayRefuse (u : Upload) (call : Call) (room : Room) (shape : Shape) (out : Output) : Refusal → Type 0 where
+  broken-sheet : sheetOf shape (call .sheet) ≡ none → MayRefuse u call room shape out Refusal.Sheet
+  depth-limit : call .settings .maxDepth ≤ call .depth .0 → MayRefuse u call room shape out Refusal.Depth
+  no-root : rootOf (toksOf (u .body) (rowsOf (u .rows))) ≡ none → MayRefuse u call room shape out Refusal.NoRoot
+  root-name : (a : Asked (SheetOf shape)) → ReadOf u (call .sheet) shape a → RootDiffers (call .settings) (call .depth) shape a
+      → MayRefuse u call room shape out Refusal.RootName
+  element-in-text : (a : Asked (SheetOf shape)) (c : Child) → ReadOf u (call .sheet) shape a → TextWanted (call .settings) shape a c
+      → textOf none c ≡ answer.refuses Refusal.ElementInText → MayRefuse u call room shape out Refusal.ElementInText
+  no-room : {entry : ℕ → Entry} {bytes : List ℕ} {more : Plan} → Reaches (planOf shape u call .asMet) nothing (put entry bytes more) out
+      → Exceeds room (written entry bytes out) → MayRefuse u call room shape out Refusal.NoRoom
+  groups-no-room : {entry : ℕ → Entry} {bytes : List ℕ} {more : Plan} {last : Output} → Reaches (planOf shape u call .asMet) nothing end out
+      → Reaches (planOf shape u call .groups) out (put entry bytes more) last → Exceeds room (written entry bytes last)
+      → MayRefuse u call room shape out Refusal.NoRoom
 
 -- ---- "Each piece it hands out, finished or refused, is exactly its element's bytes from `<` to the end of its end tag or `/>`, and that
 -- element's rows, counted from the piece's first byte, obey the table rules and pass the drain again": `ElementPiece`. In a group are the
 -- pieces, so said, of the children that its member is resolved from.
 pub data Siblings (u : Upload) (s : Structure) (i : ℕ) : List Child → List ℕ → Type 0 where
   no-child : Siblings u s i [] []
-  sibling : {c : Child} {l : List Child} {from len : ℕ} {rest : List ℕ} → inGroup s i c ≡ true
-      → PieceAt (u .body) (u .rows) (c .start .row) from len → Siblings u s i l rest → Siblings u s i (c ∷ l) (cut (u .body) from len ++ rest)
-  stranger : {c : Child} {l : List Child} {rest : List ℕ} → inGroup s i c ≡ false → Siblings u s i l rest → Siblings u s i (c ∷ l) rest
+  sibling : {c : Child} {l : List Child} {from len : ℕ} {more : List ℕ} → PieceAt (u .body) (u .rows) (c .start .row) from len
+      → inGroup s i c ≡ true → Siblings u s i l more → Siblings u s i (c ∷ l) (cut (u .body) from len ++ more)
+  stranger : {c : Child} {l : List Child} {more : List ℕ} → inGroup s i c ≡ false → Siblings u s i l more → Siblings u s i (c ∷ l) more
 
 pub record GroupBytes (u : Upload) (sheet : List ℕ) (member : ℕ) (bytes : List ℕ) : Type 0 where
   pub structure : Structure
@@ -113,7 +112,7 @@ pub record Handed (u : Upload) (sheet texts : List ℕ) (e : Entry) : Type 0 whe
 -- ---- "finished or refused"; "strict or lenient, with any sheet, settings, depth and buffers", and any order of groups
 pub data Promised (u : Upload) (call : Call) (room : Room) (shape : Shape) : Reading → Type 0 where
   finishes : {out : Output} → Every (Handed u (call .sheet) (out .texts)) (out .entries) → Promised u call room shape (finished out)
-  refuses : {r : Refusal} {out : Output} → MayRefuse u call room shape r out → Every (Handed u (call .sheet) (out .texts)) (out .entries)
+  refuses : {r : Refusal} {out : Output} → MayRefuse u call room shape out r → Every (Handed u (call .sheet) (out .texts)) (out .entries)
       → Promised u call room shape (refused r out)
 
 abbrev pub Demand3 : Type 0

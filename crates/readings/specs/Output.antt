@@ -9,7 +9,8 @@ use Rattle.refusal.specs.declared.Refusal.{Refusal}
 use Rattle.refusal.specs.Numbers.{number}
 use Rattle.document.specs.Scope.{Piece}
 
--- "An entry is six 32-bit numbers: kind, member index (0 for items and map entries), key start and length (0, 0 outside maps), start, length."
+-- "An entry is six 32-bit numbers: kind, member index (0 for items and map entries), key start and length (0, 0 outside maps), start,
+-- length."
 pub record Entry : Type 0 where
   pub kind : ℕ
   pub member : ℕ
@@ -18,8 +19,8 @@ pub record Entry : Type 0 where
   pub start : ℕ
   pub len : ℕ
 
--- "Kinds: 1 text in the text buffer; 2 piece of the body; 3 gathered group in the text buffer ..; 4 failed text, start being its number 6 to 9,
--- length 0"
+-- "Kinds: 1 text in the text buffer; 2 piece of the body; 3 gathered group in the text buffer ..; 4 failed text, start being its number
+-- 6 to 9, length 0"
 abbrev pub textKind : ℕ
 textKind = 1
 

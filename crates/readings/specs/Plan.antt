@@ -14,7 +14,8 @@ pub data Plan : Type 0 where
 
 -- "An entry and its text are written only if both fit; else 10": there the plan is left. What was written stays.
 unfoldable pub perform : Room → Plan → Output → Reading
-perform room (put entry bytes more) out = pick (fits room bytes out) (perform room more (written entry bytes out)) (refused Refusal.NoRoom out)
+perform room (put entry bytes more) out =
+    pick (fits room bytes out) (perform room more (written entry bytes out)) (refused Refusal.NoRoom out)
 perform room end out = finished out
 perform room (stop r) out = refused r out
 

@@ -26,7 +26,8 @@ use Rattle.readings.specs.Opening.{Opened, opened, present}
 -- `true` or `false`, byte for byte
 unfoldable pub booleanOf : List ℕ → Answer Bool
 unfolding sameb
-booleanOf text = pick (sameb text (ascii "true")) (gives true) (pick (sameb text (ascii "false")) (gives false) (refuses Refusal.NotBoolean))
+booleanOf text =
+    pick (sameb text (ascii "true")) (gives true) (pick (sameb text (ascii "false")) (gives false) (refuses Refusal.NotBoolean))
 
 -- "one or more digits"
 abbrev pub digitsOf : List ℕ → Number

@@ -160,7 +160,7 @@ module _ (body t : List ℕ) (final : ℕ) (name : List ℕ) {x : Finding} (y : 
     some-part = rw e at (y .same)
 
     pub part-some : PartIs body p (partOf (find (uploaded body t final) name))
-    part-some = record { start = rw (← some-part); len = rw (← some-part); within = part-within body t final name }
+    part-some = record { start = rw (← some-part); len = rw (← some-part); within = part-within (uploaded body t final) name }
 
     pub number-some : 0 ≡ refusalOf (find (uploaded body t final) name)
     number-some = rw (← some-part)
@@ -170,7 +170,7 @@ module _ (body t : List ℕ) (final : ℕ) (name : List ℕ) {x : Finding} (y : 
     no-part = rw e at (y .same)
 
     pub part-none : PartIs body (record { start = 0; len = 0 }) (partOf (find (uploaded body t final) name))
-    part-none = record { start = rw (← no-part); len = rw (← no-part); within = part-within body t final name }
+    part-none = record { start = rw (← no-part); len = rw (← no-part); within = part-within (uploaded body t final) name }
 
     pub number-none : {n : ℕ} → n ≡ number f → n ≡ refusalOf (find (uploaded body t final) name)
     number-none q = rw (← no-part) q

@@ -50,7 +50,8 @@ fn child_from(
     requires { ⌜ Viewed (now body) (now rows) view ⌝ }
     requires { ⌜ HasRow (now rows) scope ⌝ }
     requires { ⌜ Outside (now body) (now rows) (view .count) (at .depth .0) (at .row) ⌝ }
-    ensures { λ r. ⌜ FindingIs r (firstPiece (now (body .entry)) (viewAt (now (rows .entry)) view) (now (name .entry)) (left (now (body .entry)) (now (rows .entry)) (view .count) scope at)) ⌝ }
+    ensures { λ r. ⌜ FindingIs r (firstPiece (now (body .entry)) (viewAt (now (rows .entry)) view) (now (name .entry))
+        (left (now (body .entry)) (now (rows .entry)) (view .count) scope at)) ⌝ }
 {
     let mut c = at;
     loop {
@@ -81,7 +82,8 @@ fn child_of(
     at: Cursor,
 ) -> Finding
     requires { ⌜ RootAt (now body) (now rows) view root at ⌝ }
-    ensures { λ r. ⌜ FindingIs r (firstPiece (now (body .entry)) (viewAt (now (rows .entry)) view) (now (name .entry)) (childrenOf (childAt (now (body .entry)) (now (rows .entry)) (view .count) root at))) ⌝ }
+    ensures { λ r. ⌜ FindingIs r (firstPiece (now (body .entry)) (viewAt (now (rows .entry)) view) (now (name .entry))
+        (childrenOf (childAt (now (body .entry)) (now (rows .entry)) (view .count) root at))) ⌝ }
 {
     if root.closed {
         return Finding::Refused(Refusal::NoSuchElement);
@@ -101,7 +103,8 @@ fn find_in(
     at: Cursor,
 ) -> Finding
     requires { ⌜ RootAt (now body) (now rows) view root at ⌝ }
-    ensures { λ r. ⌜ FindingIs r (findIn (now (body .entry)) (viewAt (now (rows .entry)) view) (now (name .entry)) (childAt (now (body .entry)) (now (rows .entry)) (view .count) root at)) ⌝ }
+    ensures { λ r. ⌜ FindingIs r (findIn (now (body .entry)) (viewAt (now (rows .entry)) view) (now (name .entry))
+        (childAt (now (body .entry)) (now (rows .entry)) (view .count) root at)) ⌝ }
 {
     let row = root.row;
     if has_local(body, rows, row, name) {
@@ -136,7 +139,8 @@ pub fn finding_of(body: &[u8], rows: &[u32], end: u32, name: &[u8]) -> Finding
 
 // Where the part starts, and its length; both are 0 where there is none.
 fn part_of(body: &[u8], rows: &[u32], end: u32, name: &[u8]) -> Piece
-    ensures { λ r. ⌜ PartIs (now (body .entry)) r (partOf (readings.find (uploaded (now (body .entry)) (now (rows .entry)) end) (now (name .entry)))) ⌝ }
+    ensures { λ r. ⌜ PartIs (now (body .entry)) r
+        (partOf (readings.find (uploaded (now (body .entry)) (now (rows .entry)) end) (now (name .entry)))) ⌝ }
 {
     match finding_of(body, rows, end, name) {
         Finding::Part(piece) => piece,
@@ -146,7 +150,9 @@ fn part_of(body: &[u8], rows: &[u32], end: u32, name: &[u8]) -> Piece
 
 // The part of the body that has the name; an empty part where there is none.
 pub fn find<'a, 'b>(body: &'a [u8], rows: &[u32], end: u32, name: &'b [u8]) -> &'a [u8]
-    ensures { λ r. ⌜ now r ≡ cut (now (body .entry)) (partOf (readings.find (uploaded (now (body .entry)) (now (rows .entry)) end) (now (name .entry))) .start) (partOf (readings.find (uploaded (now (body .entry)) (now (rows .entry)) end) (now (name .entry))) .len) ⌝ }
+    ensures { λ r. ⌜ now r ≡ cut (now (body .entry))
+        (partOf (readings.find (uploaded (now (body .entry)) (now (rows .entry)) end) (now (name .entry))) .start)
+        (partOf (readings.find (uploaded (now (body .entry)) (now (rows .entry)) end) (now (name .entry))) .len) ⌝ }
 {
     let part = part_of(body, rows, end, name);
     let from = part.start;

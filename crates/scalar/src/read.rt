@@ -52,7 +52,8 @@ fn spoilt(body: &[u8], rows: &[u32], text: Text) -> Text
 // A text, unless the body is refused as ill-formed at its end.
 fn after_rest(body: &[u8], rows: &[u32], text: Text, ill_formed: bool) -> Text
     requires { ⌜ RowsIn (now body) (now rows) text ⌝ }
-    ensures { λ r. ⌜ TextRead (now (body .entry)) (now (rows .entry)) r (onward (textAt (now (body .entry)) (now (rows .entry)) text) (unlessIllFormed «ill_formed»)) ⌝ }
+    ensures { λ r. ⌜ TextRead (now (body .entry)) (now (rows .entry)) r
+        (onward (textAt (now (body .entry)) (now (rows .entry)) text) (unlessIllFormed «ill_formed»)) ⌝ }
 {
     if ill_formed {
         return spoilt(body, rows, text);
@@ -63,7 +64,8 @@ fn after_rest(body: &[u8], rows: &[u32], text: Text, ill_formed: bool) -> Text
 // The first text of a root: "6 to 9 as met; 9 after the rest".
 fn text_at(body: &[u8], rows: &[u32], view: View, root: StartRow, at: Cursor) -> Text
     requires { ⌜ RootAt (now body) (now rows) view root at ⌝ }
-    ensures { λ r. ⌜ TextRead (now (body .entry)) (now (rows .entry)) r (rootsText (openedAt (now (body .entry)) (now (rows .entry)) view root at)) ⌝ }
+    ensures { λ r. ⌜ TextRead (now (body .entry)) (now (rows .entry)) r
+        (rootsText (openedAt (now (body .entry)) (now (rows .entry)) view root at)) ⌝ }
 {
     let failure = view.failure;
     let text = try_data(body, rows, view.count, failure, root, at);
@@ -173,7 +175,8 @@ pub fn read_integer(
 
 // A string from a text that is to be unescaped, into a lent buffer.
 fn string_in(text: &[u8], out: &mut [u8]) -> Copied
-    ensures { λ r. ⌜ CopyIs (onward (unescapedText (unescaped (now (text .entry)))) (stringIn (length (now (out .entry))))) (now (out .entry)) (now (out .exit)) r ⌝ }
+    ensures { λ r. ⌜ CopyIs (onward (unescapedText (unescaped (now (text .entry)))) (stringIn (length (now (out .entry)))))
+        (now (out .entry)) (now (out .exit)) r ⌝ }
 {
     match unescape::unescape(text, out) {
         Unescaped::Length(n) => Copied::Length(n),
@@ -185,7 +188,8 @@ fn string_in(text: &[u8], out: &mut [u8]) -> Copied
 // A string from the first text of a body.
 fn string_at(body: &[u8], rows: &[u32], text: Text, out: &mut [u8]) -> Copied
     requires { ⌜ RowsIn (now body) (now rows) text ⌝ }
-    ensures { λ r. ⌜ CopyIs (onward (textAt (now (body .entry)) (now (rows .entry)) text) (stringIn (length (now (out .entry))))) (now (out .entry)) (now (out .exit)) r ⌝ }
+    ensures { λ r. ⌜ CopyIs (onward (textAt (now (body .entry)) (now (rows .entry)) text) (stringIn (length (now (out .entry)))))
+        (now (out .entry)) (now (out .exit)) r ⌝ }
 {
     match text {
         Text::Row(k) => string_in(span(body, rows, k, 5), out),
@@ -203,7 +207,8 @@ pub fn read_string(
     depth: ShapeDepth,
     out: &mut [u8],
 ) -> Copied
-    ensures { λ r. ⌜ CopyIs (stringReading (uploaded (now (body .entry)) (now (rows .entry)) end) (settingsOf settings) depth (length (now (out .entry)))) (now (out .entry)) (now (out .exit)) r ⌝ }
+    ensures { λ r. ⌜ CopyIs (stringReading (uploaded (now (body .entry)) (now (rows .entry)) end) (settingsOf settings) depth
+        (length (now (out .entry)))) (now (out .entry)) (now (out .exit)) r ⌝ }
 {
     let strict = is_strict(settings, depth);
     let text = take_text(strict, body, rows, end);

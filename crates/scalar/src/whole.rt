@@ -124,7 +124,8 @@ fn put_row(body: &[u8], rows: &[u32], k: usize, out: &mut [u8], size: usize) -> 
     requires { ⌜ Readable (now body) (now rows) ⌝ }
     requires { ⌜ InTable (now rows) k ⌝ }
     requires { ⌜ PutRoom (now out) size (unescaped (valueAt (now body) (now rows) k)) ⌝ }
-    ensures { λ r. ⌜ Stored (now (out .entry)) (now (out .exit)) size (bytesOf (unescaped (valueAt (now (body .entry)) (now (rows .entry)) k))) r ⌝ }
+    ensures { λ r. ⌜ Stored (now (out .entry)) (now (out .exit)) size
+        (bytesOf (unescaped (valueAt (now (body .entry)) (now (rows .entry)) k))) r ⌝ }
 {
     put_text(out, size, span(body, rows, k, 5))
 }
@@ -134,7 +135,8 @@ fn fill_joined(body: &[u8], rows: &[u32], view: View, scope: ScopeRow, at: Curso
     requires { ⌜ Viewed (now body) (now rows) view ⌝ }
     requires { ⌜ HasRow (now rows) scope ⌝ }
     requires { ⌜ JoinRoom (joinedFrom (now body) (now rows) view scope (at .depth .0) (at .row)) (length (now out)) ⌝ }
-    ensures { λ _. ⌜ now (out .exit) ≡ bufferAfter (joinedFrom (now (body .entry)) (now (rows .entry)) view scope (at .depth .0) (at .row)) (now (out .entry)) ⌝ }
+    ensures { λ _. ⌜ now (out .exit) ≡ bufferAfter (joinedFrom (now (body .entry)) (now (rows .entry)) view scope (at .depth .0) (at .row))
+        (now (out .entry)) ⌝ }
 {
     let mut k = at.row;
     let mut d = at.depth.0;
@@ -170,7 +172,8 @@ fn join(
 ) -> Copied
     requires { ⌜ Viewed (now body) (now rows) view ⌝ }
     requires { ⌜ HasRow (now rows) scope ⌝ }
-    ensures { λ r. ⌜ CopyIs (textIn (length (now (out .entry))) (joinedFrom (now (body .entry)) (now (rows .entry)) view scope (at .depth .0) (at .row))) (now (out .entry)) (now (out .exit)) r ⌝ }
+    ensures { λ r. ⌜ CopyIs (textIn (length (now (out .entry)))
+        (joinedFrom (now (body .entry)) (now (rows .entry)) view scope (at .depth .0) (at .row))) (now (out .entry)) (now (out .exit)) r ⌝ }
 {
     match joined_length(body, rows, view, scope, at) {
         Copied::Refused(why) => Copied::Refused(why),
@@ -194,7 +197,8 @@ fn whole_of(
     out: &mut [u8],
 ) -> Copied
     requires { ⌜ RootAt (now body) (now rows) view root at ⌝ }
-    ensures { λ r. ⌜ CopyIs (textIn (length (now (out .entry))) (wholeOf (childAt (now (body .entry)) (now (rows .entry)) (view .count) root at))) (now (out .entry)) (now (out .exit)) r ⌝ }
+    ensures { λ r. ⌜ CopyIs (textIn (length (now (out .entry)))
+        (wholeOf (childAt (now (body .entry)) (now (rows .entry)) (view .count) root at))) (now (out .entry)) (now (out .exit)) r ⌝ }
 {
     if root.closed {
         return Copied::Length(0);
@@ -207,7 +211,8 @@ fn whole_of(
 // The same of a table that obeys the rules, or 4.
 fn root_text(body: &[u8], rows: &[u32], end: usize, out: &mut [u8]) -> Copied
     requires { ⌜ TableRules (now body) (now rows) end ⌝ }
-    ensures { λ r. ⌜ CopyIs (rootText (now (body .entry)) (now (rows .entry)) end (length (now (out .entry)))) (now (out .entry)) (now (out .exit)) r ⌝ }
+    ensures { λ r. ⌜ CopyIs (rootText (now (body .entry)) (now (rows .entry)) end (length (now (out .entry)))) (now (out .entry))
+        (now (out .exit)) r ⌝ }
 {
     match opening::root(false, body, rows, end) {
         Opening::Refused(why) => Copied::Refused(why),
@@ -217,7 +222,8 @@ fn root_text(body: &[u8], rows: &[u32], end: usize, out: &mut [u8]) -> Copied
 
 // The whole text of a body: 1, 9, 4, 6 or 10, or how many bytes were written.
 pub fn whole_text(body: &[u8], rows: &[u32], end: u32, out: &mut [u8]) -> Copied
-    ensures { λ r. ⌜ CopyIs (wholeText (uploaded (now (body .entry)) (now (rows .entry)) end) (length (now (out .entry)))) (now (out .entry)) (now (out .exit)) r ⌝ }
+    ensures { λ r. ⌜ CopyIs (wholeText (uploaded (now (body .entry)) (now (rows .entry)) end) (length (now (out .entry))))
+        (now (out .entry)) (now (out .exit)) r ⌝ }
 {
     match drain(body, rows, end) {
         Drained::Passes => root_text(body, rows, end as usize, out),

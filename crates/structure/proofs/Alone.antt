@@ -23,7 +23,7 @@ use Rattle.document.specs.Scope as scope
 use Rattle.sheet.specs.Sheet.{Structure}
 use Rattle.sheet.specs.Names.{Indexed, resolve}
 use Rattle.readings.specs.Output.{pieceEntry}
-use Rattle.readings.specs.Plan.{Plan, endTest, one, followedBy}
+use Rattle.readings.specs.Plan.{endTest, one, followedBy}
 use Rattle.readings.specs.Structure.{rootPiece, rootPlan, unwrappedPlan}
 use Rattle.decode.specs.Rows.{nameAt}
 use Rattle.decode.specs.declared.reader.StartRow.{StartRow}

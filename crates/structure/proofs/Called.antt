@@ -9,7 +9,6 @@ use Rattle.lists.specs.Tests.{pick}
 use Rattle.refusal.specs.declared.Refusal.{Refusal}
 use Rattle.refusal.specs.Answer.{gives, refuses}
 use Rattle.document.specs.Names.{nameMatches}
-use Rattle.document.specs.Scope.{childrenOf}
 use Rattle.sheet.specs.declared.ShapeDepth.{ShapeDepth}
 use Rattle.sheet.specs.Settings.{Settings, testsRootName}
 use Rattle.sheet.specs.Sheet.{Structure, structureOf}
@@ -18,7 +17,7 @@ use Rattle.readings.specs.Call.{uploaded, calling}
 use Rattle.readings.specs.Plan.{stop, Whole, withoutGroups}
 use Rattle.readings.specs.Opening.{Opened, asked}
 use Rattle.readings.specs.Structure.{withRootName, openedPlan, structurePlan}
-use Rattle.readings.proofs.Laws.Order.{memberOrder, orderIn}
+use Rattle.readings.proofs.Laws.Order.{orderIn}
 use Rattle.structure.specs.Structure.{isOther, rootedPlan}
 
 with-name : (tests matches : Bool) (w : Whole) → withRootName tests matches w ≡ pick (isOther tests matches) (withoutGroups (stop Refusal.RootName)) w

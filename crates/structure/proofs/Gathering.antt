@@ -19,7 +19,7 @@ use Rattle.sheet.specs.Sheet.{Member, Structure}
 use Rattle.sheet.specs.Names.{indexed}
 use Rattle.readings.specs.Plan.{oneByOne}
 use Rattle.readings.specs.Structure.{groupOf, groupPlan}
-use Rattle.readings.proofs.Laws.Order.{grouped, memberOrder}
+use Rattle.readings.specs.Order.{grouped, memberOrder}
 use Rattle.output.specs.declared.Written.{Written}
 use Rattle.output.specs.declared.Step.{Step}
 use Rattle.output.specs.Plans.{group, groups, together}

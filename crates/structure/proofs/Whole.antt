@@ -1,6 +1,6 @@
 -- Laws of the whole of a structure: its parts one after another.
 use Prim.Native.Nat.{ℕ, _-_, _*_, _/_, _≤_}
-use mathlib.Core.Path.{_≡_, refl, ap}
+use mathlib.Core.Path.{_≡_, ap}
 use mathlib.Core.Bool.{Bool, true, false}
 use mathlib.Core.List.{List}
 use native.Mathlib.Omega.{arith}
@@ -18,7 +18,7 @@ use Rattle.sheet.specs.Sheet.{Structure}
 use Rattle.sheet.specs.Names.{rootName}
 use Rattle.readings.specs.Plan.{Plan, stop, perform, oneByOne, endTest, Whole}
 use Rattle.readings.specs.Structure.{groupPlan, membersPlan, unwrappedPlan}
-use Rattle.readings.proofs.Laws.Order.{memberOrder}
+use Rattle.readings.specs.Order.{memberOrder}
 use Rattle.decode.specs.Rows.{InTable, nameAt}
 use Rattle.decode.specs.declared.reader.StartRow.{StartRow}
 use Rattle.decode.specs.declared.reader.Cursor.{Cursor}

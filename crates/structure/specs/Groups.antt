@@ -9,7 +9,7 @@ use Rattle.document.specs.Scope.{Child}
 use Rattle.sheet.specs.Sheet.{Structure}
 use Rattle.readings.specs.Plan.{Plan}
 use Rattle.readings.specs.Structure.{groupOf}
-use Rattle.readings.proofs.Laws.Order.{hasGroup, memberOrder}
+use Rattle.readings.specs.Order.{hasGroup, memberOrder}
 use Rattle.output.specs.declared.Written.{Written}
 use Rattle.output.specs.declared.Step.{Step}
 use Rattle.output.specs.Plans.{group, groups, together}

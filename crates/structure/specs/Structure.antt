@@ -11,7 +11,7 @@ use Rattle.sheet.specs.Names.{rootName}
 use Rattle.readings.specs.Plan.{stop, followedBy, oneByOne, endTest, Whole, withoutGroups}
 use Rattle.readings.specs.Opening.{Opened}
 use Rattle.readings.specs.Structure.{childPlan, groupPlan, membersPlan, unwrappedPlan}
-use Rattle.readings.proofs.Laws.Order.{memberOrder}
+use Rattle.readings.specs.Order.{memberOrder}
 use Rattle.decode.specs.declared.reader.StartRow.{StartRow}
 use Rattle.decode.specs.declared.reader.Cursor.{Cursor}
 use Rattle.decode.specs.declared.view.View.{View}

@@ -15,7 +15,7 @@ use Rattle.table.specs.Rules.{TableRules}
 use Rattle.table.specs.Test.{decTable}
 use Rattle.document.specs.View.{View, view}
 use Rattle.document.specs.Scope.{Child, rootOf, childrenOf, Piece, pieceOf}
-use Rattle.readings.specs.Call.{uploaded}
+use Rattle.readings.specs.Call.{Upload}
 use Rattle.readings.specs.Opening.{withTable, present}
 use Rattle.readings.specs.Find.{hasLocal, firstChild, wholeBody, findIn, find}
 use Rattle.readings.proofs.Conditions.Answers.{given-refused, refuses-same}
@@ -49,58 +49,58 @@ pub record NoneNamed (name : List ℕ) (root : Child) : Type 0 where
   pub notRoot : root .start .name .local ≡ name → ⊥
   pub noChild : (c : Child) → List·Memᴰ c (childrenOf root) → c .start .name .local ≡ name → ⊥
 
-module _ (body table : List ℕ) (final : ℕ) (name : List ℕ) where
+module _ (u : Upload) (name : List ℕ) where
   pub data FindRefused : Refusal → Type 0 where
     -- "1 table"
-    find-table : TableBroken body table final → FindRefused Refusal.Table
+    find-table : TableBroken u → FindRefused Refusal.Table
     -- "13 also without a root"
-    find-no-root : TableRules body table final → NoRootSeen body table final false → FindRefused Refusal.NoSuchElement
+    find-no-root : TableRules (u .body) (u .rows) (u .end) → NoRootSeen u false → FindRefused Refusal.NoSuchElement
     -- "13 no such element"
-    find-none : {root : Child} → TableRules body table final → rootOf (toksOf body (view false body (rowsOf table) final .rows)) ≡ some root → NoneNamed name root →
+    find-none : {root : Child} → TableRules (u .body) (u .rows) (u .end) → rootOf (toksOf (u .body) (view false (u .body) (rowsOf (u .rows)) (u .end) .rows)) ≡ some root → NoneNamed name root →
         FindRefused Refusal.NoSuchElement
 
   abbrev seen : View
-  seen = view false body (rowsOf table) final
+  seen = view false (u .body) (rowsOf (u .rows)) (u .end)
 
-  find-in : (root : Child) (r : Refusal) → findIn body seen name root ≡ refuses r → (r ≡ Refusal.NoSuchElement) × NoneNamed name root
+  find-in : (root : Child) (r : Refusal) → findIn (u .body) seen name root ≡ refuses r → (r ≡ Refusal.NoSuchElement) × NoneNamed name root
   unfolding findIn
   find-in root r e = onRoot (hasLocal name root) refl e
     where
       inside : Option Child → Answer Piece
-      inside o = onward (present Refusal.NoSuchElement o) (λ (c : Child). gives (pieceOf body seen c))
+      inside o = onward (present Refusal.NoSuchElement o) (λ (c : Child). gives (pieceOf (u .body) seen c))
 
       onChild : (o : Option Child) → firstChild name (childrenOf root) ≡ o → hasLocal name root ≡ false → inside o ≡ refuses r → (r ≡ Refusal.NoSuchElement) × NoneNamed name root
       onChild none q p e = (sym (refuses-same e), record { notRoot = has-local name root .0 p; noChild = first-child-none name (childrenOf root) q })
       onChild (some c) q p e = given-refused e
 
-      onRoot : (b : Bool) → hasLocal name root ≡ b → pick b (gives (wholeBody body)) (inside (firstChild name (childrenOf root))) ≡ refuses r → (r ≡ Refusal.NoSuchElement) × NoneNamed name root
+      onRoot : (b : Bool) → hasLocal name root ≡ b → pick b (gives (wholeBody (u .body))) (inside (firstChild name (childrenOf root))) ≡ refuses r → (r ≡ Refusal.NoSuchElement) × NoneNamed name root
       onRoot true p e = given-refused e
       onRoot false p e = onChild (firstChild name (childrenOf root)) refl p e
 
-  in-find : (root : Child) → NoneNamed name root → findIn body seen name root ≡ refuses Refusal.NoSuchElement
+  in-find : (root : Child) → NoneNamed name root → findIn (u .body) seen name root ≡ refuses Refusal.NoSuchElement
   unfolding findIn
   in-find root n = go (hasLocal name root) (firstChild name (childrenOf root)) (has-local name root .1 (n .notRoot)) (none-first-child name (childrenOf root) (n .noChild))
     where
       go : (b : Bool) (o : Option Child) → b ≡ false → o ≡ none →
-          pick b (gives (wholeBody body)) (onward (present Refusal.NoSuchElement o) (λ (c : Child). gives (pieceOf body seen c))) ≡ refuses Refusal.NoSuchElement
+          pick b (gives (wholeBody (u .body))) (onward (present Refusal.NoSuchElement o) (λ (c : Child). gives (pieceOf (u .body) seen c))) ≡ refuses Refusal.NoSuchElement
       go b o p q = rw (p, q)
 
-  pub find-refusal : (r : Refusal) → (find (uploaded body table final) name ≡ refuses r) ↔ FindRefused r
+  pub find-refusal : (r : Refusal) → (find u name ≡ refuses r) ↔ FindRefused r
   unfolding find
-  find-refusal r = (onTable (decTable body table final), back)
+  find-refusal r = (onTable (decTable (u .body) (u .rows) (u .end)), back)
     where
       inside : Option Child → Answer Piece
-      inside o = onward (present Refusal.NoSuchElement o) (findIn body seen name)
+      inside o = onward (present Refusal.NoSuchElement o) (findIn (u .body) seen name)
 
-      onRoot : (o : Option Child) → rootOf (toksOf body (seen .rows)) ≡ o → TableRules body table final → inside o ≡ refuses r → FindRefused r
+      onRoot : (o : Option Child) → rootOf (toksOf (u .body) (seen .rows)) ≡ o → TableRules (u .body) (u .rows) (u .end) → inside o ≡ refuses r → FindRefused r
       onRoot none p t e = subst FindRefused (refuses-same e) (find-no-root t p)
       onRoot (some c) p t e = let w = find-in c r e in subst⁻¹ FindRefused (w .0) (find-none t p (w .1))
 
-      onTable : (d : Dec (TableRules body table final)) → withTable d (inside (rootOf (toksOf body (seen .rows)))) ≡ refuses r → FindRefused r
-      onTable (yes rules) e = onRoot (rootOf (toksOf body (seen .rows))) refl rules e
+      onTable : (d : Dec (TableRules (u .body) (u .rows) (u .end))) → withTable d (inside (rootOf (toksOf (u .body) (seen .rows)))) ≡ refuses r → FindRefused r
+      onTable (yes rules) e = onRoot (rootOf (toksOf (u .body) (seen .rows))) refl rules e
       onTable (no broken) e = subst FindRefused (refuses-same e) (find-table broken)
 
-      back : {q : Refusal} → FindRefused q → withTable (decTable body table final) (inside (rootOf (toksOf body (seen .rows)))) ≡ refuses q
-      back (find-table b) = not-obeyed body table final _ (decTable body table final) b
-      back (find-no-root t p) = obeyed body table final _ (decTable body table final) t ∙ ap inside p
-      back (find-none {root = c} t p n) = obeyed body table final _ (decTable body table final) t ∙ (ap inside p ∙ in-find c n)
+      back : {q : Refusal} → FindRefused q → withTable (decTable (u .body) (u .rows) (u .end)) (inside (rootOf (toksOf (u .body) (seen .rows)))) ≡ refuses q
+      back (find-table b) = not-obeyed u _ (decTable (u .body) (u .rows) (u .end)) b
+      back (find-no-root t p) = obeyed u _ (decTable (u .body) (u .rows) (u .end)) t ∙ ap inside p
+      back (find-none {root = c} t p n) = obeyed u _ (decTable (u .body) (u .rows) (u .end)) t ∙ (ap inside p ∙ in-find c n)

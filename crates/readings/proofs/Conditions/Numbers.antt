@@ -1,6 +1,6 @@
 -- 01, "Numbers": "No other number". The numbers with which each reading may be refused, on every input.
 use Prim.Native.Nat.{ℕ}
-use mathlib.Core.Path.{_≡_, refl, subst}
+use mathlib.Core.Path.{_≡_, refl}
 use mathlib.Core.Bool.{Bool, true}
 use mathlib.Core.List.{List, [], _∷_}
 use Rattle.refusal.specs.declared.Refusal.{Refusal}
@@ -14,7 +14,7 @@ use Rattle.document.specs.Reader.{Scope}
 use Rattle.document.specs.View.{failureOf}
 use Rattle.sheet.specs.declared.ShapeDepth.{ShapeDepth}
 use Rattle.sheet.specs.Settings.{Settings}
-use Rattle.readings.specs.Call.{uploaded, calling}
+use Rattle.readings.specs.Call.{Upload, Call}
 use Rattle.readings.specs.Output.{Room, Output, refused}
 use Rattle.readings.specs.Opening.{Asked}
 use Rattle.readings.specs.Shape.{Shape, structure, list, map, strings, SheetOf, sheetOf, read}
@@ -47,15 +47,15 @@ by-cause Cause.UnclosedElement = nine
 by-cause Cause.RepeatedAttribute = nine
 by-cause Cause.BadReference = seven
 
-module _ {body table : List ℕ} {final : ℕ} {strict : Bool} where
-  stopped-number : {r : Refusal} → Stopped body table final strict r → OfText r
+module _ {u : Upload} {strict : Bool} where
+  stopped-number : {r : Refusal} → Stopped u strict r → OfText r
   stopped-number w = go w
     where
-      go : {b : Bool} {q : Refusal} → Stopped body table final b q → OfText q
+      go : {b : Bool} {q : Refusal} → Stopped u b q → OfText q
       go (at-drain {cause = c} e) = by-cause c
       go (at-error e) = eight
 
-  text-number : {s : Scope} {d : Depth} {l : List Tok} {r : Refusal} → NoText (Stopped body table final strict) s d l r → OfText r
+  text-number : {s : Scope} {d : Depth} {l : List Tok} {r : Refusal} → NoText (Stopped u strict) s d l r → OfText r
   text-number element-inside = six
   text-number (bad-reference e) = seven
   text-number (rows-end w) = stopped-number w
@@ -74,15 +74,15 @@ text-among seven = refl
 text-among eight = refl
 text-among nine = refl
 
-module _ (body table : List ℕ) (final : ℕ) (sheet : List ℕ) (settings : Settings) (depth : ShapeDepth) (room : Room) where
-  stops-among : (shape : Shape) (a : Asked (SheetOf shape)) → AskedAs body table final (sheetOf shape sheet) settings depth a → {r : Refusal}
-      → Stops settings depth shape a r → Only (1 ∷ 2 ∷ 3 ∷ 4 ∷ later shape) r
+module _ (u : Upload) (call : Call) (room : Room) where
+  stops-among : (shape : Shape) (a : Asked (SheetOf shape)) → AskedAs u (sheetOf shape (call .sheet)) (call .settings) (call .depth) a → {r : Refusal}
+      → Stops (call .settings) (call .depth) shape a r → Only (1 ∷ 2 ∷ 3 ∷ 4 ∷ later shape) r
   stops-among (structure order) a w (root-differs d) = refl
   stops-among (structure order) a w (ill-formed e) = refl
   stops-among list a w (ill-formed e) = refl
-  stops-among map a w (no-text c {r = r} t e) = text-among (text-number (opened-text-refusal body table final (w .begun) c r .0 e .inside))
+  stops-among map a w (no-text c {r = r} t e) = text-among (text-number (opened-text-refusal u (w .begun) c r .0 e .inside))
   stops-among map a w (ill-formed e) = refl
-  stops-among strings a w (no-text c {r = r} t e) = text-among (text-number (opened-text-refusal body table final (w .begun) c r .0 e .inside))
+  stops-among strings a w (no-text c {r = r} t e) = text-among (text-number (opened-text-refusal u (w .begun) c r .0 e .inside))
   stops-among strings a w (ill-formed e) = refl
 
   full-among : (shape : Shape) → Only (1 ∷ 2 ∷ 3 ∷ 4 ∷ later shape) Refusal.NoRoom
@@ -91,10 +91,10 @@ module _ (body table : List ℕ) (final : ℕ) (sheet : List ℕ) (settings : Se
   full-among map = refl
   full-among strings = refl
 
-  pub reading-numbers : (shape : Shape) {r : Refusal} {out : Output} → read shape (uploaded body table final) (calling sheet settings depth) room ≡ refused r out → Only (1 ∷ 2 ∷ 3 ∷ 4 ∷ later shape) r
-  reading-numbers shape {r} {out} e = go (reading-refused body table final sheet settings depth room shape e)
+  pub reading-numbers : (shape : Shape) {r : Refusal} {out : Output} → read shape u call room ≡ refused r out → Only (1 ∷ 2 ∷ 3 ∷ 4 ∷ later shape) r
+  reading-numbers shape {r} {out} e = go (reading-refused u call room shape e)
     where
-      go : {q : Refusal} {o : Output} → Refused body table final sheet settings depth room shape q o → Only (1 ∷ 2 ∷ 3 ∷ 4 ∷ later shape) q
+      go : {q : Refusal} {o : Output} → Refused u call room shape q o → Only (1 ∷ 2 ∷ 3 ∷ 4 ∷ later shape) q
       go (early (by-table n)) = refl
       go (early (by-sheet t n)) = refl
       go (early (by-depth t s n)) = refl
@@ -104,9 +104,9 @@ module _ (body table : List ℕ) (final : ℕ) (sheet : List ℕ) (settings : Se
       go (groups-full t u f) = full-among shape
 
 -- ---- scalars: 1, 4, 6 to 9, and then one of their own
-module _ (body table : List ℕ) (final : ℕ) (settings : Settings) (depth : ShapeDepth) where
+module _ (u : Upload) (settings : Settings) (depth : ShapeDepth) where
   unread-among : (last : ℕ) {Wrong : List ℕ → Refusal → Type 0} → ((t : List ℕ) (q : Refusal) → Wrong t q → Only (1 ∷ 4 ∷ 6 ∷ 7 ∷ 8 ∷ 9 ∷ last ∷ []) q)
-      → (r : Refusal) → Unread body table final settings depth Wrong r → Only (1 ∷ 4 ∷ 6 ∷ 7 ∷ 8 ∷ 9 ∷ last ∷ []) r
+      → (r : Refusal) → Unread u settings depth Wrong r → Only (1 ∷ 4 ∷ 6 ∷ 7 ∷ 8 ∷ 9 ∷ last ∷ []) r
   unread-among last {Wrong} f r w = go w
     where
       ofText : {q : Refusal} → OfText q → Only (1 ∷ 4 ∷ 6 ∷ 7 ∷ 8 ∷ 9 ∷ last ∷ []) q
@@ -115,7 +115,7 @@ module _ (body table : List ℕ) (final : ℕ) (settings : Settings) (depth : Sh
       ofText eight = refl
       ofText nine = refl
 
-      go : {q : Refusal} → Unread body table final settings depth Wrong q → Only (1 ∷ 4 ∷ 6 ∷ 7 ∷ 8 ∷ 9 ∷ last ∷ []) q
+      go : {q : Refusal} → Unread u settings depth Wrong q → Only (1 ∷ 4 ∷ 6 ∷ 7 ∷ 8 ∷ 9 ∷ last ∷ []) q
       go (not-read (not-opened (broken-table n))) = refl
       go (not-read (not-opened (no-root t n))) = refl
       go (not-read (no-text w n)) = ofText (text-number (n .inside))
@@ -131,28 +131,28 @@ module _ (body table : List ℕ) (final : ℕ) (settings : Settings) (depth : Sh
   string-among : (room : ℕ) (t : List ℕ) (q : Refusal) → StringTooLong room t q → Only (1 ∷ 4 ∷ 6 ∷ 7 ∷ 8 ∷ 9 ∷ 10 ∷ []) q
   string-among room t q (too-long h) = refl
 
-  pub boolean-numbers : (r : Refusal) → booleanReading (uploaded body table final) settings depth ≡ refuses r → Only (1 ∷ 4 ∷ 6 ∷ 7 ∷ 8 ∷ 9 ∷ 11 ∷ []) r
-  boolean-numbers r e = unread-among 11 boolean-among r (boolean-refusal body table final settings depth r .0 e)
+  pub boolean-numbers : (r : Refusal) → booleanReading u settings depth ≡ refuses r → Only (1 ∷ 4 ∷ 6 ∷ 7 ∷ 8 ∷ 9 ∷ 11 ∷ []) r
+  boolean-numbers r e = unread-among 11 boolean-among r (boolean-refusal u settings depth r .0 e)
 
-  pub integer-numbers : (r : Refusal) → integerReading (uploaded body table final) settings depth ≡ refuses r → Only (1 ∷ 4 ∷ 6 ∷ 7 ∷ 8 ∷ 9 ∷ 12 ∷ []) r
-  integer-numbers r e = unread-among 12 integer-among r (integer-refusal body table final settings depth r .0 e)
+  pub integer-numbers : (r : Refusal) → integerReading u settings depth ≡ refuses r → Only (1 ∷ 4 ∷ 6 ∷ 7 ∷ 8 ∷ 9 ∷ 12 ∷ []) r
+  integer-numbers r e = unread-among 12 integer-among r (integer-refusal u settings depth r .0 e)
 
-  pub string-numbers : (room : ℕ) (r : Refusal) → stringReading (uploaded body table final) settings depth room ≡ refuses r → Only (1 ∷ 4 ∷ 6 ∷ 7 ∷ 8 ∷ 9 ∷ 10 ∷ []) r
-  string-numbers room r e = unread-among 10 (string-among room) r (string-refusal body table final settings depth room r .0 e)
+  pub string-numbers : (room : ℕ) (r : Refusal) → stringReading u settings depth room ≡ refuses r → Only (1 ∷ 4 ∷ 6 ∷ 7 ∷ 8 ∷ 9 ∷ 10 ∷ []) r
+  string-numbers room r e = unread-among 10 (string-among room) r (string-refusal u settings depth room r .0 e)
 
 -- ---- find, and whole text
-pub find-numbers : (body table : List ℕ) (final : ℕ) (name : List ℕ) {r : Refusal} → find (uploaded body table final) name ≡ refuses r → Only (1 ∷ 13 ∷ []) r
-find-numbers body table final name {r} e = go (find-refusal body table final name r .0 e)
+pub find-numbers : (u : Upload) (name : List ℕ) {r : Refusal} → find u name ≡ refuses r → Only (1 ∷ 13 ∷ []) r
+find-numbers u name {r} e = go (find-refusal u name r .0 e)
   where
-    go : {q : Refusal} → FindRefused body table final name q → Only (1 ∷ 13 ∷ []) q
+    go : {q : Refusal} → FindRefused u name q → Only (1 ∷ 13 ∷ []) q
     go (find-table b) = refl
     go (find-no-root t n) = refl
     go (find-none t p n) = refl
 
-pub whole-text-numbers : (body table : List ℕ) (final room : ℕ) {r : Refusal} → wholeText (uploaded body table final) room ≡ refuses r → Only (1 ∷ 4 ∷ 6 ∷ 9 ∷ 10 ∷ []) r
-whole-text-numbers body table final room {r} e = go (whole-text-refusal body table final room r .0 e)
+pub whole-text-numbers : (u : Upload) (room : ℕ) {r : Refusal} → wholeText u room ≡ refuses r → Only (1 ∷ 4 ∷ 6 ∷ 9 ∷ 10 ∷ []) r
+whole-text-numbers u room {r} e = go (whole-text-refusal u room r .0 e)
   where
-    go : {q : Refusal} → WholeRefused body table final room q → Only (1 ∷ 4 ∷ 6 ∷ 9 ∷ 10 ∷ []) q
+    go : {q : Refusal} → WholeRefused u room q → Only (1 ∷ 4 ∷ 6 ∷ 9 ∷ 10 ∷ []) q
     go (whole-table b) = refl
     go (whole-ill-formed p) = refl
     go (whole-no-root p q) = refl

@@ -11,14 +11,14 @@ use Rattle.document.specs.Scope.{Child}
 use Rattle.document.specs.Text.{textOf}
 use Rattle.sheet.specs.declared.ShapeDepth.{ShapeDepth}
 use Rattle.sheet.specs.Settings.{Settings}
-use Rattle.readings.specs.Call.{uploaded, calling}
-use Rattle.readings.specs.Output.{Entry, Room, Output, nothing, Reading, refused, written}
-use Rattle.readings.specs.Plan.{Plan, put, end, stop, Whole, performed}
+use Rattle.readings.specs.Call.{Upload, Call}
+use Rattle.readings.specs.Output.{Entry, Room, Output, nothing, refused, written}
+use Rattle.readings.specs.Plan.{Plan, put, end, stop, Whole}
 use Rattle.readings.specs.Opening.{Opened, Asked}
 use Rattle.readings.specs.Shape.{Shape, structure, list, map, strings, SheetOf, sheetOf, planOf, read}
 use Rattle.readings.specs.Demand.{Reaches, here, Exceeds, RootDiffers, TextWanted}
 use Rattle.readings.proofs.Conditions.Opening.{AskedRefused, AskedAs}
-use Rattle.readings.proofs.Plans.Perform.{Ended, all-done, at-stop, no-room, EndedWhole, as-met, in-groups, performed-ended}
+use Rattle.readings.proofs.Plans.Perform.{all-done, at-stop, no-room, EndedWhole, as-met, in-groups, performed-ended}
 use Rattle.readings.proofs.Plans.Made.{MadeWhole, made-stops}
 use Rattle.readings.proofs.Plans.Sources.{Source, Anything, Sources, ShapeSources}
 use Rattle.readings.proofs.Plans.Readings.{read-is, askedPlan, PlanIs, before, while, plan-is, mostMet, mostGroups, plan-made}
@@ -53,32 +53,32 @@ plan-stops body settings depth shape a =
     plan-made settings depth shape a (any-source body (a .opened)) (any-shape body shape a)
     (record { illFormed = ill-formed; rootName = root-differs; text = λ c h w r e. no-text c w e })
 
-module _ (body table : List ℕ) (final : ℕ) (sheet : List ℕ) (settings : Settings) (depth : ShapeDepth) (room : Room) (shape : Shape) where
+module _ (u : Upload) (call : Call) (room : Room) (shape : Shape) where
   -- it is refused before it reads, having written nothing; or where it stops; or where there is no room, as met or for the groups
   pub data Refused : Refusal → Output → Type 0 where
-    early : {r : Refusal} → AskedRefused body table final (sheetOf shape sheet) settings depth r → Refused r nothing
-    stops : {a : Asked (SheetOf shape)} {r : Refusal} {out : Output} → AskedAs body table final (sheetOf shape sheet) settings depth a
-        → Stops settings depth shape a r → Refused r out
-    full : {entry : ℕ → Entry} {bytes : List ℕ} {more : Plan} {out : Output} → Reaches (planOf shape (uploaded body table final) (calling sheet settings depth) .asMet) nothing (put entry bytes more) out
+    early : {r : Refusal} → AskedRefused u (sheetOf shape (call .sheet)) (call .settings) (call .depth) r → Refused r nothing
+    stops : {a : Asked (SheetOf shape)} {r : Refusal} {out : Output} → AskedAs u (sheetOf shape (call .sheet)) (call .settings) (call .depth) a
+        → Stops (call .settings) (call .depth) shape a r → Refused r out
+    full : {entry : ℕ → Entry} {bytes : List ℕ} {more : Plan} {out : Output} → Reaches (planOf shape u call .asMet) nothing (put entry bytes more) out
         → Exceeds room (written entry bytes out) → Refused Refusal.NoRoom out
-    groups-full : {entry : ℕ → Entry} {bytes : List ℕ} {more : Plan} {out last : Output} → Reaches (planOf shape (uploaded body table final) (calling sheet settings depth) .asMet) nothing end out
-        → Reaches (planOf shape (uploaded body table final) (calling sheet settings depth) .groups) out (put entry bytes more) last → Exceeds room (written entry bytes last) → Refused Refusal.NoRoom out
+    groups-full : {entry : ℕ → Entry} {bytes : List ℕ} {more : Plan} {out last : Output} → Reaches (planOf shape u call .asMet) nothing end out
+        → Reaches (planOf shape u call .groups) out (put entry bytes more) last → Exceeds room (written entry bytes last) → Refused Refusal.NoRoom out
 
   -- where the plan stops
-  met : {w : Whole} → PlanIs body table final sheet settings depth shape w → {r : Refusal} {out : Output} → Reaches (w .asMet) nothing (stop r) out → Refused r out
+  met : {w : Whole} → PlanIs u call shape w → {r : Refusal} {out : Output} → Reaches (w .asMet) nothing (stop r) out → Refused r out
   met (before x) here = early x
-  met (while {a = a} x) t = stops x (made-stops (plan-stops body settings depth shape a .asMet) t)
+  met (while {a = a} x) t = stops x (made-stops (plan-stops (u .body) (call .settings) (call .depth) shape a .asMet) t)
 
-  grouped : {w : Whole} → PlanIs body table final sheet settings depth shape w → {r : Refusal} {out kept last : Output} → Reaches (w .groups) out (stop r) last → Refused r kept
-  grouped (while {a = a} x) t = stops x (made-stops (plan-stops body settings depth shape a .groups) t)
+  grouped : {w : Whole} → PlanIs u call shape w → {r : Refusal} {out kept last : Output} → Reaches (w .groups) out (stop r) last → Refused r kept
+  grouped (while {a = a} x) t = stops x (made-stops (plan-stops (u .body) (call .settings) (call .depth) shape a .groups) t)
 
-  pub reading-refused : {r : Refusal} {out : Output} → read shape (uploaded body table final) (calling sheet settings depth) room ≡ refused r out → Refused r out
-  reading-refused e = go (subst (EndedWhole room _) (sym (read-is shape body table final sheet settings depth room) ∙ e) (performed-ended room (planOf shape (uploaded body table final) (calling sheet settings depth))))
+  pub reading-refused : {r : Refusal} {out : Output} → read shape u call room ≡ refused r out → Refused r out
+  reading-refused e = go (subst (EndedWhole room _) (sym (read-is shape u call room) ∙ e) (performed-ended room (planOf shape u call)))
     where
-      is : PlanIs body table final sheet settings depth shape (planOf shape (uploaded body table final) (calling sheet settings depth))
-      is = plan-is body table final sheet settings depth shape
+      is : PlanIs u call shape (planOf shape u call)
+      is = plan-is u call shape
 
-      go : {r : Refusal} {out : Output} → EndedWhole room (planOf shape (uploaded body table final) (calling sheet settings depth)) (refused r out) → Refused r out
+      go : {r : Refusal} {out : Output} → EndedWhole room (planOf shape u call) (refused r out) → Refused r out
       go (as-met (at-stop t w)) = met is t
       go (as-met (no-room t w f)) = full t f
       go (in-groups m (at-stop t w)) = grouped is t

@@ -17,6 +17,7 @@ use Rattle.document.specs.declared.Depth.{Depth}
 use Rattle.document.specs.Reader.{depthAfter, Scope, isEnd}
 use Rattle.document.specs.Scope.{Child, scopeOf}
 use Rattle.document.specs.Text.{unescapedText, atEnd, textTurn, firstText, textOf}
+use Rattle.readings.specs.Call.{Upload}
 use Rattle.readings.specs.Opening.{Opened}
 use Rattle.readings.proofs.Conditions.Answers.{given-refused, refuses-same}
 use Rattle.readings.proofs.Conditions.Opening.{OpenedAs}
@@ -103,6 +104,6 @@ module _ (Stop : Refusal → Type 0) (failure : Option Refusal) (stops : (r : Re
       go false p e = record { notClosed = p; inside = first-text-refused (scopeOf (c .start)) (c .inner .depth) (c .inner .rest) e }
 
 -- of an element of a table that was opened
-pub opened-text-refusal : (body table : List ℕ) (final : ℕ) {strict : Bool} {o : Opened} → OpenedAs body table final strict o → (c : Child) (r : Refusal) →
-    (textOf (o .seen .failure) c ≡ refuses r) ↔ NoTextIn (Stopped body table final strict) c r
-opened-text-refusal body table final {strict} {o} w c r = text-refusal (Stopped body table final strict) (o .seen .failure) (opened-stops body table final w) c r
+pub opened-text-refusal : (u : Upload) {strict : Bool} {o : Opened} → OpenedAs u strict o → (c : Child) (r : Refusal) →
+    (textOf (o .seen .failure) c ≡ refuses r) ↔ NoTextIn (Stopped u strict) c r
+opened-text-refusal u {strict} {o} w c r = text-refusal (Stopped u strict) (o .seen .failure) (opened-stops u w) c r

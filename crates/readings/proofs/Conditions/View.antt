@@ -4,7 +4,6 @@ use Prim.Native.Nat.{ℕ}
 use mathlib.Core.Path.{_≡_, refl, sym, _∙_, ap, subst}
 use mathlib.Core.Logic.{_↔_}
 use mathlib.Core.Bool.{Bool, true, false}
-use mathlib.Core.List.{List}
 use mathlib.Core.Option.{Option, none, some, Option·none-ne-some, Option·some-injective}
 use Rattle.lists.proofs.Tests.{false-true}
 use Rattle.refusal.specs.declared.Refusal.{Refusal}
@@ -16,6 +15,7 @@ use Rattle.xml.specs.declared.Drained.{Drained}
 use Rattle.xml.specs.Drain.{walked, drained, drainedBy}
 use Rattle.xml.proofs.First.{not-ill}
 use Rattle.document.specs.View.{view, failureOf, strictView, lenientView, errorAt}
+use Rattle.readings.specs.Call.{Upload}
 use Rattle.readings.specs.Opening.{Opened}
 use Rattle.readings.proofs.Conditions.Opening.{OpenedAs}
 
@@ -36,72 +36,72 @@ causeIn other (Drained.IllFormed k c) = c
 ill-same : {j k : ℕ} {c d : Cause} → Drained.IllFormed j c ≡ Drained.IllFormed k d → c ≡ d
 ill-same {c = c} e = ap (causeIn c) e
 
-module _ (body table : List ℕ) (final : ℕ) where
+module _ (u : Upload) where
   -- "9 ill-formed": the reading is strict, and the drain of the table answers 9
   pub record DrainFails (strict : Bool) : Type 0 where
     pub strictly : strict ≡ true
     pub row : ℕ
     pub cause : Cause
-    pub drain : drained body table final ≡ Drained.IllFormed row cause
+    pub drain : drained (u .body) (u .rows) (u .end) ≡ Drained.IllFormed row cause
 
   -- what a text meets where the rows run out: under strict reading the cause that the drain gives, 8, 9 or 7; otherwise 8, at a token error
   pub data Stopped : Bool → Refusal → Type 0 where
-    at-drain : {row : ℕ} {cause : Cause} → drained body table final ≡ Drained.IllFormed row cause → Stopped true (failureOf cause)
-    at-error : {k : ℕ} → errorAt (toksOf body (rowsOf table)) ≡ some k → Stopped false Refusal.TokenError
+    at-drain : {row : ℕ} {cause : Cause} → drained (u .body) (u .rows) (u .end) ≡ Drained.IllFormed row cause → Stopped true (failureOf cause)
+    at-error : {k : ℕ} → errorAt (toksOf (u .body) (rowsOf (u .rows))) ≡ some k → Stopped false Refusal.TokenError
 
   -- the walk is the drain, where the rules hold
-  drained-walk : TableRules body table final → drained body table final ≡ walked (toksOf body (rowsOf table))
+  drained-walk : TableRules (u .body) (u .rows) (u .end) → drained (u .body) (u .rows) (u .end) ≡ walked (toksOf (u .body) (rowsOf (u .rows)))
   unfolding drained
-  drained-walk t = go (decTable body table final)
+  drained-walk t = go (decTable (u .body) (u .rows) (u .end))
     where
-      go : (d : Dec (TableRules body table final)) → drainedBy d (toksOf body (rowsOf table)) ≡ walked (toksOf body (rowsOf table))
+      go : (d : Dec (TableRules (u .body) (u .rows) (u .end))) → drainedBy d (toksOf (u .body) (rowsOf (u .rows))) ≡ walked (toksOf (u .body) (rowsOf (u .rows)))
       go (yes rules) = refl
       go (no broken) = absurd (broken t)
 
-  view-fails : (strict : Bool) → TableRules body table final → (view strict body (rowsOf table) final .illFormed ≡ true) ↔ DrainFails strict
+  view-fails : (strict : Bool) → TableRules (u .body) (u .rows) (u .end) → (view strict (u .body) (rowsOf (u .rows)) (u .end) .illFormed ≡ true) ↔ DrainFails strict
   unfolding view
-  view-fails true t = (go (walked (toksOf body (rowsOf table))) (drained-walk t), λ w. back (walked (toksOf body (rowsOf table))) (drained-walk t) w)
+  view-fails true t = (go (walked (toksOf (u .body) (rowsOf (u .rows)))) (drained-walk t), λ w. back (walked (toksOf (u .body) (rowsOf (u .rows)))) (drained-walk t) w)
     where
-      go : (x : Drained) → drained body table final ≡ x → strictView (rowsOf table) final x .illFormed ≡ true → DrainFails true
+      go : (x : Drained) → drained (u .body) (u .rows) (u .end) ≡ x → strictView (rowsOf (u .rows)) (u .end) x .illFormed ≡ true → DrainFails true
       go Drained.Passes p e = false-true e
       go Drained.Table p e = false-true e
       go (Drained.IllFormed k c) p e = record { strictly = refl; row = k; cause = c; drain = p }
 
-      back : (x : Drained) → drained body table final ≡ x → DrainFails true → strictView (rowsOf table) final x .illFormed ≡ true
+      back : (x : Drained) → drained (u .body) (u .rows) (u .end) ≡ x → DrainFails true → strictView (rowsOf (u .rows)) (u .end) x .illFormed ≡ true
       back Drained.Passes p w = not-ill (sym p ∙ w .drain)
       back Drained.Table p w = table-not-ill (sym p ∙ w .drain)
       back (Drained.IllFormed k c) p w = refl
-  view-fails false t = (go (errorAt (toksOf body (rowsOf table))), λ w. false-true (w .strictly))
+  view-fails false t = (go (errorAt (toksOf (u .body) (rowsOf (u .rows)))), λ w. false-true (w .strictly))
     where
-      go : (x : Option ℕ) → lenientView (rowsOf table) final x .illFormed ≡ true → DrainFails false
+      go : (x : Option ℕ) → lenientView (rowsOf (u .rows)) (u .end) x .illFormed ≡ true → DrainFails false
       go none e = false-true e
       go (some k) e = false-true e
 
-  view-stops : (strict : Bool) → TableRules body table final → (r : Refusal) → (view strict body (rowsOf table) final .failure ≡ some r) ↔ Stopped strict r
+  view-stops : (strict : Bool) → TableRules (u .body) (u .rows) (u .end) → (r : Refusal) → (view strict (u .body) (rowsOf (u .rows)) (u .end) .failure ≡ some r) ↔ Stopped strict r
   unfolding view
-  view-stops true t r = (go (walked (toksOf body (rowsOf table))) (drained-walk t), back (walked (toksOf body (rowsOf table))) (drained-walk t))
+  view-stops true t r = (go (walked (toksOf (u .body) (rowsOf (u .rows)))) (drained-walk t), back (walked (toksOf (u .body) (rowsOf (u .rows)))) (drained-walk t))
     where
-      go : (x : Drained) → drained body table final ≡ x → strictView (rowsOf table) final x .failure ≡ some r → Stopped true r
+      go : (x : Drained) → drained (u .body) (u .rows) (u .end) ≡ x → strictView (rowsOf (u .rows)) (u .end) x .failure ≡ some r → Stopped true r
       go Drained.Passes p e = absurd (Option·none-ne-some r e)
       go Drained.Table p e = absurd (Option·none-ne-some r e)
       go (Drained.IllFormed k c) p e = subst (Stopped true) (Option·some-injective _ _ e) (at-drain p)
 
-      back : (x : Drained) → drained body table final ≡ x → {n : Refusal} → Stopped true n → strictView (rowsOf table) final x .failure ≡ some n
+      back : (x : Drained) → drained (u .body) (u .rows) (u .end) ≡ x → {n : Refusal} → Stopped true n → strictView (rowsOf (u .rows)) (u .end) x .failure ≡ some n
       back Drained.Passes p (at-drain e) = not-ill (sym p ∙ e)
       back Drained.Table p (at-drain e) = table-not-ill (sym p ∙ e)
       back (Drained.IllFormed k c) p (at-drain {cause = d} e) = let q : c ≡ d = ill-same (sym p ∙ e) in ap (λ (x : Cause). some (failureOf x)) q
-  view-stops false t r = (go (errorAt (toksOf body (rowsOf table))) refl, back)
+  view-stops false t r = (go (errorAt (toksOf (u .body) (rowsOf (u .rows)))) refl, back)
     where
-      go : (x : Option ℕ) → errorAt (toksOf body (rowsOf table)) ≡ x → lenientView (rowsOf table) final x .failure ≡ some r → Stopped false r
+      go : (x : Option ℕ) → errorAt (toksOf (u .body) (rowsOf (u .rows))) ≡ x → lenientView (rowsOf (u .rows)) (u .end) x .failure ≡ some r → Stopped false r
       go none p e = absurd (Option·none-ne-some r e)
       go (some k) p e = subst (Stopped false) (Option·some-injective _ _ e) (at-error p)
 
-      back : {n : Refusal} → Stopped false n → lenientView (rowsOf table) final (errorAt (toksOf body (rowsOf table))) .failure ≡ some n
+      back : {n : Refusal} → Stopped false n → lenientView (rowsOf (u .rows)) (u .end) (errorAt (toksOf (u .body) (rowsOf (u .rows)))) .failure ≡ some n
       back (at-error e) = rw e
 
   -- the same of what is opened
-  pub opened-fails : {strict : Bool} {o : Opened} → OpenedAs body table final strict o → (o .seen .illFormed ≡ true) ↔ DrainFails strict
+  pub opened-fails : {strict : Bool} {o : Opened} → OpenedAs u strict o → (o .seen .illFormed ≡ true) ↔ DrainFails strict
   opened-fails {strict} w = rw (w .seen) (view-fails strict (w .rules))
 
-  pub opened-stops : {strict : Bool} {o : Opened} → OpenedAs body table final strict o → (r : Refusal) → (o .seen .failure ≡ some r) ↔ Stopped strict r
+  pub opened-stops : {strict : Bool} {o : Opened} → OpenedAs u strict o → (r : Refusal) → (o .seen .failure ≡ some r) ↔ Stopped strict r
   opened-stops {strict} w r = rw (w .seen) (view-stops strict (w .rules) r)

@@ -24,7 +24,7 @@ use Rattle.document.specs.declared.Depth.{Depth}
 use Rattle.document.specs.Reader.{Reader, reader, fresh, depthAfter, Scope, document, isEnd, endsAt, StartEl, blank, Turn, goes, complete, over, turn, Next, found, gone, takeTurn, next}
 use Rattle.document.specs.Scope.{Child, scopeOf, rootOf, onRoot, nextFrom}
 use Rattle.document.specs.Text.{unescapedText, joinTurn, joined, wholeOf}
-use Rattle.readings.specs.Call.{uploaded}
+use Rattle.readings.specs.Call.{Upload}
 use Rattle.readings.specs.Opening.{present}
 use Rattle.readings.specs.Scalar.{stringIn, passing, wholeText}
 use Rattle.readings.proofs.Conditions.Answers.{given-refused, refuses-same}
@@ -74,10 +74,10 @@ member-parts : {t : Tok} {l : List Tok} → List·Memᴰ t l → (a : List Tok) 
 member-parts {t} (List·Memᴰ·head {xs = l} e) = ([], l, ap (λ (x : Tok). x ∷ l) (sym e))
 member-parts {t} (List·Memᴰ·tail {x = x} i) = let w = member-parts i in (x ∷ w .0, w .1, ap (λ (k : List Tok). x ∷ k) (w .2))
 
-pub passed-unescapes : (body table : List ℕ) (final : ℕ) → drained body table final ≡ Drained.Passes → Unescapes (toksOf body (rowsOf table))
-passed-unescapes body table final e v i =
+pub passed-unescapes : (u : Upload) → drained (u .body) (u .rows) (u .end) ≡ Drained.Passes → Unescapes (toksOf (u .body) (rowsOf (u .rows)))
+passed-unescapes u e v i =
     let w = member-parts i in
-    valid-unescapes v (drained-passes-is body table final .0 e .wellFormed .textValues (w .0) v (w .1) (w .2))
+    valid-unescapes v (drained-passes-is (u .body) (u .rows) (u .end) .0 e .wellFormed .textValues (w .0) v (w .1) (w .2))
 
 -- ---- "6 (any element inside the root)": a start tag before the end of the scope
 pub data ElementAhead (s : Scope) : Depth → List Tok → Type 0 where
@@ -147,52 +147,52 @@ element-whole : (c : Child) → Unescapes (c .inner .rest) → HasElement c → 
 unfolding wholeOf
 element-whole c u w = rw (w .notClosed) (refused-joined u (w .inside))
 
-module _ (body table : List ℕ) (final : ℕ) (room : ℕ) where
+module _ (u : Upload) (room : ℕ) where
   abbrev root : Option Child
-  root = rootOf (toksOf body (rowsOf table))
+  root = rootOf (toksOf (u .body) (rowsOf (u .rows)))
 
   pub data WholeRefused : Refusal → Type 0 where
     -- "1"
-    whole-table : TableBroken body table final → WholeRefused Refusal.Table
+    whole-table : TableBroken u → WholeRefused Refusal.Table
     -- "9"
-    whole-ill-formed : {row : ℕ} {cause : Cause} → drained body table final ≡ Drained.IllFormed row cause → WholeRefused Refusal.IllFormed
+    whole-ill-formed : {row : ℕ} {cause : Cause} → drained (u .body) (u .rows) (u .end) ≡ Drained.IllFormed row cause → WholeRefused Refusal.IllFormed
     -- "4"
-    whole-no-root : drained body table final ≡ Drained.Passes → root ≡ none → WholeRefused Refusal.NoRoot
+    whole-no-root : drained (u .body) (u .rows) (u .end) ≡ Drained.Passes → root ≡ none → WholeRefused Refusal.NoRoot
     -- "6 (any element inside the root)"
-    whole-has-element : {c : Child} → drained body table final ≡ Drained.Passes → root ≡ some c → HasElement c → WholeRefused Refusal.ElementInText
+    whole-has-element : {c : Child} → drained (u .body) (u .rows) (u .end) ≡ Drained.Passes → root ≡ some c → HasElement c → WholeRefused Refusal.ElementInText
     -- "10"
-    whole-no-room : {c : Child} {text : List ℕ} → drained body table final ≡ Drained.Passes → root ≡ some c → wholeOf c ≡ gives text → room < length text →
+    whole-no-room : {c : Child} {text : List ℕ} → drained (u .body) (u .rows) (u .end) ≡ Drained.Passes → root ≡ some c → wholeOf c ≡ gives text → room < length text →
         WholeRefused Refusal.NoRoom
 
-  pub whole-text-refusal : (r : Refusal) → (wholeText (uploaded body table final) room ≡ refuses r) ↔ WholeRefused r
+  pub whole-text-refusal : (r : Refusal) → (wholeText u room ≡ refuses r) ↔ WholeRefused r
   unfolding wholeText
-  whole-text-refusal r = (onDrain (drained body table final) refl, back)
+  whole-text-refusal r = (onDrain (drained (u .body) (u .rows) (u .end)) refl, back)
     where
-      inner : drained body table final ≡ Drained.Passes → {c : Child} → root ≡ some c → Unescapes (c .inner .rest)
-      inner p {c} q v i = passed-unescapes body table final p v (root-rest (toksOf body (rowsOf table)) c q (text v) i)
+      inner : drained (u .body) (u .rows) (u .end) ≡ Drained.Passes → {c : Child} → root ≡ some c → Unescapes (c .inner .rest)
+      inner p {c} q v i = passed-unescapes u p v (root-rest (toksOf (u .body) (rowsOf (u .rows))) c q (text v) i)
 
-      long : {c : Child} {t : List ℕ} → drained body table final ≡ Drained.Passes → root ≡ some c → wholeOf c ≡ gives t → {q : Refusal} → StringTooLong room t q → WholeRefused q
+      long : {c : Child} {t : List ℕ} → drained (u .body) (u .rows) (u .end) ≡ Drained.Passes → root ≡ some c → wholeOf c ≡ gives t → {q : Refusal} → StringTooLong room t q → WholeRefused q
       long p c w (too-long h) = whole-no-room p c w h
 
-      onText : (c : Child) (a : Answer (List ℕ)) → wholeOf c ≡ a → drained body table final ≡ Drained.Passes → root ≡ some c → onward a (stringIn room) ≡ refuses r → WholeRefused r
+      onText : (c : Child) (a : Answer (List ℕ)) → wholeOf c ≡ a → drained (u .body) (u .rows) (u .end) ≡ Drained.Passes → root ≡ some c → onward a (stringIn room) ≡ refuses r → WholeRefused r
       onText c (gives t) w p q e = long p q w (string-text-refusal room t r .0 e)
       onText c (refuses n) w p q e =
           let k = whole-element c n (inner p q) w in
           subst WholeRefused (sym (k .0) ∙ refuses-same e) (whole-has-element p q (k .1))
 
-      onRoots : (o : Option Child) → root ≡ o → drained body table final ≡ Drained.Passes →
+      onRoots : (o : Option Child) → root ≡ o → drained (u .body) (u .rows) (u .end) ≡ Drained.Passes →
           onward (present Refusal.NoRoot o) (λ (c : Child). onward (wholeOf c) (stringIn room)) ≡ refuses r → WholeRefused r
       onRoots none q p e = subst WholeRefused (refuses-same e) (whole-no-root p q)
       onRoots (some c) q p e = onText c (wholeOf c) refl p q e
 
-      onDrain : (x : Drained) → drained body table final ≡ x →
+      onDrain : (x : Drained) → drained (u .body) (u .rows) (u .end) ≡ x →
           passing x (onward (present Refusal.NoRoot root) (λ (c : Child). onward (wholeOf c) (stringIn room))) ≡ refuses r → WholeRefused r
       onDrain Drained.Passes p e = onRoots root refl p e
-      onDrain Drained.Table p e = subst WholeRefused (refuses-same e) (whole-table (drained-table-is body table final .0 p))
+      onDrain Drained.Table p e = subst WholeRefused (refuses-same e) (whole-table (drained-table-is (u .body) (u .rows) (u .end) .0 p))
       onDrain (Drained.IllFormed k c) p e = subst WholeRefused (refuses-same e) (whole-ill-formed p)
 
-      back : {n : Refusal} → WholeRefused n → passing (drained body table final) (onward (present Refusal.NoRoot root) (λ (c : Child). onward (wholeOf c) (stringIn room))) ≡ refuses n
-      back (whole-table b) = rw (drained-table-is body table final .1 b)
+      back : {n : Refusal} → WholeRefused n → passing (drained (u .body) (u .rows) (u .end)) (onward (present Refusal.NoRoot root) (λ (c : Child). onward (wholeOf c) (stringIn room))) ≡ refuses n
+      back (whole-table b) = rw (drained-table-is (u .body) (u .rows) (u .end) .1 b)
       back (whole-ill-formed p) = rw p
       back (whole-no-root p q) = rw (p, q)
       back (whole-has-element {c = c} p q h) = rw (p, q, element-whole c (inner p q) h)

@@ -20,17 +20,16 @@ use Rattle.xml.proofs.Pass.{drained-document-is}
 use Rattle.xml.proofs.Closing.{element-closed, element-last}
 use Rattle.xml.specs.Piece.{ElementPiece}
 use Rattle.xml.proofs.Piece.{element-piece}
-use Rattle.document.specs.View.{View, whole, view}
+use Rattle.document.specs.View.{View, whole}
 use Rattle.document.specs.Scope.{Child, childrenOf, dropping, afterChildren, rootOf, pieceOf}
 use Rattle.document.specs.Text.{textOf}
 use Rattle.document.proofs.Passed.View.{view-passed}
 use Rattle.document.proofs.Passed.Walks.{either-past, PastElements, level-in, dropping-past, after-children-past}
 use Rattle.document.proofs.Passed.Pieces.{Met, met, inside-met, children-met, RootMet, root-met, no-root, document-root, TextOrElement, is-text, is-element, text-met, element-row, IsPieceAt, piece-met}
-use Rattle.sheet.specs.declared.ShapeDepth.{ShapeDepth}
-use Rattle.sheet.specs.Settings.{Settings, isStrict}
+use Rattle.sheet.specs.Settings.{isStrict}
 use Rattle.sheet.specs.Sheet.{Structure}
 use Rattle.sheet.specs.Names.{entryName}
-use Rattle.readings.specs.Call.{Upload, Call, uploaded, calling}
+use Rattle.readings.specs.Call.{Upload, Call}
 use Rattle.readings.specs.Output.{Entry, pieceKind, Room, Output, nothing, Reading, finished, refused, output}
 use Rattle.readings.specs.Opening.{Asked}
 use Rattle.readings.specs.Structure.{inGroup, siblings, groupOf, rootPiece}
@@ -46,35 +45,35 @@ use Rattle.readings.proofs.Plans.Sources.{Anything, Sources, ShapeSourc
 use Rattle.readings.proofs.Plans.Readings.{output-carried, may-stop, plan-made}
 use Rattle.readings.proofs.Demand.Handed.{IsElement, AllHanded, none-handed, handed-kept}
 
-module _ (body table : List ℕ) (final : ℕ) (passes : drained body table final ≡ Drained.Passes) where
+module _ (u : Upload) (passes : drained (u .body) (u .rows) (u .end) ≡ Drained.Passes) where
   toks : List Tok
-  toks = toksOf body (rowsOf table)
+  toks = toksOf (u .body) (rowsOf (u .rows))
 
   seen : View
-  seen = whole (rowsOf table) final
+  seen = whole (rowsOf (u .rows)) (u .end)
 
   -- ---- what there is to be written: elements, and groups of elements
-  piece-of : (c : Child) → Met toks c → IsPieceAt body table (c .start .row) (pieceOf body seen c)
+  piece-of : (c : Child) → Met toks c → IsPieceAt (u .body) (u .rows) (c .start .row) (pieceOf (u .body) seen c)
   unfolding toks seen
-  piece-of c m = piece-met final passes c m
+  piece-of c m = piece-met (u .end) passes c m
 
-  root-piece : (root : Child) → Met toks root → IsPieceAt body table (root .start .row) (rootPiece body (record { seen = seen; root = root }))
+  root-piece : (root : Child) → Met toks root → IsPieceAt (u .body) (u .rows) (root .start .row) (rootPiece (u .body) (record { seen = seen; root = root }))
   unfolding rootPiece seen toks
   root-piece root (met e d k h) =
-      rw (element-row e d k, element-closed body (rowsOf table) e k h, element-last body (rowsOf table) e k h) (element-piece final passes e k h)
+      rw (element-row e d k, element-closed (u .body) (rowsOf (u .rows)) e k h, element-last (u .body) (rowsOf (u .rows)) e k h) (element-piece (u .end) passes e k h)
 
   -- the siblings of a group are elements, and the others are no siblings
-  siblings-are : (s : Structure) (i : ℕ) (l : List Child) → ((c : Child) → List·Memᴰ c l → Met toks c) → Siblings (uploaded body table final) s i l (siblings body seen s i l)
+  siblings-are : (s : Structure) (i : ℕ) (l : List Child) → ((c : Child) → List·Memᴰ c l → Met toks c) → Siblings u s i l (siblings (u .body) seen s i l)
   unfolding siblings
   siblings-are s i [] f = no-child
   siblings-are s i (c ∷ l) f = go (inGroup s i c) refl (siblings-are s i l (λ x m. f x (List·Memᴰ·tail m)))
     where
       bytes : List ℕ
-      bytes = let p = pieceOf body seen c in cut body (p .start) (p .len)
+      bytes = let p = pieceOf (u .body) seen c in cut (u .body) (p .start) (p .len)
 
-      go : (t : Bool) → inGroup s i c ≡ t → Siblings (uploaded body table final) s i l (siblings body seen s i l)
-          → Siblings (uploaded body table final) s i (c ∷ l) (pick t (bytes ++ siblings body seen s i l) (siblings body seen s i l))
-      go true q more = sibling q (piece-of c (f c (List·Memᴰ·head refl))) more
+      go : (t : Bool) → inGroup s i c ≡ t → Siblings u s i l (siblings (u .body) seen s i l)
+          → Siblings u s i (c ∷ l) (pick t (bytes ++ siblings (u .body) seen s i l) (siblings (u .body) seen s i l))
+      go true q more = sibling (piece-of c (f c (List·Memᴰ·head refl))) q more
       go false q more = stranger q more
 
   -- the entries of a map are met, whether their fields are read or not
@@ -98,18 +97,18 @@ module _ (body table : List ℕ) (final : ℕ) (passes : drained body table fina
   -- ---- what is read
   met-root : {root : Child} → rootOf toks ≡ some root → Met toks root
   unfolding toks
-  met-root {root} e = go (document-root (toksOf body (rowsOf table)) (drained-document-is body table final .0 passes .1)) e
+  met-root {root} e = go (document-root (toksOf (u .body) (rowsOf (u .rows))) (drained-document-is (u .body) (u .rows) (u .end) .0 passes .1)) e
     where
-      go : {c : Option Child} → RootMet (toksOf body (rowsOf table)) c → c ≡ some root → Met (toksOf body (rowsOf table)) root
-      go (root-met m) e = subst (Met (toksOf body (rowsOf table))) (Option·some-injective _ _ e) m
+      go : {c : Option Child} → RootMet (toksOf (u .body) (rowsOf (u .rows))) c → c ≡ some root → Met (toksOf (u .body) (rowsOf (u .rows))) root
+      go (root-met m) e = subst (Met (toksOf (u .body) (rowsOf (u .rows)))) (Option·some-injective _ _ e) m
       go no-root e = absurd (Option·none-ne-some root e)
 
-  module _ (sheet : List ℕ) (shape : Shape) (a : Asked (SheetOf shape)) (w : ReadOf (uploaded body table final) sheet shape a) where
+  module _ (sheet : List ℕ) (shape : Shape) (a : Asked (SheetOf shape)) (w : ReadOf u sheet shape a) where
     root : Met toks (a .opened .root)
     unfolding toks
     root = met-root (w .root)
 
-    met-sources : Sources (Met toks) Anything (λ (r : Refusal). r ≡ Refusal.ElementInText) (IsElement (uploaded body table final)) body (a .opened)
+    met-sources : Sources (Met toks) Anything (λ (r : Refusal). r ≡ Refusal.ElementInText) (IsElement u) (u .body) (a .opened)
     unfolding seen
     met-sources =
         record {
@@ -121,8 +120,8 @@ module _ (body table : List ℕ) (final : ℕ) (passes : drained body table fina
           piece = λ c m. record { row = c .start .row; is = rw (w .seen) (piece-of c m) };
         }
 
-  shape-sources : (sheet : List ℕ) (shape : Shape) (a : Asked (SheetOf shape)) → ReadOf (uploaded body table final) sheet shape a
-      → ShapeSources Anything Anything (GroupBytes (uploaded body table final) sheet) (IsElement (uploaded body table final)) body shape a
+  shape-sources : (sheet : List ℕ) (shape : Shape) (a : Asked (SheetOf shape)) → ReadOf u sheet shape a
+      → ShapeSources Anything Anything (GroupBytes u sheet) (IsElement u) (u .body) shape a
   unfolding seen toks groupOf rootPiece
   shape-sources sheet (structure order) a w =
       let kids = childrenOf (a .opened .root) in
@@ -135,7 +134,7 @@ module _ (body table : List ℕ) (final : ℕ) (passes : drained body table fina
           says = w .says;
           root = a .opened .root;
           isRoot = w .root;
-          gathered = siblings body seen (a .sheet) i kids;
+          gathered = siblings (u .body) seen (a .sheet) i kids;
           siblings = siblings-are (a .sheet) i kids (children-met toks (a .opened .root) (root sheet (structure order) a w));
           are = rw (w .seen);
         };
@@ -146,64 +145,64 @@ module _ (body table : List ℕ) (final : ℕ) (passes : drained body table fina
   shape-sources sheet strings a w = tt {0}
 
   -- ---- where it is refused
-  module _ (sheet : List ℕ) (settings : Settings) (depth : ShapeDepth) (room : Room) where
-    read-of : (shape : Shape) (a : Asked (SheetOf shape)) → AskedAs body table final (sheetOf shape sheet) settings depth a → ReadOf (uploaded body table final) sheet shape a
+  module _ (call : Call) (room : Room) where
+    read-of : (shape : Shape) (a : Asked (SheetOf shape)) → AskedAs u (sheetOf shape (call .sheet)) (call .settings) (call .depth) a → ReadOf u (call .sheet) shape a
     read-of shape a w =
-        let all = w .begun .seen ∙ view-passed body table final passes (isStrict settings depth) in
+        let all = w .begun .seen ∙ view-passed (u .body) (u .rows) (u .end) passes (isStrict (call .settings) (call .depth)) in
         record { says = w .says; seen = all; root = rw all at (w .begun .root) }
 
-    before-reading : (shape : Shape) {r : Refusal} → AskedRefused body table final (sheetOf shape sheet) settings depth r → MayRefuse (uploaded body table final) (calling sheet settings depth) room shape r nothing
-    before-reading shape (by-table n) = absurd (n (drained-document-is body table final .0 passes .0))
+    before-reading : (shape : Shape) {r : Refusal} → AskedRefused u (sheetOf shape (call .sheet)) (call .settings) (call .depth) r → MayRefuse u call room shape nothing r
+    before-reading shape (by-table n) = absurd (n (drained-document-is (u .body) (u .rows) (u .end) .0 passes .0))
     before-reading shape (by-sheet t q) = broken-sheet q
     before-reading shape (by-depth t q h) = depth-limit h
-    before-reading shape (by-root t q h n) = promise.no-root (rw (view-passed body table final passes (isStrict settings depth)) at n)
+    before-reading shape (by-root t q h n) = promise.no-root (rw (view-passed (u .body) (u .rows) (u .end) passes (isStrict (call .settings) (call .depth))) at n)
 
     -- no view of such a table is ill-formed
-    not-ill-formed : {A : Type 0} {shape : Shape} {a : Asked (SheetOf shape)} → ReadOf (uploaded body table final) sheet shape a → a .opened .seen .illFormed ≡ true → A
+    not-ill-formed : {A : Type 0} {shape : Shape} {a : Asked (SheetOf shape)} → ReadOf u (call .sheet) shape a → a .opened .seen .illFormed ≡ true → A
     not-ill-formed w e = false-true (rw (w .seen) at e)
 
     -- a text that is wanted is refused with 6
-    six : (shape : Shape) (a : Asked (SheetOf shape)) → ReadOf (uploaded body table final) sheet shape a → (c : Child) → TextWanted settings shape a c → Met toks c → {out : Output} {r : Refusal}
-        → textOf (a .opened .seen .failure) c ≡ refuses r → MayRefuse (uploaded body table final) (calling sheet settings depth) room shape r out
+    six : (shape : Shape) (a : Asked (SheetOf shape)) → ReadOf u (call .sheet) shape a → (c : Child) → TextWanted (call .settings) shape a c → Met toks c → {out : Output} {r : Refusal}
+        → textOf (a .opened .seen .failure) c ≡ refuses r → MayRefuse u call room shape out r
     six shape a w c wanted m {out} {r} e =
         let first : textOf none c ≡ refuses r = rw (w .seen) at e in
         let q = only-six c m r first in
         rw q (element-in-text a c w wanted (rw q at first))
 
     -- a child of which a text is wanted is met
-    wanted-met : (shape : Shape) (a : Asked (SheetOf shape)) → ReadOf (uploaded body table final) sheet shape a → (c : Child) → TextWanted settings shape a c → Met toks c
-    wanted-met strings a w c (of-item b i e) = children-met toks (a .opened .root) (root sheet strings a w) c i
-    wanted-met map a w c (of-field b {e = entry} i h j t) = children-met toks entry (entries-met (entryName settings (a .sheet)) (a .opened .root) (root sheet map a w) entry i) c j
+    wanted-met : (shape : Shape) (a : Asked (SheetOf shape)) → ReadOf u (call .sheet) shape a → (c : Child) → TextWanted (call .settings) shape a c → Met toks c
+    wanted-met strings a w c (of-item b i e) = children-met toks (a .opened .root) (root (call .sheet) strings a w) c i
+    wanted-met map a w c (of-field b {e = entry} i h j t) = children-met toks entry (entries-met (entryName (call .settings) (a .sheet)) (a .opened .root) (root (call .sheet) map a w) entry i) c j
 
     -- where the plan stops
-    stopped : (shape : Shape) (a : Asked (SheetOf shape)) → ReadOf (uploaded body table final) sheet shape a → {r : Refusal} {out : Output} → Stops settings depth shape a r
-        → MayRefuse (uploaded body table final) (calling sheet settings depth) room shape r out
+    stopped : (shape : Shape) (a : Asked (SheetOf shape)) → ReadOf u (call .sheet) shape a → {r : Refusal} {out : Output} → Stops (call .settings) (call .depth) shape a r
+        → MayRefuse u call room shape out r
     stopped shape a w (root-differs d) = promise.root-name a w d
     stopped shape a w (ill-formed e) = not-ill-formed w e
     stopped shape a w (no-text c t e) = six shape a w c t (wanted-met shape a w c t) e
 
-    may-refuse : (shape : Shape) {r : Refusal} {out : Output} → Refused body table final sheet settings depth room shape r out → MayRefuse (uploaded body table final) (calling sheet settings depth) room shape r out
+    may-refuse : (shape : Shape) {r : Refusal} {out : Output} → Refused u call room shape r out → MayRefuse u call room shape out r
     may-refuse shape (early x) = before-reading shape x
     may-refuse shape (stops {a = a} w x) = stopped shape a (read-of shape a w) x
     may-refuse shape (full t f) = promise.no-room t f
     may-refuse shape (groups-full t u f) = groups-no-room t u f
 
-    all-handed : (shape : Shape) → AllHanded (uploaded body table final) sheet (output (read shape (uploaded body table final) (calling sheet settings depth) room))
+    all-handed : (shape : Shape) → AllHanded u (call .sheet) (output (read shape u call room))
     all-handed shape =
-        output-carried body table final sheet settings depth room shape (AllHanded (uploaded body table final) sheet) (none-handed (uploaded body table final) sheet) (λ a w.
+        output-carried u call room shape (AllHanded u (call .sheet)) (none-handed u (call .sheet)) (λ a w.
         let is = read-of shape a w in
-        made-kept (handed-kept (uploaded body table final) sheet room) (plan-made settings depth shape a (met-sources sheet shape a is) (shape-sources sheet shape a is) (may-stop settings depth shape a)))
+        made-kept (handed-kept u (call .sheet) room) (plan-made (call .settings) (call .depth) shape a (met-sources (call .sheet) shape a is) (shape-sources (call .sheet) shape a is) (may-stop (call .settings) (call .depth) shape a)))
 
-    keeps : (shape : Shape) → Promised (uploaded body table final) (calling sheet settings depth) room shape (read shape (uploaded body table final) (calling sheet settings depth) room)
-    keeps shape = go (read shape (uploaded body table final) (calling sheet settings depth) room) refl (all-handed shape)
+    keeps : (shape : Shape) → Promised u call room shape (read shape u call room)
+    keeps shape = go (read shape u call room) refl (all-handed shape)
       where
-        go : (x : Reading) → read shape (uploaded body table final) (calling sheet settings depth) room ≡ x → AllHanded (uploaded body table final) sheet (output x) → Promised (uploaded body table final) (calling sheet settings depth) room shape x
+        go : (x : Reading) → read shape u call room ≡ x → AllHanded u (call .sheet) (output x) → Promised u call room shape x
         go (finished out) e h = finishes (h .each)
-        go (refused r out) e h = promise.refuses (may-refuse shape (reading-refused body table final sheet settings depth room shape e)) (h .each)
+        go (refused r out) e h = promise.refuses (may-refuse shape (reading-refused u call room shape e)) (h .each)
 
 -- THE THEOREM, demand 3: of a body and table that passed, each reading, with any sheet, settings, depth, room and order of groups, keeps its promise
 pub demand-3 : Demand3
-demand-3 u p shape call room = keeps (u .body) (u .rows) (u .end) (drained-passes-is (u .body) (u .rows) (u .end) .1 p) (call .sheet) (call .settings) (call .depth) room shape
+demand-3 u p shape call room = keeps u (drained-passes-is (u .body) (u .rows) (u .end) .1 p) call room shape
 
 -- of what was written, however the reading ended
 pub promised-output : {u : Upload} {call : Call} {room : Room} {shape : Shape} {r : Reading} → Promised u call room shape r

@@ -23,7 +23,8 @@ use Rattle.readings.specs.Collection.{listReading, mapReading}
 use Rattle.readings.specs.Shape.{structure}
 use Rattle.readings.specs.Demand.{Handed}
 use Rattle.readings.proofs.Demand.Theorem.{demand-3, promised-output}
-use Rattle.readings.proofs.Laws.Order.{hasGroup, grouped, orderIn}
+use Rattle.readings.specs.Order.{hasGroup, grouped}
+use Rattle.readings.proofs.Laws.Order.{orderIn}
 use Rattle.readings.proofs.Examples.Asking.{settings, shape, enough}
 use Rattle.readings.proofs.All.{computed}
 

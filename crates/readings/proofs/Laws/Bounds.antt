@@ -20,12 +20,10 @@ use Rattle.document.proofs.Laws.Fuel.{dropping-shortens}
 use Rattle.document.proofs.Laws.Placed.{Placed}
 use Rattle.document.proofs.Laws.Inside.{piece-inside}
 use Rattle.document.proofs.Laws.Short.{ShortValue, values-short, ShortAttribute, root-attributes-short, ShortText, short-text, no-text, text-short, few-inside}
-use Rattle.sheet.specs.declared.ShapeDepth.{ShapeDepth}
-use Rattle.sheet.specs.Settings.{Settings}
 use Rattle.sheet.specs.Sheet.{mostMembers, Member, Structure, structureOf}
 use Rattle.sheet.specs.Names.{indexed, entryName}
 use Rattle.sheet.proofs.Limits.{few-members}
-use Rattle.readings.specs.Call.{uploaded, calling}
+use Rattle.readings.specs.Call.{Upload, Call}
 use Rattle.readings.specs.Output.{Entry, Room, Output, nothing, output}
 use Rattle.readings.specs.Plan.{performed}
 use Rattle.readings.specs.Opening.{Opened, Asked}
@@ -63,40 +61,40 @@ given-short : {most : ℕ} {a : Answer (List ℕ)} → ShortText most a → (b :
 given-short {most} (short-text h) b e = subst (FewBytes most) (gives-same e) h
 given-short no-text b e = given-refused (sym e)
 
-module _ {body table : List ℕ} {final : ℕ} {strict : Bool} {o : Opened} (w : OpenedAs body table final strict o) where
-  seen : OpenedIn body table final o
+module _ {u : Upload} {strict : Bool} {o : Opened} (w : OpenedAs u strict o) where
+  seen : OpenedIn u o
   seen = opened-in w
 
-  few-bytes : length body ≤ mostBytes
+  few-bytes : length (u .body) ≤ mostBytes
   few-bytes = w .rules .rules .fewBytes
 
-  values : Every (ShortValue (length body)) (toksOf body (o .seen .rows))
-  values = values-short body (o .seen .rows)
+  values : Every (ShortValue (length (u .body))) (toksOf (u .body) (o .seen .rows))
+  values = values-short (u .body) (o .seen .rows)
 
-  fits-sources : Sources (Placed (toksOf body (o .seen .rows))) (FewBytes mostBytes) Anything (PieceFits body) body o
+  fits-sources : Sources (Placed (toksOf (u .body) (o .seen .rows))) (FewBytes mostBytes) Anything (PieceFits (u .body)) (u .body) o
   fits-sources =
       placed-sources seen
-      (λ c h b e. omega (arith, few-bytes, given-short (text-short (length body) (o .seen .failure) c (rw (h .inner .at) at (every-dropped (c .inner .row) values))) b e))
+      (λ c h b e. omega (arith, few-bytes, given-short (text-short (length (u .body)) (o .seen .failure) c (rw (h .inner .at) at (every-dropped (c .inner .row) values))) b e))
       (λ c h r e. tt {0}) (λ c h. piece-inside (seen .view) c h .within)
 
   -- the rows bound the children
   few-rows : length (o .root .inner .rest) ≤ mostRows
   few-rows =
       let v = seen .view in
-      let taken : length (o .seen .rows) ≤ length (rowsOf table) = rw (v .front) (omega (arith, length-take (v .count) (rowsOf table))) in
-      omega (arith, seen .root .inner .rows, length-map (o .seen .rows) (tokOf body), taken, w .rules .rules .fewRows)
+      let taken : length (o .seen .rows) ≤ length (rowsOf (u .rows)) = rw (v .front) (omega (arith, length-take (v .count) (rowsOf (u .rows)))) in
+      omega (arith, seen .root .inner .rows, length-map (o .seen .rows) (tokOf (u .body)), taken, w .rules .rules .fewRows)
 
   few-kids : length (childrenOf (o .root)) ≤ mostRows
   unfolding childrenOf
   few-kids = omega (arith, few-inside dropping dropping-shortens (o .root), few-rows)
 
   fits-structure : (sheet : List ℕ) {s : Structure} {order : List ℕ} → structureOf sheet ≡ some s → FewGroups order
-      → StructureSources (λ (i : ℕ). i < mostMembers) (FewBytes mostBytes) (λ (i : ℕ). FewBytes (mostBytes + 17)) (PieceFits body) body s o order
+      → StructureSources (λ (i : ℕ). i < mostMembers) (FewBytes mostBytes) (λ (i : ℕ). FewBytes (mostBytes + 17)) (PieceFits (u .body)) (u .body) s o order
   fits-structure sheet {s} says g =
       record {
         member = λ m i. omega (arith, index-below zero (s .members) m i, few-members sheet s says);
         ordered = g .each;
-        attribute = λ key v e. omega (arith, few-bytes, attribute-short (root-attributes-short (length body) (toksOf body (o .seen .rows)) values (o .root) (w .root)) key v e);
+        attribute = λ key v e. omega (arith, few-bytes, attribute-short (root-attributes-short (length (u .body)) (toksOf (u .body) (o .seen .rows)) values (o .root) (w .root)) key v e);
         group = λ i. omega (arith, few-bytes, group-short (seen .view) s i (o .root) (seen .root));
         root = root-piece-inside seen .within;
       }
@@ -161,26 +159,26 @@ FewIn list = Unit {0}
 FewIn map = Unit {0}
 FewIn strings = Unit {0}
 
-module _ (body table : List ℕ) (final : ℕ) (sheet : List ℕ) (settings : Settings) (depth : ShapeDepth) where
+module _ (u : Upload) (call : Call) where
   -- so many entries at most, of a body that is opened
-  few-writes : (room : Room) (shape : Shape) → FewIn shape → (a : Asked (SheetOf shape)) → AskedAs body table final (sheetOf shape sheet) settings depth a
-      → mostMet settings shape a + mostGroups shape ≤ 8321
-  few-writes room (structure order) g a w = omega (arith, few-members sheet (a .sheet) (w .says), length-indexed zero (a .sheet .members), few-kids (w .begun), g .few)
+  few-writes : (room : Room) (shape : Shape) → FewIn shape → (a : Asked (SheetOf shape)) → AskedAs u (sheetOf shape (call .sheet)) (call .settings) (call .depth) a
+      → mostMet (call .settings) shape a + mostGroups shape ≤ 8321
+  few-writes room (structure order) g a w = omega (arith, few-members (call .sheet) (a .sheet) (w .says), length-indexed zero (a .sheet .members), few-kids (w .begun), g .few)
   few-writes room list g a w = omega (arith, few-kids (w .begun))
-  few-writes room map g a w = omega (arith, few-entries (w .begun) (entryName settings (a .sheet)))
+  few-writes room map g a w = omega (arith, few-entries (w .begun) (entryName (call .settings) (a .sheet)))
   few-writes room strings g a w = omega (arith, few-kids (w .begun))
 
-  fits-shape : (shape : Shape) → FewIn shape → (a : Asked (SheetOf shape)) → AskedAs body table final (sheetOf shape sheet) settings depth a
-      → ShapeSources (λ (i : ℕ). i < mostMembers) (FewBytes mostBytes) (λ (i : ℕ). FewBytes (mostBytes + 17)) (PieceFits body) body shape a
-  fits-shape (structure order) g a w = fits-structure (w .begun) sheet (w .says) g
+  fits-shape : (shape : Shape) → FewIn shape → (a : Asked (SheetOf shape)) → AskedAs u (sheetOf shape (call .sheet)) (call .settings) (call .depth) a
+      → ShapeSources (λ (i : ℕ). i < mostMembers) (FewBytes mostBytes) (λ (i : ℕ). FewBytes (mostBytes + 17)) (PieceFits (u .body)) (u .body) shape a
+  fits-shape (structure order) g a w = fits-structure (w .begun) (call .sheet) (w .says) g
   fits-shape list g a w = omega arith
   fits-shape map g a w = omega arith
   fits-shape strings g a w = omega arith
 
-pub reading-small : (shape : Shape) → FewIn shape → (body table : List ℕ) (final : ℕ) (sheet : List ℕ) (settings : Settings) (depth : ShapeDepth) (room : Room)
-    → Small body (output (read shape (uploaded body table final) (calling sheet settings depth) room))
-reading-small shape g body table final sheet settings depth room =
-    output-carried body table final sheet settings depth room shape (Small body) (none-small body) (λ a w.
-    steps-small body (mostMet settings shape a + mostGroups shape) (output (performed room (askedPlan shape body settings depth a))) (few-bytes (w .begun))
-    (few-writes body table final sheet settings depth room shape g a w)
-    (made-kept (fits-kept body room) (plan-made settings depth shape a (fits-sources (w .begun)) (fits-shape body table final sheet settings depth shape g a w) (may-stop settings depth shape a))))
+pub reading-small : (shape : Shape) → FewIn shape → (u : Upload) (call : Call) (room : Room)
+    → Small (u .body) (output (read shape u call room))
+reading-small shape g u call room =
+    output-carried u call room shape (Small (u .body)) (none-small (u .body)) (λ a w.
+    steps-small (u .body) (mostMet (call .settings) shape a + mostGroups shape) (output (performed room (askedPlan shape (u .body) (call .settings) (call .depth) a))) (few-bytes (w .begun))
+    (few-writes u call room shape g a w)
+    (made-kept (fits-kept (u .body) room) (plan-made (call .settings) (call .depth) shape a (fits-sources (w .begun)) (fits-shape u call shape g a w) (may-stop (call .settings) (call .depth) shape a))))

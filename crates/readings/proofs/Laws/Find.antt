@@ -17,7 +17,7 @@ use Rattle.document.specs.Scope.{Child, rootOf, childrenOf, Piece, pieceOf}
 use Rattle.document.proofs.Laws.Tags.{rows-tags}
 use Rattle.document.proofs.Laws.Placed.{Placed, children-placed, root-placed}
 use Rattle.document.proofs.Laws.Inside.{ViewIn, view-in, piece-inside}
-use Rattle.readings.specs.Call.{uploaded}
+use Rattle.readings.specs.Call.{Upload}
 use Rattle.readings.specs.Opening.{withTable, present}
 use Rattle.readings.specs.Find.{hasLocal, firstChild, wholeBody, findIn, find, partOf}
 use Rattle.readings.proofs.Conditions.Answers.{given-refused, gives-same}
@@ -62,36 +62,36 @@ module _ {body : List ℕ} {rows : List Row} {final : ℕ} {v : View} (w : ViewI
   root-found none e = not-found
   root-found (some c) e = in-found c (root-placed (toksOf body (v .rows)) (rows-tags (w .each)) c e)
 
-module _ (body table : List ℕ) (final : ℕ) (name : List ℕ) where
-  all-found : Found body (find (uploaded body table final) name)
+module _ (u : Upload) (name : List ℕ) where
+  all-found : Found (u .body) (find u name)
   unfolding find
-  all-found = go (decTable body table final)
+  all-found = go (decTable (u .body) (u .rows) (u .end))
     where
-      go : (d : Dec (TableRules body table final))
-          → Found body (withTable d (onward (present Refusal.NoSuchElement (rootOf (toksOf body (view false body (rowsOf table) final .rows)))) (findIn body (view false body (rowsOf table) final) name)))
-      go (yes t) = root-found (view-in t false) name (rootOf (toksOf body (view false body (rowsOf table) final .rows))) refl
+      go : (d : Dec (TableRules (u .body) (u .rows) (u .end)))
+          → Found (u .body) (withTable d (onward (present Refusal.NoSuchElement (rootOf (toksOf (u .body) (view false (u .body) (rowsOf (u .rows)) (u .end) .rows)))) (findIn (u .body) (view false (u .body) (rowsOf (u .rows)) (u .end)) name)))
+      go (yes t) = root-found (view-in t false) name (rootOf (toksOf (u .body) (view false (u .body) (rowsOf (u .rows)) (u .end) .rows))) refl
       go (no broken) = not-found
 
   -- THE LAW: what is found is a filled part of the body
-  pub find-part : (p : Piece) → find (uploaded body table final) name ≡ gives p → PartIn body p
+  pub find-part : (p : Piece) → find u name ≡ gives p → PartIn (u .body) p
   find-part p = go all-found
     where
-      go : {a : Answer Piece} → Found body a → a ≡ gives p → PartIn body p
-      go (found h) e = subst (PartIn body) (gives-same e) h
+      go : {a : Answer Piece} → Found (u .body) a → a ≡ gives p → PartIn (u .body) p
+      go (found h) e = subst (PartIn (u .body)) (gives-same e) h
       go not-found e = given-refused (sym e)
 
   -- "It answers a part of the body": always
-  pub part-within : partOf (find (uploaded body table final) name) .start + partOf (find (uploaded body table final) name) .len ≤ length body
+  pub part-within : partOf (find u name) .start + partOf (find u name) .len ≤ length (u .body)
   part-within = go all-found
     where
-      go : {a : Answer Piece} → Found body a → partOf a .start + partOf a .len ≤ length body
+      go : {a : Answer Piece} → Found (u .body) a → partOf a .start + partOf a .len ≤ length (u .body)
       go (found h) = h .within
       go not-found = omega arith
 
   -- "An empty part means 1 or 13"
-  pub empty-part : partOf (find (uploaded body table final) name) .len ≡ 0 → (r : Refusal) × FindRefused body table final name r
-  empty-part = go (find (uploaded body table final) name) refl all-found
+  pub empty-part : partOf (find u name) .len ≡ 0 → (r : Refusal) × FindRefused u name r
+  empty-part = go (find u name) refl all-found
     where
-      go : (a : Answer Piece) → find (uploaded body table final) name ≡ a → Found body a → partOf a .len ≡ 0 → (r : Refusal) × FindRefused body table final name r
+      go : (a : Answer Piece) → find u name ≡ a → Found (u .body) a → partOf a .len ≡ 0 → (r : Refusal) × FindRefused u name r
       go (gives p) e (found h) z = absurd (omega (arith, h .filled, z))
-      go (refuses r) e not-found z = (r, find-refusal body table final name r .0 e)
+      go (refuses r) e not-found z = (r, find-refusal u name r .0 e)

@@ -18,9 +18,7 @@ use Rattle.table.proofs.Moved.{last-taken}
 use Rattle.table.proofs.Element.{each-take, last-drop}
 use Rattle.document.proofs.Laws.Placed.{Placed}
 use Rattle.document.proofs.Laws.Inside.{StartRow, start-row, view-end-in, PieceIn, piece-to-in, piece-inside}
-use Rattle.sheet.specs.declared.ShapeDepth.{ShapeDepth}
-use Rattle.sheet.specs.Settings.{Settings}
-use Rattle.readings.specs.Call.{uploaded, calling}
+use Rattle.readings.specs.Call.{Upload, Call}
 use Rattle.readings.specs.Output.{Entry, pieceKind, Output, nothing, output, Room}
 use Rattle.readings.specs.Opening.{Opened, Asked}
 use Rattle.readings.specs.Structure.{rootPiece}
@@ -34,14 +32,14 @@ use Rattle.readings.proofs.Plans.Placed.{OpenedIn, opened-in, placed-so
 abbrev rootRows : Opened → List Row
 rootRows o = drop (o .root .start .row) (o .seen .rows)
 
-pub root-piece-inside : {body table : List ℕ} {final : ℕ} {o : Opened} → OpenedIn body table final o → PieceIn body (rootPiece body o)
+pub root-piece-inside : {u : Upload} {o : Opened} → OpenedIn u o → PieceIn (u .body) (rootPiece (u .body) o)
 unfolding rootPiece closing
-root-piece-inside {body} {o = o} w = piece-to-in (w .view) (o .root) (w .root) _ (end .0) (end .1)
+root-piece-inside {u} {o = o} w = piece-to-in (w .view) (o .root) (w .root) _ (end .0) (end .1)
   where
-    at : StartRow body 0 (o .seen .rows) (o .root .start .row)
+    at : StartRow (u .body) 0 (o .seen .rows) (o .root .start .row)
     at = start-row (w .view) (o .root) (w .root)
 
-    closes : (at .first .position ≤ lastPosition 0 (take (closing 0 (rootRows o)) (rootRows o))) × (lastPosition 0 (take (closing 0 (rootRows o)) (rootRows o)) ≤ length body)
+    closes : (at .first .position ≤ lastPosition 0 (take (closing 0 (rootRows o)) (rootRows o))) × (lastPosition 0 (take (closing 0 (rootRows o)) (rootRows o)) ≤ length (u .body))
     closes =
         let k = pick (eqb (openCount 0 (at .first)) 0) 0 (closing (openCount 0 (at .first)) (at .later)) in
         let far = last-drop (o .root .start .row) (w .view .each) 0 (omega arith) in
@@ -49,8 +47,8 @@ root-piece-inside {body} {o = o} w = piece-to-in (w .view) (o .root) (w .root) _
         rw (at .at) (last-taken (at .each) k, omega (arith, each-take k (at .each), far', w .view .last, w .view .ends, w .view .within))
 
     end : (at .first .position ≤ pick (isClosed 0 (rootRows o)) (lastPosition 0 (take (closing 0 (rootRows o)) (rootRows o))) (o .seen .ends))
-        × (pick (isClosed 0 (rootRows o)) (lastPosition 0 (take (closing 0 (rootRows o)) (rootRows o))) (o .seen .ends) ≤ length body)
-    end = pick-all (λ (e : ℕ). (at .first .position ≤ e) × (e ≤ length body)) (isClosed 0 (rootRows o)) _ _ closes (view-end-in (w .view) (o .root) (w .root))
+        × (pick (isClosed 0 (rootRows o)) (lastPosition 0 (take (closing 0 (rootRows o)) (rootRows o))) (o .seen .ends) ≤ length (u .body))
+    end = pick-all (λ (e : ℕ). (at .first .position ≤ e) × (e ≤ length (u .body))) (isClosed 0 (rootRows o)) _ _ closes (view-end-in (w .view) (o .root) (w .root))
 
 -- ---- entries
 -- an entry that is a piece
@@ -80,7 +78,7 @@ in-keeps : (body : List ℕ) (room : Room) → Keeps room (InSource body) (λ (n
 in-keeps body room =
     record { start = none-in body; idle = λ n m out h q. q; write = λ n out entry bytes s f q. record { each = every-snoc (q .each) (entry-in s (length (out .texts))) } }
 
-in-sources : {body table : List ℕ} {final : ℕ} {o : Opened} → OpenedIn body table final o → Sources (Placed (toksOf body (o .seen .rows))) Anything Anything (PieceIn body) body o
+in-sources : {u : Upload} {o : Opened} → OpenedIn u o → Sources (Placed (toksOf (u .body) (o .seen .rows))) Anything Anything (PieceIn (u .body)) (u .body) o
 in-sources w = placed-sources w (λ c h b e. tt {0}) (λ c h r e. tt {0}) (piece-inside (w .view))
 
 in-shape : {body : List ℕ} (shape : Shape) (a : Asked (SheetOf shape)) → PieceIn body (rootPiece body (a .opened)) → ShapeSources Anything Anything (λ (i : ℕ). Anything) (PieceIn body) body shape a
@@ -90,9 +88,9 @@ in-shape map a h = tt {0}
 in-shape strings a h = tt {0}
 
 -- ---- THE LAW: for every input and each reading
-pub entries-inside : (shape : Shape) (body table : List ℕ) (final : ℕ) (sheet : List ℕ) (settings : Settings) (depth : ShapeDepth) (room : Room)
-    → AllIn body (output (read shape (uploaded body table final) (calling sheet settings depth) room))
-entries-inside shape body table final sheet settings depth room =
-    output-carried body table final sheet settings depth room shape (AllIn body) (none-in body) (λ a w.
+pub entries-inside : (shape : Shape) (u : Upload) (call : Call) (room : Room)
+    → AllIn (u .body) (output (read shape u call room))
+entries-inside shape u call room =
+    output-carried u call room shape (AllIn (u .body)) (none-in (u .body)) (λ a w.
     let o = opened-in (w .begun) in
-    made-kept (in-keeps body room) (plan-made settings depth shape a (in-sources o) (in-shape shape a (root-piece-inside o)) (may-stop settings depth shape a)))
+    made-kept (in-keeps (u .body) room) (plan-made (call .settings) (call .depth) shape a (in-sources o) (in-shape shape a (root-piece-inside o)) (may-stop (call .settings) (call .depth) shape a)))

@@ -11,28 +11,12 @@ use Rattle.lists.specs.Tests.{pick}
 use Rattle.lists.proofs.Tests.{false-true}
 use Rattle.refusal.specs.Answer.{Answer, gives, refuses}
 use Rattle.document.specs.Scope.{Child, childrenOf}
-use Rattle.sheet.specs.declared.ShapeDepth.{ShapeDepth}
-use Rattle.sheet.specs.Settings.{Settings}
 use Rattle.sheet.specs.Sheet.{Member, Structure, structureOf}
 use Rattle.sheet.specs.Names.{childName, isNamed, Indexed, indexed, firstNamed, membersOf}
-use Rattle.readings.specs.Call.{uploaded, calling}
+use Rattle.readings.specs.Call.{Upload, Call}
 use Rattle.readings.specs.Opening.{Asked, asked}
+use Rattle.readings.specs.Order.{hasGroup, grouped, memberOrder}
 use Rattle.readings.specs.Structure.{flatMember, isIndex, inGroup, Once, once-none, once-more, GroupOrder, OrderFor}
-
--- a child is in the group of member i
-unfoldable pub hasGroup : Structure → ℕ → List Child → Bool
-hasGroup s i [] = false
-hasGroup s i (c ∷ rest) = pick (inGroup s i c) true (hasGroup s i rest)
-
--- the indexes of some members, those without a group left out
-unfoldable pub grouped : Structure → List Child → List Indexed → List ℕ
-unfolding hasGroup
-grouped s children [] = []
-grouped s children (m ∷ rest) = let more = grouped s children rest in pick (hasGroup s (m .index) children) (m .index ∷ more) more
-
--- the groups by rising member index
-abbrev pub memberOrder : Structure → List Child → List ℕ
-memberOrder s children = grouped s children (membersOf s)
 
 -- ---- each once
 module _ (s : Structure) (children : List Child) where
@@ -142,6 +126,6 @@ abbrev pub orderIn : Answer (Asked Structure) → List ℕ
 orderIn (gives a) = memberOrder (a .sheet) (childrenOf (a .opened .root))
 orderIn (refuses r) = []
 
-pub an-order : (body table : List ℕ) (final : ℕ) (sheet : List ℕ) (settings : Settings) (depth : ShapeDepth)
-    → OrderFor (uploaded body table final) (calling sheet settings depth) (orderIn (asked (uploaded body table final) (structureOf sheet) settings depth))
-an-order body table final sheet settings depth = record { is = λ a e. rw e (member-order (a .sheet) (childrenOf (a .opened .root))) }
+pub an-order : (u : Upload) (call : Call)
+    → OrderFor u call (orderIn (asked u (structureOf (call .sheet)) (call .settings) (call .depth)))
+an-order u call = record { is = λ a e. rw e (member-order (a .sheet) (childrenOf (a .opened .root))) }

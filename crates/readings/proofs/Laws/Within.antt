@@ -1,17 +1,13 @@
 -- No reading writes more than there is room for, on any input: "An entry and its text are written only if both fit".
-use Prim.Native.Nat.{ℕ}
-use mathlib.Core.List.{List}
 use mathlib.Core.Path.{subst⁻¹}
-use Rattle.sheet.specs.declared.ShapeDepth.{ShapeDepth}
-use Rattle.sheet.specs.Settings.{Settings}
-use Rattle.readings.specs.Call.{uploaded, calling}
+use Rattle.readings.specs.Call.{Upload, Call}
 use Rattle.readings.specs.Output.{Room, Reading, output}
 use Rattle.readings.specs.Shape.{Shape, planOf, read}
 use Rattle.readings.proofs.Plans.Perform.{Within, performed-ended, ended-whole-within}
 use Rattle.readings.proofs.Plans.Readings.{read-is}
 
-pub reading-within : (shape : Shape) (body table : List ℕ) (final : ℕ) (sheet : List ℕ) (settings : Settings) (depth : ShapeDepth) (room : Room)
-    → Within room (output (read shape (uploaded body table final) (calling sheet settings depth) room))
-reading-within shape body table final sheet settings depth room =
-    subst⁻¹ (λ (x : Reading). Within room (output x)) (read-is shape body table final sheet settings depth room)
-    (ended-whole-within (performed-ended room (planOf shape (uploaded body table final) (calling sheet settings depth))))
+pub reading-within : (shape : Shape) (u : Upload) (call : Call) (room : Room)
+    → Within room (output (read shape u call room))
+reading-within shape u call room =
+    subst⁻¹ (λ (x : Reading). Within room (output x)) (read-is shape u call room)
+    (ended-whole-within (performed-ended room (planOf shape u call)))

@@ -5,7 +5,7 @@ use mathlib.Core.Bool.{Bool, true, false}
 use mathlib.Core.List.{List, [], _∷_, List·Memᴰ, List·Memᴰ·head, List·Memᴰ·tail}
 use native.Mathlib.Omega.{arith}
 use lib.ListN.{length}
-use Rattle.lists.proofs.Tests.{pick-all, pick-cases}
+use Rattle.lists.proofs.Tests.{pick-cases}
 use Rattle.refusal.specs.declared.Refusal.{Refusal}
 use Rattle.readings.specs.Output.{Entry, Room, Output, nothing, Reading, finished, refused, output, fits, written}
 use Rattle.readings.specs.Plan.{Plan, put, end, stop, perform, followedBy, oneByOne, endTest, Whole, allOrNone, thenGroups, performed}

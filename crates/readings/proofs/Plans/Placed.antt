@@ -15,20 +15,21 @@ use Rattle.document.specs.Text.{textOf}
 use Rattle.document.proofs.Laws.Tags.{rows-tags}
 use Rattle.document.proofs.Laws.Placed.{Outside, Placed, Outward, level-in-placed, dropping-outward, afterChildren-outward, children-placed, root-placed}
 use Rattle.document.proofs.Laws.Inside.{ViewIn, view-in}
+use Rattle.readings.specs.Call.{Upload}
 use Rattle.readings.specs.Opening.{Opened}
 use Rattle.readings.specs.Collection.{isWanted, afterEntry, entriesOf}
 use Rattle.readings.proofs.Conditions.Opening.{OpenedAs}
 use Rattle.readings.proofs.Plans.Sources.{Sources}
 
 -- what is opened
-pub record OpenedIn (body table : List ℕ) (final : ℕ) (o : Opened) : Type 0 where
-  pub view : ViewIn body (rowsOf table) final (o .seen)
-  pub root : Placed (toksOf body (o .seen .rows)) (o .root)
+pub record OpenedIn (u : Upload) (o : Opened) : Type 0 where
+  pub view : ViewIn (u .body) (rowsOf (u .rows)) (u .end) (o .seen)
+  pub root : Placed (toksOf (u .body) (o .seen .rows)) (o .root)
 
-pub opened-in : {body table : List ℕ} {final : ℕ} {strict : Bool} {o : Opened} → OpenedAs body table final strict o → OpenedIn body table final o
-opened-in {body} {table} {final} {strict} {o} w = record { view = view; root = root-placed (toksOf body (o .seen .rows)) (rows-tags (view .each)) (o .root) (w .root) }
+pub opened-in : {u : Upload} {strict : Bool} {o : Opened} → OpenedAs u strict o → OpenedIn u o
+opened-in {u} {strict} {o} w = record { view = view; root = root-placed (toksOf (u .body) (o .seen .rows)) (rows-tags (view .each)) (o .root) (w .root) }
   where
-    view : ViewIn body (rowsOf table) final (o .seen)
+    view : ViewIn (u .body) (rowsOf (u .rows)) (u .end) (o .seen)
     view = rw (w .seen) (view-in (w .rules) strict)
 
 -- the children of a map are met, whether their fields are read or not
@@ -41,10 +42,10 @@ unfolding entriesOf
 entries-placed all name c p = every-in (level-in-placed all (afterEntry name) (after-entry-outward name) c (p .inner))
 
 -- what there is to be written, of such children
-pub placed-sources : {body table : List ℕ} {final : ℕ} {o : Opened} {T : List ℕ → Type 0} {F : Refusal → Type 0} {P : Piece → Type 0} → OpenedIn body table final o
-    → ((c : Child) → Placed (toksOf body (o .seen .rows)) c → (b : List ℕ) → textOf (o .seen .failure) c ≡ gives b → T b)
-    → ((c : Child) → Placed (toksOf body (o .seen .rows)) c → (r : Refusal) → textOf (o .seen .failure) c ≡ refuses r → F r)
-    → ((c : Child) → Placed (toksOf body (o .seen .rows)) c → P (pieceOf body (o .seen) c)) → Sources (Placed (toksOf body (o .seen .rows))) T F P body o
-placed-sources {body} {o = o} w text failed piece =
-    let all = toksOf body (o .seen .rows) in
+pub placed-sources : {u : Upload} {o : Opened} {T : List ℕ → Type 0} {F : Refusal → Type 0} {P : Piece → Type 0} → OpenedIn u o
+    → ((c : Child) → Placed (toksOf (u .body) (o .seen .rows)) c → (b : List ℕ) → textOf (o .seen .failure) c ≡ gives b → T b)
+    → ((c : Child) → Placed (toksOf (u .body) (o .seen .rows)) c → (r : Refusal) → textOf (o .seen .failure) c ≡ refuses r → F r)
+    → ((c : Child) → Placed (toksOf (u .body) (o .seen .rows)) c → P (pieceOf (u .body) (o .seen) c)) → Sources (Placed (toksOf (u .body) (o .seen .rows))) T F P (u .body) o
+placed-sources {u} {o = o} w text failed piece =
+    let all = toksOf (u .body) (o .seen .rows) in
     record { root = w .root; children = children-placed all; entries = entries-placed all; text = text; failed = failed; piece = piece }

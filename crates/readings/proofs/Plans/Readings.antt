@@ -1,8 +1,8 @@
 -- THE ONE INDUCTION over the readings: each of the four, on every input, is a plan made of what there is to be written, which stops where it may.
-use Prim.Native.Nat.{ℕ, suc, _+_}
+use Prim.Native.Nat.{ℕ, _+_}
 use mathlib.Core.Path.{_≡_, refl, subst⁻¹}
 use mathlib.Core.Bool.{Bool, true, false}
-use mathlib.Core.List.{List, [], List·Memᴰ}
+use mathlib.Core.List.{List, List·Memᴰ}
 use mathlib.Core.Option.{Option, none, some}
 use native.Mathlib.Omega.{arith}
 use lib.ListN.{length}
@@ -16,12 +16,12 @@ use Rattle.document.specs.Text.{textOf}
 use Rattle.sheet.specs.declared.ShapeDepth.{ShapeDepth}
 use Rattle.sheet.specs.Settings.{Settings, testsRootName}
 use Rattle.sheet.specs.Names.{rootName, attributeName, Indexed, membersOf, resolve, itemName, entryName}
-use Rattle.readings.specs.Call.{uploaded, calling}
+use Rattle.readings.specs.Call.{Upload, Call}
 use Rattle.readings.specs.Output.{Room, Output, nothing, Reading, finished, refused, output}
 use Rattle.readings.specs.Plan.{Plan, stop, perform, oneByOne, Whole, withoutGroups, thenGroups, performed}
-use Rattle.readings.specs.Opening.{Opened, Asked, asking}
+use Rattle.readings.specs.Opening.{Opened, Asked, asked, asking}
 use Rattle.readings.specs.Structure.{attributeOf, foundPlan, attributePlan, scalarPlan, memberPlan, childPlan, groupPlan, membersPlan, rootPiece, rootPlan, unwrappedPlan, withRootName, openedPlan, structurePlan, structureReading}
-use Rattle.readings.specs.Collection.{isWanted, itemPlan, itemsPlan, listPlan, listReading, textPlan, stringPlan, stringsPlan, stringListPlan, stringListReading, MapValue, Fields, noFields, readFields, fieldsPlan, readPlan, entryPlan, entriesOf, entriesPlan, mapPlan, mapReading}
+use Rattle.readings.specs.Collection.{isWanted, itemPlan, itemsPlan, listPlan, listReading, textPlan, stringPlan, stringsPlan, stringListPlan, stringListReading, MapValue, Fields, noFields, fieldsPlan, readPlan, entryPlan, entriesOf, entriesPlan, mapPlan, mapReading}
 use Rattle.readings.specs.Shape.{Shape, structure, list, map, strings, SheetOf, sheetOf, planOf, read}
 use Rattle.readings.specs.Demand.{RootDiffers, differs, TextWanted, of-item, of-field}
 use Rattle.readings.proofs.Laws.Order.{named-in}
@@ -37,13 +37,13 @@ unfolding perform
 alone room (finished out) = refl
 alone room (refused r out) = refl
 
-pub read-is : (shape : Shape) (body table : List ℕ) (final : ℕ) (sheet : List ℕ) (settings : Settings) (depth : ShapeDepth) (room : Room)
-    → read shape (uploaded body table final) (calling sheet settings depth) room ≡ performed room (planOf shape (uploaded body table final) (calling sheet settings depth))
+pub read-is : (shape : Shape) (u : Upload) (call : Call) (room : Room)
+    → read shape u call room ≡ performed room (planOf shape u call)
 unfolding structureReading listReading mapReading stringListReading performed
-read-is (structure order) body table final sheet settings depth room = refl
-read-is list body table final sheet settings depth room = alone room _
-read-is map body table final sheet settings depth room = alone room _
-read-is strings body table final sheet settings depth room = alone room _
+read-is (structure order) u call room = refl
+read-is list u call room = alone room _
+read-is map u call room = alone room _
+read-is strings u call room = alone room _
 
 -- ---- what is planned once 1, 2, 3 and 4 are past
 abbrev pub askedPlan : (shape : Shape) → List ℕ → Settings → ShapeDepth → Asked (SheetOf shape) → Whole
@@ -52,53 +52,42 @@ askedPlan list body settings depth a = withoutGroups (itemsPlan body settings a)
 askedPlan map body settings depth a = withoutGroups (entriesPlan body settings a)
 askedPlan strings body settings depth a = withoutGroups (stringsPlan settings a)
 
-module _ (body table : List ℕ) (final : ℕ) (sheet : List ℕ) (settings : Settings) (depth : ShapeDepth) (shape : Shape) where
+module _ (u : Upload) (call : Call) (shape : Shape) where
   -- a plan stops before it reads anything, or it goes on with what was asked
   pub data PlanIs : Whole → Type 0 where
-    before : {r : Refusal} → AskedRefused body table final (sheetOf shape sheet) settings depth r → PlanIs (withoutGroups (stop r))
-    while : {a : Asked (SheetOf shape)} → AskedAs body table final (sheetOf shape sheet) settings depth a → PlanIs (askedPlan shape body settings depth a)
+    before : {r : Refusal} → AskedRefused u (sheetOf shape (call .sheet)) (call .settings) (call .depth) r → PlanIs (withoutGroups (stop r))
+    while : {a : Asked (SheetOf shape)} → AskedAs u (sheetOf shape (call .sheet)) (call .settings) (call .depth) a → PlanIs (askedPlan shape (u .body) (call .settings) (call .depth) a)
 
-pub plan-is : (body table : List ℕ) (final : ℕ) (sheet : List ℕ) (settings : Settings) (depth : ShapeDepth) (shape : Shape)
-    → PlanIs body table final sheet settings depth shape (planOf shape (uploaded body table final) (calling sheet settings depth))
+-- without groups, asked or refused
+alone-asked : {A : Type 0} (g : Answer A) (f : A → Plan) → withoutGroups (asking g f stop) ≡ asking g (λ (a : A). withoutGroups (f a)) (λ (r : Refusal). withoutGroups (stop r))
+alone-asked (gives a) f = refl
+alone-asked (refuses r) f = refl
+
+plan-as : (u : Upload) (call : Call) (shape : Shape) → planOf shape u call
+    ≡ asking (asked u (sheetOf shape (call .sheet)) (call .settings) (call .depth)) (askedPlan shape (u .body) (call .settings) (call .depth)) (λ (r : Refusal). withoutGroups (stop r))
 unfolding structurePlan listPlan mapPlan stringListPlan
-plan-is body table final sheet settings depth (structure order) = go (asked-is body table final (sheetOf (structure order) sheet) settings depth)
+plan-as u call (structure order) = refl
+plan-as u call list = alone-asked (asked u (sheetOf list (call .sheet)) (call .settings) (call .depth)) (itemsPlan (u .body) (call .settings))
+plan-as u call map = alone-asked (asked u (sheetOf map (call .sheet)) (call .settings) (call .depth)) (entriesPlan (u .body) (call .settings))
+plan-as u call strings = alone-asked (asked u (sheetOf strings (call .sheet)) (call .settings) (call .depth)) (stringsPlan (call .settings))
+
+pub plan-is : (u : Upload) (call : Call) (shape : Shape) → PlanIs u call shape (planOf shape u call)
+plan-is u call shape = subst⁻¹ (PlanIs u call shape) (plan-as u call shape) (go (asked-is u (sheetOf shape (call .sheet)) (call .settings) (call .depth)))
   where
-    go : {g : Answer (Asked (SheetOf (structure order)))}
-        → Is (AskedAs body table final (sheetOf (structure order) sheet) settings depth) (AskedRefused body table final (sheetOf (structure order) sheet) settings depth) g
-        → PlanIs body table final sheet settings depth (structure order) (asking g (openedPlan body settings depth order) (λ (r : Refusal). withoutGroups (stop r)))
-    go (is-given w) = while w
-    go (is-refused w) = before w
-plan-is body table final sheet settings depth list = go (asked-is body table final (sheetOf list sheet) settings depth)
-  where
-    go : {g : Answer (Asked (SheetOf list))}
-        → Is (AskedAs body table final (sheetOf list sheet) settings depth) (AskedRefused body table final (sheetOf list sheet) settings depth) g
-        → PlanIs body table final sheet settings depth list (withoutGroups (asking g (itemsPlan body settings) stop))
-    go (is-given w) = while w
-    go (is-refused w) = before w
-plan-is body table final sheet settings depth map = go (asked-is body table final (sheetOf map sheet) settings depth)
-  where
-    go : {g : Answer (Asked (SheetOf map))}
-        → Is (AskedAs body table final (sheetOf map sheet) settings depth) (AskedRefused body table final (sheetOf map sheet) settings depth) g
-        → PlanIs body table final sheet settings depth map (withoutGroups (asking g (entriesPlan body settings) stop))
-    go (is-given w) = while w
-    go (is-refused w) = before w
-plan-is body table final sheet settings depth strings = go (asked-is body table final (sheetOf strings sheet) settings depth)
-  where
-    go : {g : Answer (Asked (SheetOf strings))}
-        → Is (AskedAs body table final (sheetOf strings sheet) settings depth) (AskedRefused body table final (sheetOf strings sheet) settings depth) g
-        → PlanIs body table final sheet settings depth strings (withoutGroups (asking g (stringsPlan settings) stop))
+    go : {g : Answer (Asked (SheetOf shape))} → Is (AskedAs u (sheetOf shape (call .sheet)) (call .settings) (call .depth)) (AskedRefused u (sheetOf shape (call .sheet)) (call .settings) (call .depth)) g
+        → PlanIs u call shape (asking g (askedPlan shape (u .body) (call .settings) (call .depth)) (λ (r : Refusal). withoutGroups (stop r)))
     go (is-given w) = while w
     go (is-refused w) = before w
 
 -- so what is said of nothing, and of the output of each such plan, is said of the output of the reading
-pub output-carried : (body table : List ℕ) (final : ℕ) (sheet : List ℕ) (settings : Settings) (depth : ShapeDepth) (room : Room) (shape : Shape) (R : Output → Type 0) → R nothing
-    → ((a : Asked (SheetOf shape)) → AskedAs body table final (sheetOf shape sheet) settings depth a → R (output (performed room (askedPlan shape body settings depth a))))
-    → R (output (read shape (uploaded body table final) (calling sheet settings depth) room))
+pub output-carried : (u : Upload) (call : Call) (room : Room) (shape : Shape) (R : Output → Type 0) → R nothing
+    → ((a : Asked (SheetOf shape)) → AskedAs u (sheetOf shape (call .sheet)) (call .settings) (call .depth) a → R (output (performed room (askedPlan shape (u .body) (call .settings) (call .depth) a))))
+    → R (output (read shape u call room))
 unfolding performed perform
-output-carried body table final sheet settings depth room shape R base f =
-    subst⁻¹ (λ (x : Reading). R (output x)) (read-is shape body table final sheet settings depth room) (go (plan-is body table final sheet settings depth shape))
+output-carried u call room shape R base f =
+    subst⁻¹ (λ (x : Reading). R (output x)) (read-is shape u call room) (go (plan-is u call shape))
   where
-    go : {w : Whole} → PlanIs body table final sheet settings depth shape w → R (output (performed room w))
+    go : {w : Whole} → PlanIs u call shape w → R (output (performed room w))
     go (before r) = base
     go (while {a = a} w) = f a w
 
