@@ -3,8 +3,8 @@
 
 A file of crates/*/specs fails where it has a `ruleset`, an axiom or a law. A law is a declaration with a body that is neither
 `abbrev` nor `unfoldable`, so that only its type says anything; or one that is, and whose type ends in an equation, an order, `⊥`, or
-a record or data type of specs/ that speaks of values, as `Passed body table final` does. A file of specs/ or src/ fails where it
-takes a name from a proofs/, so that all that a contract says is said in specs/; and where a line is longer than 140 characters.
+a type of specs/ that speaks of values, as `Passed body table final` does. A file of specs/ or src/ fails where it takes a name from
+a proofs/, so that all that a contract says is said in specs/; and where a line is longer than 140 characters.
 Files are read as `rt fmt` writes them: a declaration begins at column 0, and its continuation does not.
 Each file counts once; the last line is `N passed, M failed`. Before it: how many lines each crate asks a reader to believe."""
 
@@ -23,6 +23,7 @@ SIGNATURE = re.compile(r"((?:unfoldable |abbrev |pub )*)([^\s(){};,@\".]+)(?: \{
 PROOFS = re.compile(r"^(?!\s*(?:--|//)).*Rattle·\w+(?:·proofs)?\.proofs\b")
 PROPOSITION = re.compile(r"(^| )(≡|≢|≤|<|≥|>|↔|⊥)( |$)")
 TYPE = re.compile(r"^ *(?:pub )?(?:record|data) (\S+)([^\n]*(?:\n {4,}[^\n]*)*?) where$", re.M)
+NAMED = re.compile(r"^ *(?:unfoldable |abbrev |pub )+(\S+)( : [^\n]*(?:\n {4,}→[^\n]*)*) → Type \d+$", re.M)
 
 
 def result(kind):
@@ -35,7 +36,7 @@ def result(kind):
 
 def speaking(text):
     """the names of types with a parameter or an index that is no type itself"""
-    for name, head in TYPE.findall(text):
+    for name, head in TYPE.findall(text) + NAMED.findall(text):
         if re.search(r": (?!Type\b)", head):
             yield name
 
@@ -55,8 +56,8 @@ def laws(lines, first, about, marks=""):
         elif signature and not re.search("unfoldable|abbrev", signature.group(1) + marks):
             yield first + k, "a law: " + signature.group(2)
         elif signature:
-            ends = result(signature.group(3))
-            if PROPOSITION.search(ends) or " " in ends and ends.split()[0] in about:
+            ends = [part.strip() for part in result(signature.group(3)).split("×")]
+            if any(PROPOSITION.search(part) or " " in part and part.split()[0] in about for part in ends):
                 yield first + k, "a law, though it unfolds: " + signature.group(2)
 
 
