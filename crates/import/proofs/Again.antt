@@ -113,8 +113,8 @@ module _ {shape : Shape} {u : Upload} {entries : List ℕ} {call : Call} {room t
   pub entry-other : (getD entries (k * 6) 0 ≡ 2 → ⊥) → RereadOne shape u entries call room texts numbers numbers k
   entry-other f = left (λ a b c. f c)
 
-pub entry-piece : {u : Upload} {entries : List ℕ} (k : ℕ) → demand.PieceAt u entries (k * 6) → getD entries (k * 6) 0 ≡ 2
-    → ElementPiece (u .body) (u .rows) (getD entries (k * 6 + 4) 0) (getD entries (k * 6 + 5) 0)
+pub entry-piece : {body t : List ℕ} {end : ℕ} {entries : List ℕ} (k : ℕ) → demand.PieceAt (uploaded body t end) entries (k * 6) → getD entries (k * 6) 0 ≡ 2
+    → ElementPiece body t (getD entries (k * 6 + 4) 0) (getD entries (k * 6 + 5) 0)
 entry-piece k p q = p .is q
 
 pub entry-read : {shape : Shape} {u : Upload} (entries : List ℕ) {call : Call} {room texts r : ℕ} (k : ℕ) (numbers : List ℕ)

@@ -1,5 +1,5 @@
 -- A drain that answers 0 passed; the rest is the reading's promise and that of each piece.
-use Rattle.import.proofs.Again.{import-laws, import-pieces}
+use Rattle.import.proofs.Again.{import-laws, import-passed, import-pieces}
 use borrow.Author.Needs.{needs}
 use Rattle.import.proofs.pieces.import.Statement.{statement}
 use Rattle.import.proofs.pieces.import.Tie as tie
@@ -15,7 +15,7 @@ read-requires c κs = search needs
 
 read-pieces-requires : tie.Need-read-pieces-requires
 read-pieces-requires c κs = (
-  search import-laws,
+  import-passed _ _ _ (c .before .before .before .before .before .before .before .before .before .before .before .before .before .before .falzheod-drain .ensures) (search needs),
   import-pieces (c .before .before .before .before .before .before .before .before .read .ensures .1) (c .before .before .before .before .before .before .before .before .before .before .before .before .before .before .falzheod-drain .ensures) (search needs),
 )
 
