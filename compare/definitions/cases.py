@@ -393,8 +393,32 @@ def broken_tables(rng, tables):
                 yield Case("targeted", "table", kind, body, sheet, rng.randrange(8), rng.choice([0, 128]), 128, table=table)
 
 
+def told_apart(rng):
+    """One case each for what a wrong model could do and still pass all others."""
+    # a value's references before the attribute's repetition
+    yield Case("targeted", "told apart", "drain", b"<r x='1' x='&zz;'/>")
+    # a string's 10 before the 9 after the rest
+    yield Case("targeted", "told apart", "string", b"<r>abc<!--c--></b>", b"", 1, 0, room=(0, 1))
+    # a map entry's 10 before the failure of a later field
+    for later in (b"<key><x/></key>", b"<value><x/></value>", b"<value>&zz;</value>"):
+        body = b"<r><entry><key>ab</key><value>cd</value>" + later + b"</entry></r>"
+        for room in ((0, 100), (9, 1), (9, 3)):
+            yield Case("targeted", "told apart", "map", body, MAP, 0, 0, room=room)
+    # a pattern split at its last colon: names that no tokenizer makes, `p` and `q:a`, and `p:q` and `a`
+    body = b"<p:q:a/>"
+    for prefix, local in (((1, 1), (3, 3)), ((1, 3), (5, 1))):
+        table = ([1, *prefix, *local, 0, 0, 6, 5, 0, 0, 0, 0, 0, 0, 8], 8)
+        for pattern in (b"p:q:a", b"q:a", b"a"):
+            yield Case("targeted", "told apart", "struct", body, structure([], root=pattern), 2, 0, table=table)
+    # an attribute member without a name asks for the empty name, and there is one
+    table = ([1, 0, 0, 1, 1, 0, 0, 2, 2, 3, 1, 5, 0, 7, 1, 9, 5, 0, 0, 0, 0, 0, 0, 11], 11)
+    yield Case("targeted", "told apart", "struct", b"<r a:='1'/>", structure([fields(ATTRIBUTE, [])]), 0, 0, table=table)
+    # find answers the whole body, not what stands before the final position
+    yield Case("targeted", "told apart", "find", b"<r/> <!--c-->", b"r", table=([1, 0, 0, 1, 1, 0, 0, 2, 5, 0, 0, 0, 0, 0, 0, 4], 4))
+
+
 def targeted(seed_rng, tables):
-    for family in (chosen, names, members, broken_sheets, order, texts, rooms, unwrapped, defects):
+    for family in (chosen, names, members, broken_sheets, order, texts, rooms, unwrapped, defects, told_apart):
         yield from family(seed_rng)
     yield from broken_tables(seed_rng, tables)
     deep = [(b"<a>" * levels) + (b"</a>" * levels) for levels in (256, 257)] + [b"<a>" * 256 + b"<b/>", b"<a>" * 255 + b"<b/>" + b"</a>" * 255]
