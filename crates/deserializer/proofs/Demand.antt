@@ -20,7 +20,7 @@ use Rattle.output.specs.Held.{roomOf}
 use Rattle.output.specs.Call.{ReadingCall}
 use Rattle.deserializer.specs.declared.Shape.{Shape}
 use Rattle.deserializer.specs.Call.{ShapeCall, SheetCall}
-use Rattle.deserializer.specs.Demand.{MayAnswer, finished, refused, PieceAt, shapeAt, Demanded}
+use Rattle.deserializer.specs.Demand.{MayAnswer, finished, refused, PieceAt, shapeAt, Ordered, Demanded}
 
 -- ---- the numbers of the k-th entry stand at k * 6
 first-piece : {u : Upload} {sheet texts : List ℕ} (y : Entry) (s : List ℕ) → Handed u sheet texts y → PieceAt u (sixNumbers y ++ s) 0
@@ -58,13 +58,14 @@ may-answer (refuses m a) = refused m
 
 -- ---- from the promise of a call
 module _ {u : Upload} {call : Call} {e t e′ t′ : List ℕ} {n m r : ℕ} where
-  keeps : (shape : Shape) (order : List ℕ) → ReadingCall (read (shapeAt shape order) u call) e t e′ t′ n m r
+  keeps : (shape : Shape) (order : List ℕ) → Ordered shape u call order → ReadingCall (read (shapeAt shape order) u call) e t e′ t′ n m r
       → Demanded shape u call e t e′ n r
   unfolding overwritten
-  keeps shape order c =
+  keeps shape order ordered c =
       record {
         kept = λ p. record {
           order = order;
+          ordered = ordered;
           number = rw (c .number) (may-answer (holds p order));
           pieces = rw (c .entries, c .count)
               (record { each = pieces-of (entries order) (promised-output (holds p order)) (drop (length (numbersOf (entries order))) e) });
@@ -84,7 +85,7 @@ module _ {u : Upload} {call : Call} {e t e′ t′ : List ℕ} {n m r : ℕ} whe
   demanded {shape} c = go shape (c .is)
     where
       go : (shape : Shape) → ShapeCall shape u call e t e′ t′ n m r → Demanded shape u call e t e′ n r
-      go Shape.Struct c = keeps Shape.Struct (c .order) (c .reads)
-      go Shape.List c = keeps Shape.List [] c
-      go Shape.Map c = keeps Shape.Map [] c
-      go Shape.StringList c = keeps Shape.StringList [] c
+      go Shape.Struct c = keeps Shape.Struct (c .order) (c .ordered) (c .reads)
+      go Shape.List c = keeps Shape.List [] (tt {0}) c
+      go Shape.Map c = keeps Shape.Map [] (tt {0}) c
+      go Shape.StringList c = keeps Shape.StringList [] (tt {0}) c

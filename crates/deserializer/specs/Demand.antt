@@ -11,6 +11,7 @@ use Rattle.xml.specs.Drain.{drained}
 use Rattle.xml.specs.Piece.{ElementPiece}
 use Rattle.readings.specs.Call.{Upload, Call}
 use Rattle.readings.specs.Output.{pieceKind, Room, Output}
+use Rattle.readings.specs.Structure.{OrderFor}
 use Rattle.readings.specs.Shape as readings
 use Rattle.readings.specs.Shape.{read}
 use Rattle.readings.specs.Demand.{MayRefuse, Promised}
@@ -33,6 +34,13 @@ shapeAt Shape.List order = readings.list
 shapeAt Shape.Map order = readings.map
 shapeAt Shape.StringList order = readings.strings
 
+-- the order of a structure's groups is one of its own; the others have none
+abbrev pub Ordered : Shape → Upload → Call → List ℕ → Type 0
+Ordered Shape.Struct u call order = OrderFor u call order
+Ordered Shape.List u call order = Unit {0}
+Ordered Shape.Map u call order = Unit {0}
+Ordered Shape.StringList u call order = Unit {0}
+
 -- "is refused only for a broken sheet, the depth limit, no root, the root's name, an element where text is wanted, or no room": the number
 -- that was answered
 pub data MayAnswer (shape : readings.Shape) (u : Upload) (call : Call) (room : Room) : ℕ → Type 0 where
@@ -43,6 +51,7 @@ pub data MayAnswer (shape : readings.Shape) (u : Upload) (call : Call) (room : R
 -- order of groups, the whole of demand 3 (readings/specs/Demand.antt)
 pub record Kept (shape : Shape) (u : Upload) (call : Call) (e t e′ : List ℕ) (n r : ℕ) : Type 0 where
   pub order : List ℕ
+  pub ordered : Ordered shape u call order
   pub number : MayAnswer (shapeAt shape order) u call (roomOf e t) r
   pub pieces : PiecesIn u e′ n
   pub promised : (order : List ℕ) → Promised u call (roomOf e t) (shapeAt shape order) (read (shapeAt shape order) u call (roomOf e t))
