@@ -273,7 +273,7 @@ fn read_entered(
 }
 
 // A reading by its shape's number: it enters by the depth guard and leaves by it, whatever came of it.
-pub fn read_sheet(
+fn read_sheet(
     kind: u32,
     body: &[u8],
     rows: &[u32],

@@ -90,6 +90,7 @@ module _ {t : List ℕ} {place : ℕ} {old new : List ℕ} {n : ℕ} (o : OwnRow
             textRoom = refl;
             reads = subst (λ (u : Upload). SheetCall shape u call e tx e′ tx′ c l r) is reads;
             order = kept .order;
+            ordered = kept .ordered;
             may = kept .number;
           }
 
@@ -102,7 +103,7 @@ pub ruleset piece-laws = (needs, own-product, own-end, piece-inside, reread)
 module _ {shape : Shape} {u : Upload} {entries : List ℕ} {call : Call} {room texts k : ℕ} (numbers : List ℕ) where
   left : (k < length entries / 6 → k < length numbers → getD entries (k * 6) 0 ≡ pieceKind → ⊥)
       → RereadOne shape u entries call room texts numbers numbers k
-  left f = record { here = record { is = λ a b c. absurd (f a b c) }; others = λ j h. refl; long = refl }
+  left f = record { here = record { is = λ a b c. absurd (f a b c) }; others = λ j h. refl; idle = λ h. refl; long = refl }
 
   pub entry-out : length entries / 6 ≤ k → RereadOne shape u entries call room texts numbers numbers k
   entry-out h = left (λ a b c. omega arith)
@@ -118,35 +119,40 @@ pub entry-piece : {body t : List ℕ} {end : ℕ} {entries : List ℕ} (k : ℕ)
 entry-piece k p q = p .is q
 
 pub entry-read : {shape : Shape} {u : Upload} (entries : List ℕ) {call : Call} {room texts r : ℕ} (k : ℕ) (numbers : List ℕ)
-    → Reread shape u (getD entries (k * 6 + 4) 0) (getD entries (k * 6 + 5) 0) call room texts r → k < length numbers
+    → Reread shape u (getD entries (k * 6 + 4) 0) (getD entries (k * 6 + 5) 0) call room texts r → getD entries (k * 6) 0 ≡ 2 → k < length numbers
     → RereadOne shape u entries call room texts numbers (set numbers k r) k
-entry-read entries {r = r} k numbers x h =
+entry-read entries {r = r} k numbers x q h =
     record {
       here = record { is = λ _ _ _. rw (getD-set-same numbers k r 0 h) x };
       others = λ j f. getD-set-other numbers k j r 0 f;
+      idle = λ f. absurd (f q);
       long = length-set numbers k r;
     }
 
 pub ruleset entry-laws = (needs, entry-out, entry-unnumbered, entry-other, entry-piece, entry-read)
 
 -- ---- one after another: the first k are done
-pub record Again (shape : Shape) (u : Upload) (entries : List ℕ) (call : Call) (room texts size : ℕ) (en tx numbers : List ℕ) (k : ℕ) : Type 0 where
-  pub done : EachReread shape u entries k call room texts numbers
+pub record Again (shape : Shape) (u : Upload) (entries : List ℕ) (call : Call) (room texts n : ℕ) (before en tx numbers : List ℕ) (k : ℕ)
+    : Type 0 where
+  pub few : k ≤ n
+  pub done : EachReread shape u entries k call room texts before numbers
   pub entryRoom : length en ≡ room
   pub textRoom : length tx ≡ texts
-  pub long : length numbers ≡ size
+  pub long : length numbers ≡ length before
 
-pub again-start : (shape : Shape) (u : Upload) (entries : List ℕ) (call : Call) (en tx numbers : List ℕ)
-    → Again shape u entries call (length en) (length tx) (length numbers) en tx numbers 0
-again-start shape u entries call en tx numbers = record { done = record { each = λ k h. absurd (omega arith) }; entryRoom = refl; textRoom = refl; long = refl }
+pub again-start : (shape : Shape) (u : Upload) (entries : List ℕ) (call : Call) (n : ℕ) (en tx numbers : List ℕ)
+    → Again shape u entries call (length en) (length tx) n numbers en tx numbers 0
+again-start shape u entries call n en tx numbers =
+    record { few = omega arith; done = record { each = λ k h. absurd (omega arith); others = λ k h. refl }; entryRoom = refl; textRoom = refl; long = refl }
 
-module _ {shape : Shape} {u : Upload} {entries : List ℕ} {call : Call} {room texts size : ℕ} {en tx numbers : List ℕ} {k : ℕ}
-    (a : Again shape u entries call room texts size en tx numbers k) where
+module _ {shape : Shape} {u : Upload} {entries : List ℕ} {call : Call} {room texts n : ℕ} {before en tx numbers : List ℕ} {k : ℕ}
+    (a : Again shape u entries call room texts n before en tx numbers k) where
   pub again-more : {en′ tx′ numbers′ : List ℕ} → RereadOne shape u entries call (length en) (length tx) numbers numbers′ k → length en′ ≡ length en
-      → length tx′ ≡ length tx → Again shape u entries call room texts size en′ tx′ numbers′ (k + 1)
-  again-more {en′} {tx′} {numbers′} o p q =
+      → length tx′ ≡ length tx → k < n → Again shape u entries call room texts n before en′ tx′ numbers′ (k + 1)
+  again-more {en′} {tx′} {numbers′} o p q l =
       record {
-        done = record { each = λ j h. go j h (eqb j k) refl };
+        few = omega arith;
+        done = record { each = λ j h. go j h (eqb j k) refl; others = λ j h. rest j h (eqb j k) refl };
         entryRoom = p ∙ a .entryRoom;
         textRoom = q ∙ a .textRoom;
         long = o .long ∙ a .long;
@@ -158,14 +164,25 @@ module _ {shape : Shape} {u : Upload} {entries : List ℕ} {call : Call} {room t
           rw z (rw (a .entryRoom, a .textRoom) at (o .here))
       go j h false e =
           let f = eqb-false j k e in
-          let before = a .done .each j (omega (arith, f)) in
-          record { is = λ x y w. rw (o .others j f) (before .is x (rw (o .long) at y) w) }
+          let earlier = a .done .each j (omega (arith, f)) in
+          record { is = λ x y w. rw (o .others j f) (earlier .is x (rw (o .long) at y) w) }
 
-  pub again-done : {n : ℕ} → n ≤ k → EachReread shape u entries n call room texts numbers
-  again-done h = record { each = λ j l. a .done .each j (omega arith) }
+      rest : (j : ℕ) → (j < k + 1 → getD entries (j * 6) 0 ≡ pieceKind → ⊥) → (b : Bool) → eqb j k ≡ b → getD numbers′ j 0 ≡ getD before j 0
+      rest j h true e =
+          let z = eqb-true j k e in
+          let f : getD entries (k * 6) 0 ≡ pieceKind → ⊥ = rw z at (h (omega (arith, z))) in
+          rw z (o .idle f) ∙ a .done .others j (λ l. h (omega arith))
+      rest j h false e = o .others j (eqb-false j k e) ∙ a .done .others j (λ l. h (omega arith))
 
-pub again-long : {shape : Shape} {u : Upload} {entries : List ℕ} {call : Call} {room texts size : ℕ} {en tx numbers : List ℕ} {k : ℕ}
-    → Again shape u entries call room texts size en tx numbers k → length numbers ≡ size
+  pub again-done : n ≤ k → EachReread shape u entries n call room texts before numbers
+  again-done h =
+      record {
+        each = λ j l. a .done .each j (omega arith);
+        others = λ j f. a .done .others j (λ l. f (omega (arith, a .few)));
+      }
+
+pub again-long : {shape : Shape} {u : Upload} {entries : List ℕ} {call : Call} {room texts n : ℕ} {before en tx numbers : List ℕ} {k : ℕ}
+    → Again shape u entries call room texts n before en tx numbers k → length numbers ≡ length before
 again-long a = a .long
 
 pub pieces-at : {u : Upload} {entries : List ℕ} {count k : ℕ} → PiecesIn u entries count → k < count → demand.PieceAt u entries (k * 6)
@@ -175,13 +192,22 @@ pub ruleset again-laws = (needs, again-start, again-more, again-done, again-long
 
 -- ---- the whole
 module _ (body t : List ℕ) (end : ℕ) {row cause r : ℕ} (d : DrainCall (drained body t end) row cause r) where
-  pub import-refused : (r ≡ 0 → ⊥) → {shape piece : Shape} {call inner : Call} (e tx numbers : List ℕ) {room texts : ℕ}
-      → ImportCall shape piece (uploaded body t end) call inner e tx e tx numbers numbers room texts
+  pub import-refused : (r ≡ 0 → ⊥) → {shape piece : Shape} {call inner : Call} (e tx numbers pe pt : List ℕ)
+      → ImportCall shape piece (uploaded body t end) call inner e tx e tx numbers numbers pe pt pe pt
       (record { drained = r; read = 0; count = 0; length = 0 })
-  import-refused f e tx numbers =
+  import-refused f e tx numbers pe pt =
       record {
         drained = d .number;
-        refused = λ _. record { read = refl; count = refl; length = refl; entries = refl; texts = refl; same = refl };
+        refused = λ _. record {
+          read = refl;
+          count = refl;
+          length = refl;
+          entries = refl;
+          texts = refl;
+          same = refl;
+          pieceEntries = refl;
+          pieceTexts = refl;
+        };
         passed = λ z. absurd (f z);
       }
 
@@ -199,16 +225,16 @@ module _ {shape : Shape} {body t : List ℕ} {end : ℕ} {call : Call} {e tx e�
   import-pieces z = k .kept (import-passed body t end d z .is) .pieces
 
   pub import-read : {tx′ : List ℕ} {m : ℕ} → SheetCall shape (uploaded body t end) call e tx e′ tx′ n m x → r ≡ 0
-      → {piece : Shape} {inner : Call} (numbers : List ℕ) {numbers′ : List ℕ} {room texts : ℕ}
-      → EachReread piece (uploaded body t end) e′ n inner room texts numbers′
-      → ImportCall shape piece (uploaded body t end) call inner e tx e′ tx′ numbers numbers′ room texts
+      → {piece : Shape} {inner : Call} {numbers numbers′ : List ℕ} (pe pt pe′ pt′ : List ℕ)
+      → EachReread piece (uploaded body t end) e′ n inner (length pe) (length pt) numbers numbers′
+      → ImportCall shape piece (uploaded body t end) call inner e tx e′ tx′ numbers numbers′ pe pt pe′ pt′
       (record { drained = r; read = x; count = n; length = m })
-  import-read c z numbers a =
+  import-read c z pe pt pe′ pt′ a =
       let kept = k .kept (import-passed body t end d z .is) in
       record {
         drained = d .number;
         refused = λ f. absurd (f z);
-        passed = λ _. record { reads = c; order = kept .order; may = kept .number; again = a };
+        passed = λ _. record { reads = c; order = kept .order; ordered = kept .ordered; may = kept .number; again = a };
       }
 
 pub ruleset import-laws = (needs, import-refused, import-passed, import-pieces, import-read)

@@ -13,7 +13,7 @@ use Rattle.readings.specs.Output.{pieceKind}
 use Rattle.output.specs.Held.{roomOf}
 use Rattle.deserializer.specs.declared.Shape.{Shape}
 use Rattle.deserializer.specs.Call.{SheetCall}
-use Rattle.deserializer.specs.Demand.{MayAnswer, shapeAt}
+use Rattle.deserializer.specs.Demand.{MayAnswer, Ordered, shapeAt}
 use Rattle.falzheod.specs.Numbers.{drainedNumber}
 use Rattle.import.specs.declared.pieces.Imported.{Imported}
 
@@ -42,6 +42,7 @@ pub record Reread (shape : Shape) (u : Upload) (start len : ℕ) (call : Call) (
   pub textRoom : length t ≡ texts
   pub reads : SheetCall shape (pieceUpload u row start len) call e t e′ t′ n m r
   pub order : List ℕ
+  pub ordered : Ordered shape (pieceUpload u row start len) call order
   pub may : MayAnswer (shapeAt shape order) (pieceUpload u row start len) call (roomOf e t) r
 
 -- of entry k, if it is of kind 2 and there is a number k: that is the number of its piece
@@ -49,38 +50,45 @@ pub record RereadAt (shape : Shape) (u : Upload) (entries : List ℕ) (call : Ca
   pub is : k < length entries / 6 → k < length numbers → getD entries (k * 6) 0 ≡ pieceKind
       → Reread shape u (getD entries (k * 6 + 4) 0) (getD entries (k * 6 + 5) 0) call room texts (getD numbers k 0)
 
--- of entry k; every other number is as it was
+-- of entry k; every other number is as it was, and so is this one where the entry is no piece
 pub record RereadOne (shape : Shape) (u : Upload) (entries : List ℕ) (call : Call) (room texts : ℕ) (numbers numbers′ : List ℕ) (k : ℕ)
     : Type 0 where
   pub here : RereadAt shape u entries call room texts numbers′ k
   pub others : (j : ℕ) → (j ≡ k → ⊥) → getD numbers′ j 0 ≡ getD numbers j 0
+  pub idle : (getD entries (k * 6) 0 ≡ pieceKind → ⊥) → getD numbers′ k 0 ≡ getD numbers k 0
   pub long : length numbers′ ≡ length numbers
 
--- of each of the first n entries
-pub record EachReread (shape : Shape) (u : Upload) (entries : List ℕ) (n : ℕ) (call : Call) (room texts : ℕ)
-    (numbers : List ℕ) : Type 0 where
-  pub each : (k : ℕ) → k < n → RereadAt shape u entries call room texts numbers k
+-- of each of the first n entries; the numbers of all others, and of those that are no piece, are as they were
+pub record EachReread (shape : Shape) (u : Upload) (entries : List ℕ) (n : ℕ) (call : Call) (room texts : ℕ) (numbers numbers′ : List ℕ)
+    : Type 0 where
+  pub each : (k : ℕ) → k < n → RereadAt shape u entries call room texts numbers′ k
+  pub others : (k : ℕ) → (k < n → getD entries (k * 6) 0 ≡ pieceKind → ⊥) → getD numbers′ k 0 ≡ getD numbers k 0
 
--- nothing is handed on: both buffers and the numbers are as they were
-pub record NothingDone (e t e′ t′ numbers numbers′ : List ℕ) (r : Imported) : Type 0 where
+-- nothing is handed on: all that was lent is as it was
+pub record NothingDone (e t e′ t′ numbers numbers′ pe pt pe′ pt′ : List ℕ) (r : Imported) : Type 0 where
   pub read : r .read ≡ 0
   pub count : r .count ≡ 0
   pub length : r .length ≡ 0
   pub entries : e′ ≡ e
   pub texts : t′ ≡ t
   pub same : numbers′ ≡ numbers
+  pub pieceEntries : pe′ ≡ pe
+  pub pieceTexts : pt′ ≡ pt
 
--- the upload passed: what the reading promises, its number, and the pieces
-pub record AllRead (shape piece : Shape) (u : Upload) (call inner : Call) (e t e′ t′ numbers′ : List ℕ) (room texts : ℕ) (r : Imported)
-    : Type 0 where
+-- the upload passed: what the reading promises, its number, and the pieces. (The buffers of the pieces are working space: what a piece's
+-- reading left there, the next one's overwrites.)
+pub record AllRead (shape piece : Shape) (u : Upload) (call inner : Call) (e t e′ t′ numbers numbers′ : List ℕ) (room texts : ℕ)
+    (r : Imported) : Type 0 where
   pub reads : SheetCall shape u call e t e′ t′ (r .count) (r .length) (r .read)
   pub order : List ℕ
+  pub ordered : Ordered shape u call order
   pub may : MayAnswer (shapeAt shape order) u call (roomOf e t) (r .read)
-  pub again : EachReread piece u e′ (r .count) inner room texts numbers′
+  pub again : EachReread piece u e′ (r .count) inner room texts numbers numbers′
 
--- THE PROMISE of an import: of the upload and of each piece, read as these shapes by these calls
-pub record ImportCall (shape piece : Shape) (u : Upload) (call inner : Call) (e t e′ t′ numbers numbers′ : List ℕ) (room texts : ℕ)
+-- THE PROMISE of an import: of the upload and of each piece, read as these shapes by these calls. e and t are the buffers lent for the
+-- upload, pe and pt those for its pieces, as they were and as they are
+pub record ImportCall (shape piece : Shape) (u : Upload) (call inner : Call) (e t e′ t′ numbers numbers′ pe pt pe′ pt′ : List ℕ)
     (r : Imported) : Type 0 where
   pub drained : r .drained ≡ drainedNumber (drained (u .body) (u .rows) (u .end))
-  pub refused : (r .drained ≡ 0 → ⊥) → NothingDone e t e′ t′ numbers numbers′ r
-  pub passed : r .drained ≡ 0 → AllRead shape piece u call inner e t e′ t′ numbers′ room texts r
+  pub refused : (r .drained ≡ 0 → ⊥) → NothingDone e t e′ t′ numbers numbers′ pe pt pe′ pt′ r
+  pub passed : r .drained ≡ 0 → AllRead shape piece u call inner e t e′ t′ numbers numbers′ (length pe) (length pt) r

@@ -134,7 +134,7 @@ fn read_pieces(
     requires { ⌜ PiecesIn (uploaded (now body) (now rows) end) (now entries) count ⌝ }
     ensures { λ _. ⌜ EachReread (shapeOf kind) (uploaded (now (body .entry)) (now (rows .entry)) end) (now (entries .entry)) count
         (calling (now (sheet .entry)) (settingsBy flags «max_depth») (shapeDepth 1)) (length (now («piece_entries» .entry)))
-        (length (now («piece_texts» .entry))) (now (numbers .exit)) ⌝ }
+        (length (now («piece_texts» .entry))) (now (numbers .entry)) (now (numbers .exit)) ⌝ }
 {
     let mut k = 0;
     while k < count {
@@ -177,7 +177,7 @@ pub fn import(
         (calling (now (sheet .entry)) (settingsBy flags «max_depth») (shapeDepth 0))
         (calling (now («piece_sheet» .entry)) (settingsBy flags «max_depth») (shapeDepth 1))
         (now (entries .entry)) (now (texts .entry)) (now (entries .exit)) (now (texts .exit)) (now (numbers .entry)) (now (numbers .exit))
-        (length (now («piece_entries» .entry))) (length (now («piece_texts» .entry))) r ⌝ }
+        (now («piece_entries» .entry)) (now («piece_texts» .entry)) (now («piece_entries» .exit)) (now («piece_texts» .exit)) r ⌝ }
 {
     let mut row = 0;
     let mut cause = 0;
