@@ -193,18 +193,34 @@ uint32_t falzheod_drain(const uint8_t *body, size_t body_len, const uint32_t *ro
  * last field; any other bytes are FALZHEOD_SHEET.
  *
  * Each reading tests the table, the sheet, the depth (FALZHEOD_DEPTH where `depth` is at
- * or above `max_depth`) and the root, in this order, before it reads. */
+ * or above `max_depth`) and the root, in this order, before it reads: it may answer
+ * FALZHEOD_FINISHED, FALZHEOD_TABLE, FALZHEOD_SHEET, FALZHEOD_DEPTH, FALZHEOD_NO_ROOT,
+ * FALZHEOD_ILL_FORMED (strict only), FALZHEOD_NO_ROOM, and what is said of it below.
+ *
+ * Where falzheod_drain finished with the same body, rows and end, a structure, list or
+ * map reading answers neither FALZHEOD_TABLE nor FALZHEOD_ILL_FORMED, strict or not, nor
+ * FALZHEOD_REFERENCE or FALZHEOD_TOKEN_ERROR; and each piece is exactly an element, from
+ * its `<` to the end of its end tag or `/>`, which the drain passes again by its own rows.
+ * In other tables a piece ends at the position of the last row read for it, or at `end`.
+ *
+ * Names: the root, attributes and items match a name without a colon by their local name,
+ * and one with a colon by prefix and local name, split at its first colon; children of a
+ * structure, keys and values have exactly the local name that is asked for.
+ *
+ * A call keeps some 50 KB on the stack at most. */
 
 /* A structure. Sheet: bits 0 XML name, 1 original name, 2 member name, 3 unwrapped; then
  * the shape name, always; a count 0 to 64; and members: bits 0 XML name, 1 member name,
  * 2 attribute, 3 flattened, 4 aggregate.
  *
  * With FALZHEOD_VALIDATE_ROOT_NAME at depth 0 the root's name is tested
- * (FALZHEOD_ROOT_NAME). Then attribute members come in sheet order, children in body
+ * (FALZHEOD_ROOT_NAME): the XML name, else the original name, else the member name, else
+ * the shape name. A member is found by its XML name, else its member name; attribute
+ * members are candidates for children too. Then attribute members come in sheet order, children in body
  * order (a text, a failed text, or, of an aggregate member, a piece), the test of a
  * strict reading, and the groups of flattened aggregate members, in an order that is
  * left open; if all groups together do not fit, none is written. An unwrapped sheet
- * gives one piece, the root element, or none. */
+ * gives, after the test of a strict reading, one piece, the root element, or none. */
 uint32_t falzheod_read_struct(const uint8_t *body, size_t body_len,
                               const uint32_t *rows, size_t rows_len, uint32_t end,
                               const uint8_t *sheet, size_t sheet_len,
@@ -216,7 +232,8 @@ uint32_t falzheod_read_struct(const uint8_t *body, size_t body_len,
 /* A list: each item a piece. Sheet: bits 0 has member, 1 flattened, 2 its XML name, 3
  * its member name (2 and 3 only with 0). With
  * FALZHEOD_STRICT_COLLECTION_ELEMENT_NAMES, children of another name than the member's
- * are passed over, unless flattened stands. No text is written. */
+ * (XML name, else member name, else `member`) are passed over, unless flattened stands.
+ * No text is written. */
 uint32_t falzheod_read_list(const uint8_t *body, size_t body_len,
                             const uint32_t *rows, size_t rows_len, uint32_t end,
                             const uint8_t *sheet, size_t sheet_len,
@@ -227,9 +244,13 @@ uint32_t falzheod_read_list(const uint8_t *body, size_t body_len,
 
 /* A map: each entry its key and a text, or a piece where the value is an aggregate.
  * Sheet: bits 0 flattened, 1 key XML name, 2 has value, 3 value XML name, 4 value
- * aggregate (3 and 4 only with 2). A key or value that fails refuses the reading with
- * its number, FALZHEOD_ELEMENT_IN_TEXT to FALZHEOD_ILL_FORMED, as it is met; room is
- * tested at the end of each entry. */
+ * aggregate (3 and 4 only with 2). Names that are not given are `key` and `value`; with
+ * FALZHEOD_STRICT_COLLECTION_ELEMENT_NAMES children that are not named `entry` are passed
+ * over, unless flattened stands. Of several keys or values the last counts, a child named
+ * as both is a key, and an entry without both gives nothing. A key or value that fails
+ * refuses the reading with its number, FALZHEOD_ELEMENT_IN_TEXT to FALZHEOD_ILL_FORMED,
+ * as it is met; room is tested at the end of each entry, for key and value together; the
+ * key stands before the value. */
 uint32_t falzheod_read_map(const uint8_t *body, size_t body_len,
                            const uint32_t *rows, size_t rows_len, uint32_t end,
                            const uint8_t *sheet, size_t sheet_len,

@@ -6,6 +6,7 @@ mod pieces;
 
 use libc::STDOUT_FILENO;
 use pieces::import;
+use scalar::find::find;
 
 // The rows of <cores><core><id>7</id></core><core/></cores>, eight numbers each.
 const ROWS: [u32; 96] = [
@@ -116,7 +117,8 @@ fn print_number(name: &[u8], number: u64) {
     io::print_decimal(STDOUT_FILENO, number);
 }
 
-// An upload read as a list by its item name `core`, and each core as a structure with the member `id`.
+// An upload read as a list by its item name `core`, and each core as a structure with the member `id`; of one that passed also the first
+// core, as a part of the body.
 fn show(body: &[u8], rows: &[u32], end: u32) {
     let mut entries = [0u32; 24];
     let mut texts = [0u8; 16];
@@ -146,6 +148,11 @@ fn show(body: &[u8], rows: &[u32], end: u32) {
     print_number(b", pieces read again ", wide(numbers[0]));
     print_number(b" and ", wide(numbers[1]));
     io::write_all(STDOUT_FILENO, b"\n");
+    if done.drained == 0 {
+        io::write_all(STDOUT_FILENO, b"the first core: ");
+        io::write_all(STDOUT_FILENO, find(body, rows, end, b"core"));
+        io::write_all(STDOUT_FILENO, b"\n");
+    }
 }
 
 fn main() {

@@ -1,4 +1,4 @@
--- Demand 3: what is written of texts, elements, groups of elements and texts that have an element inside is handed out as promised (Promise.antt).
+-- Demand 3: what is written of texts, elements, groups of elements and texts that have an element inside is handed out as promised (specs/Demand.antt).
 use Prim.Native.Nat.{ℕ, _+_, _≤_}
 use mathlib.Core.Path.{_≡_, refl, ap}
 use mathlib.Core.List.{List, _++_}

@@ -1,5 +1,5 @@
 -- DEMAND 3: for every body and table that the strict drain passes, a structure, list or map reading, strict or lenient, with any sheet, settings, depth, room
--- and order of groups, keeps the promise of Promise.antt.
+-- and order of groups, keeps the promise of specs/Demand.antt.
 use Prim.Native.Nat.{ℕ}
 use mathlib.Core.Path.{_≡_, refl, sym, _∙_, subst}
 use mathlib.Core.Bool.{Bool, true, false}
