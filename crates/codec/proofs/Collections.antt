@@ -18,10 +18,10 @@ use Rattle.sheet.specs.Sheet as sheet
 use Rattle.sheet.specs.Names.{orElse, namedItem, valueNameOf, aggregateOf}
 use Rattle.codec.specs.declared.settings.Settings.{Settings}
 use Rattle.codec.specs.declared.field.Span.{Span}
-use Rattle.codec.specs.declared.field.Fields.{Fields}
+use Rattle.codec.specs.declared.field.MarkedPair.{MarkedPair}
 use Rattle.codec.specs.declared.collection.ListSheet.{ListSheet}
 use Rattle.codec.specs.declared.collection.MapSheet.{MapSheet}
-use Rattle.codec.specs.Field.{nameOf, OrElse, Named, namedBy, FieldsRead}
+use Rattle.codec.specs.Field.{spanName, OrElse, Named, namedBy, FieldsRead}
 use Rattle.codec.specs.Collection.{isWhole, ListSaid, ListRead, MapRead, ItemNamed, ItemsNamed, EntriesNamed}
 use Rattle.codec.proofs.Fronts.{two, read-then, all-read, held-read}
 use Rattle.codec.proofs.Bits.{fields-then}
@@ -43,7 +43,7 @@ third-is false false true = refl
 third-is false false false = refl
 
 -- what a sheet's bytes say, that is made of its fields where two of its bits stand only with a third
-sheet-is : {A : Type 0} (values v w third a b : ℕ) (make : Named → A) {sheet : List ℕ} {f : Fields} {ok : Bool}
+sheet-is : {A : Type 0} (values v w third a b : ℕ) (make : Named → A) {sheet : List ℕ} {f : MarkedPair} {ok : Bool}
     → FieldsRead sheet 0 values v w f → ok ≡ isWhole sheet f third a b
     → all (then (bitMap values sheet) (λ n s1. whereHolds (pick (onlyWith (bit third n) (bit a n)) (onlyWith (bit third n) (bit b n)) false)
     (then (nameIf (bit v n) s1) (λ x s2. then (nameIf (bit w n) s2) (λ y s3. front (make (record { bits = n; names = two x y })) s3)))))
@@ -64,7 +64,7 @@ item-is : (t : Bool) (x m : Option (List ℕ)) → namedItem (itemIf t x m) ≡ 
 item-is true x m = refl
 item-is false x m = refl
 
-pub list-read : {sheet : List ℕ} {f : Fields} {name : Span} {ok m l : Bool} → FieldsRead sheet 0 16 4 8 f
+pub list-read : {sheet : List ℕ} {f : MarkedPair} {name : Span} {ok m l : Bool} → FieldsRead sheet 0 16 4 8 f
     → OrElse (f .first) (f .second) name → ok ≡ isWhole sheet f 1 4 8 → m ≡ bit 1 (f .bits) → l ≡ bit 2 (f .bits)
     → ListRead sheet (record { ok = ok; member = m; flattened = l; name = name })
 unfolding listOf listMake
@@ -74,7 +74,7 @@ list-read {sheet} {f} {ok = ok} x n e p q =
       there = λ t. (let z : listOf sheet ≡ some (listMake (namedBy sheet f)) = rw t at is in record {
         said = rw z;
         stands = rw z (record {
-          item = rw (n .name sheet, p) (item-is (bit 1 (f .bits)) (nameOf sheet (f .first)) (nameOf sheet (f .second)));
+          item = rw (n .name sheet, p) (item-is (bit 1 (f .bits)) (spanName sheet (f .first)) (spanName sheet (f .second)));
           flattened = sym q;
           inside = n .inside (length sheet) (omega (arith, x .firstEnds, x .read .inside)) (omega (arith, x .secondEnds, x .read .inside));
         });
@@ -104,7 +104,7 @@ value-is true ended false false true x e n = false-true (sym e)
 value-is true ended false false false x e n = record { name = rw (n refl); aggregate = refl }
 value-is false ended t u a x e n = false-true (sym e)
 
-pub map-read : {sheet : List ℕ} {f : Fields} {ok l a : Bool} → FieldsRead sheet 0 32 2 8 f → ok ≡ isWhole sheet f 4 8 16
+pub map-read : {sheet : List ℕ} {f : MarkedPair} {ok l a : Bool} → FieldsRead sheet 0 32 2 8 f → ok ≡ isWhole sheet f 4 8 16
     → l ≡ bit 1 (f .bits) → a ≡ bit 16 (f .bits)
     → MapRead sheet (record { ok = ok; flattened = l; aggregate = a; key = f .first; value = f .second })
 unfolding mapOf mapMake
@@ -113,7 +113,7 @@ map-read {sheet} {f} {ok} x e p q =
     record {
       there = λ t. (let z : mapOf sheet ≡ some (mapMake (namedBy sheet f)) = rw t at is in
           let v = value-is (f .ok) (leb (length sheet) (f .next)) (bit 4 (f .bits)) (bit 8 (f .bits)) (bit 16 (f .bits))
-          (nameOf sheet (f .second))
+          (spanName sheet (f .second))
           (sym t ∙ e) (λ u. rw (eq-eqb (f .second .len) 0 (x .absent u))) in
           record {
             said = rw z;
@@ -131,7 +131,7 @@ map-read {sheet} {f} {ok} x e p q =
 
 -- ---- names
 pub item-named : {sheet : List ℕ} {list : ListSheet} {name other : List ℕ} → ListSaid sheet list → other ≡ ascii "member"
-    → name ≡ Option·getD (nameOf sheet (list .name)) other → ItemNamed sheet list name
+    → name ≡ Option·getD (spanName sheet (list .name)) other → ItemNamed sheet list name
 item-named s o e = record { is = rw (e, o) (s .stands .item) }
 
 module _ {settings : Settings} {list : ListSheet} where

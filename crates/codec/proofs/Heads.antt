@@ -16,8 +16,8 @@ use Rattle.sheet.specs.Sheet.{Member, Structure, memberList, structureOf}
 use Rattle.sheet.specs.Names.{orElse}
 use Rattle.codec.specs.declared.field.Span.{Span}
 use Rattle.codec.specs.declared.field.Pair.{Pair}
-use Rattle.codec.specs.declared.field.Fields.{Fields}
-use Rattle.codec.specs.Field.{Byte, bytesAt, nameOf, OrElse, ReadAt, Two, pairIf, namesOf, PairRead, Named, fieldsOf, namedBy}
+use Rattle.codec.specs.declared.field.MarkedPair.{MarkedPair}
+use Rattle.codec.specs.Field.{Byte, bytesAt, spanName, OrElse, ReadAt, Two, pairIf, namesOf, PairRead, Named, fieldsOf, namedBy}
 use Rattle.codec.specs.Field.{FieldsRead}
 use Rattle.codec.specs.Structure.{RootOf, HeadRead, countOf, CountRead}
 use Rattle.codec.proofs.Names.{bytes-name}
@@ -30,11 +30,11 @@ pub root-of : {xml original member shape a b r : Span} → OrElse original membe
 root-of {xml} {original} {member} {shape} {r = r} x y z =
     record {
       name = λ sheet. rw (bytes-name sheet r, z .name sheet, y .name sheet, x .name sheet)
-          (last sheet (orElse (nameOf sheet xml) (orElse (nameOf sheet original) (nameOf sheet member))));
+          (last sheet (orElse (spanName sheet xml) (orElse (spanName sheet original) (spanName sheet member))));
       inside = λ n h i j k. z .inside n (y .inside n h (x .inside n i j)) k;
     }
   where
-    last : (sheet : List ℕ) (o : Option (List ℕ)) → Option·getD (orElse o (nameOf sheet shape)) [] ≡ Option·getD o (bytesAt sheet shape)
+    last : (sheet : List ℕ) (o : Option (List ℕ)) → Option·getD (orElse o (spanName sheet shape)) [] ≡ Option·getD o (bytesAt sheet shape)
     last sheet none = sym (bytes-name sheet shape)
     last sheet (some n) = refl
 
@@ -85,7 +85,7 @@ structure-is sheet =
     ∙ sym (then-then (pairIf (bit 4 (f .bits)) true s) (λ q e. front (headed f q) e) filled))
     ∙ sym (then-then (fieldsOf 16 1 2 sheet) shaped filled))
 
-pub head-read : {sheet : List ℕ} {f : Fields} {p : Pair} {root : Span} {t ok u : Bool} → FieldsRead sheet 0 16 1 2 f
+pub head-read : {sheet : List ℕ} {f : MarkedPair} {p : Pair} {root : Span} {t ok u : Bool} → FieldsRead sheet 0 16 1 2 f
     → PairRead sheet (f .next) t true p → RootOf (f .first) (f .second) (p .first) (p .second) root → t ≡ bit 4 (f .bits)
     → ok ≡ pick (f .ok) (p .ok) false → u ≡ bit 8 (f .bits)
     → HeadRead sheet (record { ok = ok; unwrapped = u; root = root; next = p .next })

@@ -17,7 +17,7 @@ use Rattle.sheet.specs.Front.{Front, front, broken, then, bit, times}
 use Rattle.sheet.specs.Sheet.{member, memberList}
 use Rattle.sheet.specs.Sheet as defined
 use Rattle.codec.specs.declared.field.Span.{Span}
-use Rattle.codec.specs.declared.field.Fields.{Fields}
+use Rattle.codec.specs.declared.field.MarkedPair.{MarkedPair}
 use Rattle.codec.specs.declared.structure.Count.{Count}
 use Rattle.codec.specs.declared.structure.Member.{Member}
 use Rattle.codec.specs.Field.{OrElse, Named, namedBy, fieldsOf, FieldsRead}
@@ -147,7 +147,7 @@ module _ {sheet : List ℕ} {at : ℕ} {head : Count} {numbers : List ℕ} {next
         stands = w .stands;
       }
 
-  module _ (h : k < head .count) {f : Fields} (x : FieldsRead sheet next 32 1 2 f) where
+  module _ (h : k < head .count) {f : MarkedPair} (x : FieldsRead sheet next 32 1 2 f) where
     one : head .count - k ≡ suc (head .count - (k + 1))
     one = omega arith
 

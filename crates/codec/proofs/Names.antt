@@ -16,14 +16,14 @@ use Rattle.lists.proofs.Tests.{false-true}
 use Rattle.sheet.specs.Front.{front, broken, then, whereHolds, nameIf}
 use Rattle.codec.specs.declared.field.Span.{Span}
 use Rattle.codec.specs.declared.field.Field.{Field}
-use Rattle.codec.specs.Field.{Byte, bytesAt, nameOf, OrElse, LengthRead, FieldRead, PairRead}
+use Rattle.codec.specs.Field.{Byte, bytesAt, spanName, OrElse, LengthRead, FieldRead, PairRead}
 use Rattle.codec.proofs.Fronts.{two, read-then, read-as}
 
 -- ---- bytes
 pub bytes-are : (sheet : List ℕ) (s : Span) → take (s .from + s .len - s .from) (drop (s .from) sheet) ≡ bytesAt sheet s
 bytes-are sheet s = let z : s .from + s .len - s .from ≡ s .len = omega arith in rw z
 
-pub bytes-name : (sheet : List ℕ) (s : Span) → bytesAt sheet s ≡ Option·getD (nameOf sheet s) []
+pub bytes-name : (sheet : List ℕ) (s : Span) → bytesAt sheet s ≡ Option·getD (spanName sheet s) []
 bytes-name sheet s = go (eqb (s .len) 0) refl
   where
     go : (t : Bool) → eqb (s .len) 0 ≡ t → bytesAt sheet s ≡ Option·getD (pick t none (some (bytesAt sheet s))) []
@@ -31,10 +31,10 @@ bytes-name sheet s = go (eqb (s .len) 0) refl
     go false e = refl
 
 module _ (sheet other : List ℕ) (name : Span) where
-  pub given-other : name .len ≡ 0 → other ≡ Option·getD (nameOf sheet name) other
+  pub given-other : name .len ≡ 0 → other ≡ Option·getD (spanName sheet name) other
   given-other e = rw (eq-eqb (name .len) 0 e)
 
-  pub own-name : {part : List ℕ} → (name .len ≡ 0 → ⊥) → part ≡ bytesAt sheet name → part ≡ Option·getD (nameOf sheet name) other
+  pub own-name : {part : List ℕ} → (name .len ≡ 0 → ⊥) → part ≡ bytesAt sheet name → part ≡ Option·getD (spanName sheet name) other
   own-name n e = rw (ne-eqb (name .len) 0 n) e
 
 -- ---- the first of two
@@ -115,7 +115,7 @@ pub pair-read : {sheet : List ℕ} {at : ℕ} {t u v : Bool} {x y : Field} → F
 pair-read {sheet} {u = u} {x = x} f g e =
     record {
       read = read-then (f .read) (λ a rest. then (nameIf u rest) (λ b end. front (two a b) end))
-          (read-as (g .read) (two (nameOf sheet (x .name)))) e (omega (arith, f .read .near, g .read .near));
+          (read-as (g .read) (two (spanName sheet (x .name)))) e (omega (arith, f .read .near, g .read .near));
       firstEnds = omega (arith, f .ends, g .onward);
       secondEnds = g .ends;
       absent = g .absent;

@@ -13,11 +13,11 @@ use Rattle.sheet.specs.Sheet.{listOf, mapOf}
 use Rattle.sheet.specs.Sheet as sheet
 use Rattle.sheet.specs.Names.{namedItem, itemName, entryName, keyName, valueName, valueAggregate}
 use Rattle.codec.specs.declared.settings.Settings.{Settings}
-use Rattle.codec.specs.declared.field.Fields.{Fields}
+use Rattle.codec.specs.declared.field.MarkedPair.{MarkedPair}
 use Rattle.codec.specs.declared.collection.ListSheet.{ListSheet}
 use Rattle.codec.specs.declared.collection.MapSheet.{MapSheet}
 use Rattle.codec.specs.Settings.{settingsOf}
-use Rattle.codec.specs.Field.{nameOf}
+use Rattle.codec.specs.Field.{spanName}
 
 -- ---- both kinds
 -- two bits stand only with a third: "(2 and 3 only with 0)", "(3 and 4 only with 2)"
@@ -25,7 +25,7 @@ abbrev pub withThird : ℕ → ℕ → ℕ → ℕ → Bool
 withThird bits third a b = pick (bit third bits) true (pick (bit a bits) false (not (bit b bits)))
 
 -- they do, and "The sheet ends with its last field."
-abbrev pub isWhole : List ℕ → Fields → ℕ → ℕ → ℕ → Bool
+abbrev pub isWhole : List ℕ → MarkedPair → ℕ → ℕ → ℕ → Bool
 isWhole sheet f third a b = pick (pick (f .ok) (withThird (f .bits) third a b) false) (leb (length sheet) (f .next)) false
 
 -- ---- lists: "bits 0 has member, 1 flattened, 2 its XML name, 3 its member name"
@@ -35,7 +35,7 @@ listSaid bytes = Option·getD (listOf bytes) (record { item = none; flattened = 
 
 -- a struct stands for a list's sheet
 pub record ListAt (bytes : List ℕ) (r : ListSheet) (l : sheet.ListSheet) : Type 0 where
-  pub item : namedItem (l .item) ≡ pick (r .member) (some (Option·getD (nameOf bytes (r .name)) (ascii "member"))) none
+  pub item : namedItem (l .item) ≡ pick (r .member) (some (Option·getD (spanName bytes (r .name)) (ascii "member"))) none
   pub flattened : l .flattened ≡ r .flattened
   pub inside : r .name .from + r .name .len ≤ length bytes
 
@@ -55,8 +55,8 @@ mapSaid bytes = Option·getD (mapOf bytes) (record { flattened = false; keyXmlNa
 
 pub record MapAt (bytes : List ℕ) (r : MapSheet) (m : sheet.MapSheet) : Type 0 where
   pub flattened : m .flattened ≡ r .flattened
-  pub key : keyName m ≡ Option·getD (nameOf bytes (r .key)) (ascii "key")
-  pub value : valueName m ≡ Option·getD (nameOf bytes (r .value)) (ascii "value")
+  pub key : keyName m ≡ Option·getD (spanName bytes (r .key)) (ascii "key")
+  pub value : valueName m ≡ Option·getD (spanName bytes (r .value)) (ascii "value")
   pub aggregate : valueAggregate m ≡ r .aggregate
   pub keyInside : r .key .from + r .key .len ≤ length bytes
   pub valueInside : r .value .from + r .value .len ≤ length bytes

@@ -12,7 +12,7 @@ use Rattle.sheet.specs.Names.{orElse}
 use Rattle.codec.specs.declared.field.Span.{Span}
 use Rattle.codec.specs.declared.field.Field.{Field}
 use Rattle.codec.specs.declared.field.Pair.{Pair}
-use Rattle.codec.specs.declared.field.Fields.{Fields}
+use Rattle.codec.specs.declared.field.MarkedPair.{MarkedPair}
 
 -- a byte as a number
 pub record Byte (x r : ℕ) : Type 0 where
@@ -25,12 +25,12 @@ abbrev pub bytesAt : List ℕ → Span → List ℕ
 bytesAt sheet s = take (s .len) (drop (s .from) sheet)
 
 -- a name that may be there: none where the length is 0
-abbrev pub nameOf : List ℕ → Span → Option (List ℕ)
-nameOf sheet s = pick (eqb (s .len) 0) none (some (bytesAt sheet s))
+abbrev pub spanName : List ℕ → Span → Option (List ℕ)
+spanName sheet s = pick (eqb (s .len) 0) none (some (bytesAt sheet s))
 
 -- the first of two names that is there; it lies where they lie
 pub record OrElse (a b r : Span) : Type 0 where
-  pub name : (sheet : List ℕ) → nameOf sheet r ≡ orElse (nameOf sheet a) (nameOf sheet b)
+  pub name : (sheet : List ℕ) → spanName sheet r ≡ orElse (spanName sheet a) (spanName sheet b)
   pub inside : (n : ℕ) → a .from + a .len ≤ n → b .from + b .len ≤ n → r .from + r .len ≤ n
 
 -- ---- what is read at a place
@@ -48,7 +48,7 @@ pub record LengthRead (sheet : List ℕ) (at r : ℕ) : Type 0 where
 
 -- a name, where its bit stands
 pub record FieldRead (sheet : List ℕ) (at : ℕ) (stands : Bool) (r : Field) : Type 0 where
-  pub read : ReadAt sheet (nameIf stands (drop at sheet)) (r .ok) (nameOf sheet (r .name)) (r .next) (at + 256)
+  pub read : ReadAt sheet (nameIf stands (drop at sheet)) (r .ok) (spanName sheet (r .name)) (r .next) (at + 256)
   pub ends : r .name .from + r .name .len ≤ r .next
   pub onward : at ≤ r .next
   pub absent : stands ≡ false → r .name .len ≡ 0
@@ -62,7 +62,7 @@ abbrev pub pairIf : Bool → Bool → List ℕ → Front Two
 pairIf t u s = then (nameIf t s) (λ x rest. then (nameIf u rest) (λ y end. front (record { first = x; second = y }) end))
 
 abbrev pub namesOf : List ℕ → Span → Span → Two
-namesOf sheet a b = record { first = nameOf sheet a; second = nameOf sheet b }
+namesOf sheet a b = record { first = spanName sheet a; second = spanName sheet b }
 
 pub record PairRead (sheet : List ℕ) (at : ℕ) (t u : Bool) (r : Pair) : Type 0 where
   pub read : ReadAt sheet (pairIf t u (drop at sheet)) (r .ok) (namesOf sheet (r .first) (r .second)) (r .next) (at + 512)
@@ -80,10 +80,10 @@ abbrev pub fieldsOf : ℕ → ℕ → ℕ → List ℕ → Front Named
 fieldsOf values v w s =
     then (bitMap values s) (λ b rest. then (pairIf (bit v b) (bit w b) rest) (λ p end. front (record { bits = b; names = p }) end))
 
-abbrev pub namedBy : List ℕ → Fields → Named
+abbrev pub namedBy : List ℕ → MarkedPair → Named
 namedBy sheet r = record { bits = r .bits; names = namesOf sheet (r .first) (r .second) }
 
-pub record FieldsRead (sheet : List ℕ) (at values v w : ℕ) (r : Fields) : Type 0 where
+pub record FieldsRead (sheet : List ℕ) (at values v w : ℕ) (r : MarkedPair) : Type 0 where
   pub read : ReadAt sheet (fieldsOf values v w (drop at sheet)) (r .ok) (namedBy sheet r) (r .next) (at + 513)
   pub firstEnds : r .first .from + r .first .len ≤ r .next
   pub secondEnds : r .second .from + r .second .len ≤ r .next

@@ -20,7 +20,7 @@ use Rattle.codec.specs.declared.structure.StructureSheet.{StructureSheet
 use Rattle.codec.specs.declared.structure.Member.{Member}
 use Rattle.codec.specs.declared.structure.Found.{Found}
 use Rattle.codec.specs.declared.structure.Found.the-variants.{At, Nothing}
-use Rattle.codec.specs.Field.{bytesAt, nameOf, ReadAt}
+use Rattle.codec.specs.Field.{bytesAt, spanName, ReadAt}
 
 -- the structure that a sheet says; where the sheet is broken it says none, and this is any
 abbrev pub saidBy : List ℕ → Structure
@@ -51,7 +51,7 @@ pub record MemberAt (sheet : List ℕ) (r : Member) (m : defined.Member) : Type 
   pub attribute : m .attribute ≡ r .attribute
   pub flattened : m .flattened ≡ r .flattened
   pub aggregate : m .aggregate ≡ r .aggregate
-  pub name : childName m ≡ nameOf sheet (r .name)
+  pub name : childName m ≡ spanName sheet (r .name)
   pub inside : r .name .from + r .name .len ≤ length sheet
 
 -- numbers stand for members, at each index
@@ -88,7 +88,7 @@ pub record StructureRead (sheet : List ℕ) (r : StructureSheet) : Type 0 where
 -- ---- resolving: "A member's index is its place from 0."
 -- whether a child's local name is the member's
 abbrev pub isMember : List ℕ → Member → List ℕ → Bool
-isMember sheet m local = isNamed (nameOf sheet (m .name)) local
+isMember sheet m local = isNamed (spanName sheet (m .name)) local
 
 -- the member that was found
 abbrev pub foundIn : List defined.Member → Found → Option Indexed
@@ -104,7 +104,7 @@ pub record Resolved (sheet members local : List ℕ) (r : Found) : Type 0 where
 -- the root's name of four: XML name, original name, member name, shape name
 pub record RootOf (xml original member shape r : Span) : Type 0 where
   pub name : (sheet : List ℕ)
-      → bytesAt sheet r ≡ Option·getD (orElse (nameOf sheet xml) (orElse (nameOf sheet original) (nameOf sheet member)))
+      → bytesAt sheet r ≡ Option·getD (orElse (spanName sheet xml) (orElse (spanName sheet original) (spanName sheet member)))
       (bytesAt sheet shape)
   pub inside : (n : ℕ) → xml .from + xml .len ≤ n → original .from + original .len ≤ n → member .from + member .len ≤ n
       → shape .from + shape .len ≤ n → r .from + r .len ≤ n

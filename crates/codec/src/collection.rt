@@ -5,7 +5,7 @@ ghost use Rattle.lists.specs.Bytes.{ascii, sameb};
 ghost use Rattle.sheet.specs.Names.{keyName, valueName};
 ghost use Rattle.codec.specs.Collection.{withThird, isWhole, ListSaid, ListRead, mapSaid, MapSaid, MapRead};
 ghost use Rattle.codec.specs.Collection.{ItemNamed, ItemsNamed, EntriesNamed};
-use crate::field::Fields;
+use crate::field::MarkedPair;
 use crate::field::Span;
 use crate::field::both;
 use crate::field::fields_at;
@@ -46,7 +46,7 @@ fn with_third(bits: usize, third: usize, a: usize, b: usize) -> bool
 }
 
 // Whether the fields that were read are a sheet: it ends with its last field, and two of its bits stand only with a third.
-fn is_whole(sheet: &[u8], f: Fields, third: usize, a: usize, b: usize) -> bool
+fn is_whole(sheet: &[u8], f: MarkedPair, third: usize, a: usize, b: usize) -> bool
     requires { ⌜ (0 < third) × (0 < a) × (0 < b) ⌝ }
     ensures { λ r. ⌜ r ≡ isWhole (now (sheet .entry)) f third a b ⌝ }
 {

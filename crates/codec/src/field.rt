@@ -7,7 +7,7 @@ ghost use Prim.Native.Nat.{_+_, _≤_, _<_};
 ghost use lib.ListN.{length};
 ghost use Rattle.lists.specs.Tests.{pick};
 ghost use Rattle.sheet.specs.Front.{bit};
-ghost use Rattle.codec.specs.Field.{Byte, bytesAt, nameOf, LengthRead, FieldRead, PairRead, FieldsRead, OrElse};
+ghost use Rattle.codec.specs.Field.{Byte, bytesAt, spanName, LengthRead, FieldRead, PairRead, FieldsRead, OrElse};
 
 // A name in a sheet: its place, and its length, 0 where there is no name.
 pub struct Span {
@@ -31,7 +31,7 @@ pub struct Pair {
 }
 
 // A bit map, two names that may follow it, and the place after them.
-pub struct Fields {
+pub struct MarkedPair {
     pub ok: bool,
     pub bits: usize,
     pub first: Span,
@@ -123,13 +123,13 @@ pub fn pair_at(sheet: &[u8], at: usize, first: bool, second: bool) -> Pair
 }
 
 // The bit map at a place, below so many values, and the names whose bits are those of two values.
-pub fn fields_at(sheet: &[u8], at: usize, values: usize, first: usize, second: usize) -> Fields
+pub fn fields_at(sheet: &[u8], at: usize, values: usize, first: usize, second: usize) -> MarkedPair
     requires { ⌜ at ≤ length (now sheet) ⌝ }
     requires { ⌜ (0 < first) × (0 < second) ⌝ }
     ensures { λ r. ⌜ FieldsRead (now (sheet .entry)) at values first second r ⌝ }
 {
     if sheet.len() <= at {
-        return Fields {
+        return MarkedPair {
             ok: false,
             bits: 0,
             first: Span { from: at, len: 0 },
@@ -141,7 +141,7 @@ pub fn fields_at(sheet: &[u8], at: usize, values: usize, first: usize, second: u
     let names = pair_at(sheet, at + 1, has_bit(bits, first), has_bit(bits, second));
     let a = names.first;
     let b = names.second;
-    Fields {
+    MarkedPair {
         ok: both(bits < values, names.ok),
         bits,
         first: a,
@@ -173,7 +173,7 @@ pub fn bytes_at(sheet: &[u8], name: Span) -> &[u8]
 // The bytes of a name, or what is given where there is none: constants such as b"member" are lent by the caller.
 pub fn name_or<'a>(sheet: &'a [u8], name: Span, otherwise: &'a [u8]) -> &'a [u8]
     requires { ⌜ name .from + name .len ≤ length (now sheet) ⌝ }
-    ensures { λ r. ⌜ now r ≡ Option·getD (nameOf (now (sheet .entry)) name) (now (otherwise .entry)) ⌝ }
+    ensures { λ r. ⌜ now r ≡ Option·getD (spanName (now (sheet .entry)) name) (now (otherwise .entry)) ⌝ }
 {
     if name.len == 0 {
         return otherwise;

@@ -4,7 +4,7 @@ ghost use mathlib.Core.Bool.{not};
 ghost use Prim.Native.Nat.{_+_, _-_};
 ghost use lib.Dec.{leb};
 ghost use Rattle.lists.specs.Tests.{pick};
-ghost use Rattle.codec.specs.Guard.{refuses, entered, left};
+ghost use Rattle.codec.specs.Guard.{atMaximum, entered, left};
 
 // The depth of shapes and its maximum, lent to enter and leave and changed by them.
 pub struct Guard {
@@ -41,7 +41,7 @@ fn shallower(depth: u32) -> u32
 
 // Enters an aggregate, one deeper; false, with the guard unchanged, where the depth is at or above the maximum (3).
 pub fn enter_aggregate(g: &mut Guard) -> bool
-    ensures { λ r. ⌜ (r ≡ not (refuses (now (g .entry)))) × (now (g .exit) ≡ entered (now (g .entry))) ⌝ }
+    ensures { λ r. ⌜ (r ≡ not (atMaximum (now (g .entry)))) × (now (g .exit) ≡ entered (now (g .entry))) ⌝ }
 {
     let depth = g.depth;
     let max = g.max;

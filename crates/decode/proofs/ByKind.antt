@@ -14,14 +14,14 @@ use Rattle.document.specs.Text.{textTurn}
 use Rattle.document.specs.View.{isError}
 use Rattle.document.specs.Tags.{mayStand, inTagAfter}
 
-pub record Does (kind : ℕ) (u : Tok) : Type 0 where
+pub record ByKind (kind : ℕ) (u : Tok) : Type 0 where
   -- no start, close tag or `/>`: it keeps the depth
   pub depth : (kind ≡ 1 → ⊥) → (kind ≡ 4 → ⊥) → (kind ≡ 5 → ⊥) → (d : Depth) → depthAfter u d ≡ d
   -- no close tag: it ends no scope
   pub ends : (kind ≡ 4 → ⊥) → (s : Scope) (d : Depth) → endsAt s d u ≡ false
-  -- no start and no text: the first text comes after it, unless it ends the scope
-  pub text : (kind ≡ 1 → ⊥) → (kind ≡ 6 → ⊥) → (s : Scope) (d : Depth) (more : Answer (List ℕ))
-      → textTurn s d u more ≡ pick (endsAt s d u) (gives []) more
+  -- no start and no text: the text goes on after it, unless it ends the scope
+  pub text : (kind ≡ 1 → ⊥) → (kind ≡ 6 → ⊥) → (take : List ℕ → Answer (List ℕ) → Answer (List ℕ)) (s : Scope) (d : Depth)
+      → (more : Answer (List ℕ)) → textTurn take s d u more ≡ pick (endsAt s d u) (gives []) more
   -- no start, outside of start tags: so does the next start element, and it stays outside
   pub seek : (kind ≡ 1 → ⊥) → mayStand u false ≡ true → (s : Scope) (o : StartEl) (d : Depth) (k : ℕ)
       → (turn s o d k u ≡ onClose o (endsAt s (depthAfter u d) u)) × (inTagAfter u false ≡ false)
@@ -30,13 +30,13 @@ pub record Does (kind : ℕ) (u : Tok) : Type 0 where
   -- a token error is of kind 8
   pub error : 1 ≤ kind → kind ≤ 8 → isError u ≡ true → kind ≡ 8
 
-pub other : (kind : ℕ) (m : Name) (v : List ℕ) → Does kind (tokAs kind m v)
+pub other : (kind : ℕ) (m : Name) (v : List ℕ) → ByKind kind (tokAs kind m v)
 unfolding tokAs
 other zero m v =
     record {
       depth = λ a b c d. refl;
       ends = λ a s d. refl;
-      text = λ a b s d more. refl;
+      text = λ a b x s d more. refl;
       seek = λ a e s o d i. (refl, refl);
       inside = λ a b c e. refl;
       error = λ l h e. absurd (omega arith);
@@ -45,7 +45,7 @@ other (suc zero) m v =
     record {
       depth = λ a b c d. absurd (a refl);
       ends = λ a s d. refl;
-      text = λ a b s d more. absurd (a refl);
+      text = λ a b x s d more. absurd (a refl);
       seek = λ a e s o d i. absurd (a refl);
       inside = λ a b c e. false-true e;
       error = λ l h e. false-true e;
@@ -54,7 +54,7 @@ other (suc (suc zero)) m v =
     record {
       depth = λ a b c d. refl;
       ends = λ a s d. refl;
-      text = λ a b s d more. refl;
+      text = λ a b x s d more. refl;
       seek = λ a e s o d i. false-true e;
       inside = λ a b c e. absurd (a refl);
       error = λ l h e. false-true e;
@@ -63,7 +63,7 @@ other (suc (suc (suc zero))) m v =
     record {
       depth = λ a b c d. refl;
       ends = λ a s d. refl;
-      text = λ a b s d more. refl;
+      text = λ a b x s d more. refl;
       seek = λ a e s o d i. false-true e;
       inside = λ a b c e. absurd (b refl);
       error = λ l h e. false-true e;
@@ -72,7 +72,7 @@ other (suc (suc (suc (suc zero)))) m v =
     record {
       depth = λ a b c d. absurd (b refl);
       ends = λ a s d. absurd (a refl);
-      text = λ a b s d more. refl;
+      text = λ a b x s d more. refl;
       seek = λ a e s o d i. (refl, refl);
       inside = λ a b c e. false-true e;
       error = λ l h e. false-true e;
@@ -81,7 +81,7 @@ other (suc (suc (suc (suc (suc zero))))) m v =
     record {
       depth = λ a b c d. absurd (c refl);
       ends = λ a s d. refl;
-      text = λ a b s d more. refl;
+      text = λ a b x s d more. refl;
       seek = λ a e s o d i. false-true e;
       inside = λ a b c e. absurd (c refl);
       error = λ l h e. false-true e;
@@ -90,7 +90,7 @@ other (suc (suc (suc (suc (suc (suc zero)))))) m v =
     record {
       depth = λ a b c d. refl;
       ends = λ a s d. refl;
-      text = λ a b s d more. absurd (b refl);
+      text = λ a b x s d more. absurd (b refl);
       seek = λ a e s o d i. (refl, refl);
       inside = λ a b c e. false-true e;
       error = λ l h e. false-true e;
@@ -99,7 +99,7 @@ other (suc (suc (suc (suc (suc (suc (suc zero))))))) m v =
     record {
       depth = λ a b c d. refl;
       ends = λ a s d. refl;
-      text = λ a b s d more. refl;
+      text = λ a b x s d more. refl;
       seek = λ a e s o d i. (refl, refl);
       inside = λ a b c e. false-true e;
       error = λ l h e. false-true e;
@@ -108,7 +108,7 @@ other (suc (suc (suc (suc (suc (suc (suc (suc k)))))))) m v =
     record {
       depth = λ a b c d. refl;
       ends = λ a s d. refl;
-      text = λ a b s d more. refl;
+      text = λ a b x s d more. refl;
       seek = λ a e s o d i. (refl, refl);
       inside = λ a b c e. refl;
       error = λ l h e. omega arith;

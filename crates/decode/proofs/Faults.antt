@@ -13,13 +13,14 @@ use Rattle.lists.specs.Tests.{pick}
 use Rattle.lists.proofs.Tests.{false-true}
 use Rattle.reference.specs.Text.{validated}
 use Rattle.reference.proofs.Result.{plain-valid}
+use Rattle.reference.proofs.Grammar.{validated-none}
 use Rattle.reference.specs.declared.Validated.{Validated}
 use Rattle.table.specs.Row.{Name, cut, tokAs}
-use Rattle.xml.specs.Drain.{sameName, seen}
+use Rattle.xml.specs.Drain.{sameName, hasName}
 use Rattle.xml.specs.declared.Cause.{Cause}
 use Rattle.decode.specs.declared.drain.Fault.{Fault}
 use Rattle.decode.specs.Rows.{InTable, Readable, nameAt, valueAt, tokAt}
-use Rattle.decode.specs.Drain.{namesBack, asFault, valueFault, isValid, valuePasses, faultIf, LiesIn, faultOf, Placed}
+use Rattle.decode.specs.Drain.{namesBack, asFault, valueFault, isValid, valuePasses, faultIf, LiesIn, faultOf, WellPlaced}
 use Rattle.decode.proofs.Names.{value-span}
 
 -- ---- a name that repeats
@@ -27,7 +28,7 @@ use Rattle.decode.proofs.Names.{value-span}
 pub record RepeatAt (body t : List ℕ) (tag k j : ℕ) : Type 0 where
   pub low : tag < j
   pub high : j ≤ k
-  pub rest : seen (nameAt body t k) (namesBack body t tag j) ≡ seen (nameAt body t k) (namesBack body t tag k)
+  pub rest : hasName (nameAt body t k) (namesBack body t tag j) ≡ hasName (nameAt body t k) (namesBack body t tag k)
 
 pub repeat-start : (body t : List ℕ) (tag k : ℕ) → tag < k → RepeatAt body t tag k k
 repeat-start body t tag k h = record { low = h; high = omega arith; rest = refl }
@@ -39,21 +40,21 @@ module _ {body t : List ℕ} {tag k j : ℕ} (at : RepeatAt body t tag k j) (h :
   names-first : namesBack body t tag j ≡ nameAt body t (j - 1) ∷ namesBack body t tag (j - 1)
   names-first = let e : j - (tag + 1) ≡ suc ((j - 1) - (tag + 1)) = omega arith in rw e
 
-  first-seen : seen (nameAt body t k) (namesBack body t tag j)
-      ≡ pick (sameName (nameAt body t k) (nameAt body t (j - 1))) true (seen (nameAt body t k) (namesBack body t tag (j - 1)))
-  unfolding seen
-  first-seen = ap (seen (nameAt body t k)) names-first
+  first-seen : hasName (nameAt body t k) (namesBack body t tag j)
+      ≡ pick (sameName (nameAt body t k) (nameAt body t (j - 1))) true (hasName (nameAt body t k) (namesBack body t tag (j - 1)))
+  unfolding hasName
+  first-seen = ap (hasName (nameAt body t k)) names-first
 
   module _ {u : Bool} (e : u ≡ sameName (nameAt body t k) (nameAt body t (j - 1))) where
-    pub repeat-yes : u ≡ true → true ≡ seen (nameAt body t k) (namesBack body t tag k)
+    pub repeat-yes : u ≡ true → true ≡ hasName (nameAt body t k) (namesBack body t tag k)
     repeat-yes q = rw (← at .rest, first-seen, ← e, q)
 
     pub repeat-no : u ≡ false → RepeatAt body t tag k (j - 1)
     repeat-no q = record { low = omega arith; high = omega (arith, at .high); rest = sym (rw (← e, q) at first-seen) ∙ at .rest }
 
 pub repeat-end : {body t : List ℕ} {tag k j : ℕ} → RepeatAt body t tag k j → j ≤ tag + 1
-    → false ≡ seen (nameAt body t k) (namesBack body t tag k)
-unfolding seen
+    → false ≡ hasName (nameAt body t k) (namesBack body t tag k)
+unfolding hasName
 repeat-end {body} {t} {tag} {k} {j} at h = let e : j - (tag + 1) ≡ 0 = omega arith in rw (← at .rest, e)
 
 pub ruleset repeat-laws = (needs, repeat-start, repeat-in, repeat-yes, repeat-no, repeat-end)
@@ -120,17 +121,17 @@ pub ruleset plain-laws = (needs, plain-none, plain-next, value-start, lies-not, 
 
 -- ---- the fault of one row
 module _ (body t : List ℕ) (top : Name) (names : List Name) (k : ℕ) {kind : ℕ} (e : kind ≡ getD t (k * 8 + 0) 0) where
-  pub fault-repeated : {u : Bool} → kind ≡ 2 → u ≡ seen (nameAt body t k) names → u ≡ true
+  pub fault-repeated : {u : Bool} → kind ≡ 2 → u ≡ hasName (nameAt body t k) names → u ≡ true
       → Fault.Is Cause.RepeatedAttribute ≡ faultOf top names (tokAt body t k)
   unfolding tokAs
   fault-repeated h q g = rw (← e, h, ← q, g)
 
-  pub fault-value : {u v : Bool} {f : Fault} → kind ≡ 2 → u ≡ seen (nameAt body t k) names → u ≡ false → v ≡ valuePasses (valueAt body t k)
+  pub fault-value : {u v : Bool} {f : Fault} → kind ≡ 2 → u ≡ hasName (nameAt body t k) names → u ≡ false → v ≡ valuePasses (valueAt body t k)
       → f ≡ faultIf v → f ≡ faultOf top names (tokAt body t k)
   unfolding tokAs
   fault-value h q g o p = rw (← e, h, ← q, g, ← fault-if (valueAt body t k), ← o) p
 
-  pub fault-plain : {u v : Bool} {low high : ℕ} → kind ≡ 2 → u ≡ seen (nameAt body t k) names → u ≡ false → Clear body 38 low high
+  pub fault-plain : {u v : Bool} {low high : ℕ} → kind ≡ 2 → u ≡ hasName (nameAt body t k) names → u ≡ false → Clear body 38 low high
       → LiesIn t k low high v → v ≡ true
       → Fault.Nothing ≡ faultOf top names (tokAt body t k)
   unfolding tokAs
@@ -160,7 +161,7 @@ module _ (body t : List ℕ) (top : Name) (names : List Name) (k : ℕ) {kind : 
   unfolding tokAs
   fault-token h = rw (← e, h)
 
-  pub fault-none : {tag : ℕ} → Placed t tag k → (kind ≡ 2 → ⊥) → (kind ≡ 4 → ⊥) → (kind ≡ 6 → ⊥) → (kind ≡ 8 → ⊥)
+  pub fault-none : {tag : ℕ} → WellPlaced t tag k → (kind ≡ 2 → ⊥) → (kind ≡ 4 → ⊥) → (kind ≡ 6 → ⊥) → (kind ≡ 8 → ⊥)
       → Fault.Nothing ≡ faultOf top names (tokAt body t k)
   unfolding tokAs
   fault-none p a b c d = rw (← e) (go kind (omega (arith, p .least)) (omega (arith, p .most)) a b c d)
@@ -174,11 +175,11 @@ module _ (body t : List ℕ) (top : Name) (names : List Name) (k : ℕ) {kind : 
       go (suc (suc (suc (suc zero)))) l m a b c d = absurd (b refl)
       go (suc (suc (suc (suc (suc zero))))) l m a b c d = refl
       go (suc (suc (suc (suc (suc (suc zero)))))) l m a b c d = absurd (c refl)
-      go (suc (suc (suc (suc (suc (suc (suc zero))))))) l m a b c d = refl
+      go (suc (suc (suc (suc (suc (suc (suc zero))))))) l m a b c d = rw validated-none
       go (suc (suc (suc (suc (suc (suc (suc (suc zero)))))))) l m a b c d = absurd (d refl)
       go (suc (suc (suc (suc (suc (suc (suc (suc (suc i))))))))) l m a b c d = absurd (omega arith)
 
-pub placed-after : {t : List ℕ} {tag k kind : ℕ} → Placed t tag k → kind ≡ getD t (k * 8 + 0) 0 → kind ≡ 2 → tag < k
+pub placed-after : {t : List ℕ} {tag k kind : ℕ} → WellPlaced t tag k → kind ≡ getD t (k * 8 + 0) 0 → kind ≡ 2 → tag < k
 placed-after p e h = p .inTag (sym e ∙ h)
 
 pub ruleset fault-laws = (

@@ -8,11 +8,12 @@ use native.Mathlib.Omega.{arith}
 use borrow.Author.Needs.{needs}
 use borrow.Author.Tests.{eq-eqb, ne-eqb}
 use lib.ListN.{getD}
+use Rattle.lists.proofs.Tests.{less-is}
 use Rattle.table.specs.Row.{Tok, tokAs, toksOf}
 use Rattle.table.proofs.Flat.{unroll, rolled-out}
 use Rattle.xml.specs.Drain.{sameName}
 use Rattle.document.specs.declared.Depth.{Depth}
-use Rattle.document.specs.Reader.{depth, less, isEnd, endsAt}
+use Rattle.document.specs.Reader.{depth, isEnd, endsAt}
 use Rattle.document.specs.Tags.{mayStand, inTagAfter, Tags, token}
 use Rattle.decode.specs.declared.reader.ScopeRow.{ScopeRow}
 use Rattle.decode.specs.declared.reader.StartRow.{StartRow}
@@ -53,29 +54,15 @@ scope-seen q p h = record { readable = q .readable; row = row-seen q h; scope = 
 pub start-scope : {body t : List ℕ} {n : ℕ} {s : StartRow} → Sees body t n → StartIn body t n s → InTable t (s .row)
 start-scope q i = row-seen q (omega (arith, i .low, i .high))
 
--- ---- one less
-pub less-zero : (d : ℕ) → d ≡ 0 → 0 ≡ less d
-less-zero d e = rw e
-
-pub less-suc : (d : ℕ) → (d ≡ 0 → ⊥) → d - 1 ≡ less d
-less-suc zero h = absurd (h refl)
-less-suc (suc d) h = omega arith
-
-pub ruleset less-laws = (needs, less-zero, less-suc)
-
 -- ---- the depth after a row
-less-low : (d : ℕ) → less d ≤ d
-less-low zero = omega arith
-less-low (suc d) = omega arith
-
 module _ (kind d : ℕ) where
-  pub after-close : {r : ℕ} → r ≡ less d → kind ≡ 4 → DepthIs kind d r
+  pub after-close : {r : ℕ} → r ≡ d - 1 → kind ≡ 4 → DepthIs kind d r
   unfolding tokAs
-  after-close e q = record { is = λ a m v. rw (q, e); low = rw e (less-low d) }
+  after-close e q = record { is = λ a m v. rw (q, e, less-is d); low = omega (arith, e) }
 
-  pub after-slash : {r : ℕ} → r ≡ less d → kind ≡ 5 → DepthIs kind d r
+  pub after-slash : {r : ℕ} → r ≡ d - 1 → kind ≡ 5 → DepthIs kind d r
   unfolding tokAs
-  after-slash e q = record { is = λ a m v. rw (q, e); low = rw e (less-low d) }
+  after-slash e q = record { is = λ a m v. rw (q, e, less-is d); low = omega (arith, e) }
 
   pub after-other : (kind ≡ 4 → ⊥) → (kind ≡ 5 → ⊥) → DepthIs kind d d
   after-other b c = record { is = λ a m v. other kind m v .depth a b c (depth d); low = omega arith }

@@ -11,7 +11,7 @@ use Rattle.refusal.specs.declared.Refusal.{Refusal}
 use Rattle.refusal.specs.Answer.{Answer, gives}
 use Rattle.table.specs.Row.{Tok, tokAs}
 use Rattle.document.specs.Reader.{depth, depthAfter, endsAt}
-use Rattle.document.specs.Text.{atEnd, textTurn, firstText, textOf}
+use Rattle.document.specs.Text.{atEnd, textTurn, takeFirst, firstText, textOf}
 use Rattle.document.proofs.Laws.Steps.{first-text-end, first-text-token}
 use Rattle.decode.specs.declared.reader.ScopeRow.{ScopeRow}
 use Rattle.decode.specs.declared.reader.Cursor.{Cursor}
@@ -58,7 +58,7 @@ module _ {body t : List ℕ} {n : ℕ} {f : Failure} {s : ScopeRow} {d₀ k₀ d
   module _ (h : k < n) {kind : ℕ} (g : kind ≡ getD t (k * 8 + 0) 0) where
     -- what one row does
     turned : (u : Tok) → tokAt body t k ≡ u
-        → textTurn (scopeAt body t s) (depthAfter u (depth d)) u (firstFrom body t n f s (depthAfter u (depth d)) (suc k)) ≡ answer
+        → textTurn takeFirst (scopeAt body t s) (depthAfter u (depth d)) u (firstFrom body t n f s (depthAfter u (depth d)) (suc k)) ≡ answer
     turned u e =
         sym (first-text-token (failureAt f) (scopeAt body t s) (depth d) u (toksFrom body t n (suc k)))
         ∙ (ap (firstText (failureAt f) (scopeAt body t s) (depth d)) (sym (rw (e, add-one k) at (toks-next body t n k h))) ∙ w .rest)
@@ -80,8 +80,8 @@ module _ {body t : List ℕ} {n : ℕ} {f : Failure} {s : ScopeRow} {d₀ k₀ d
           let y : depthAfter (tokAt body t k) (depth d) ≡ depth e = rw (← g) (x .is b m v) in
           let more = firstFrom body t n f s (depth e) (suc k) in
           let u = tokAt body t k in
-          let z : textTurn (scopeAt body t s) (depth e) u more ≡ pick (endsAt (scopeAt body t s) (depth e) u) (gives []) more
-          = rw (← g) (other kind m v .text b a (scopeAt body t s) (depth e) more) in
+          let z : textTurn takeFirst (scopeAt body t s) (depth e) u more ≡ pick (endsAt (scopeAt body t s) (depth e) u) (gives []) more
+          = rw (← g) (other kind m v .text b a takeFirst (scopeAt body t s) (depth e) more) in
           rw i (sym z ∙ rw y at (turned u refl))
 
       pub text-on : r ≡ false → TextFrom body t n f s d₀ k₀ e (k + 1)

@@ -18,21 +18,21 @@ use Rattle.lists.proofs.Tests.{false-true}
 use Rattle.lists.specs.Decide.{isYes}
 use Rattle.reference.specs.Text.{validated}
 use Rattle.reference.specs.declared.Validated.{Validated}
-use Rattle.table.specs.Row.{Row, Name, Tok, start, attr, gt, close, slash, text, misc, bad, tokAs, toksOf, rowsOf}
+use Rattle.table.specs.Row.{Row, Name, Tok, start, attr, gt, close, slash, matter, referencesIn, bad, tokAs, toksOf, rowsOf}
 use Rattle.table.specs.Rules.{among, Place, atFirst, after, RowRules, EachRow, row, TableRules}
 use Rattle.table.specs.Test.{decTable}
 use Rattle.table.proofs.Test.{first}
 use Rattle.table.proofs.Pass.{obeyed}
 use Rattle.table.specs.Flat.{rowAt, rowsFrom}
 use Rattle.table.proofs.Flat.{length-rows, rows-same, rows-whole, unroll, rolled-out, spans-in}
-use Rattle.xml.specs.Drain.{sameName, seen, drainedBy, drained, State, going, failed, withValue, withAttribute, popped, step, walk, verdict}
+use Rattle.xml.specs.Drain.{sameName, hasName, drainedBy, drained, State, going, failed, withValue, withAttribute, popped, step, walk, verdict}
 use Rattle.xml.specs.Drain.{walked}
 use Rattle.xml.specs.Passed.{openAfter, namesAfter}
 use Rattle.xml.specs.declared.Cause.{Cause}
 use Rattle.xml.specs.declared.Drained.{Drained}
 use Rattle.decode.specs.declared.drain.Fault.{Fault}
 use Rattle.decode.specs.Rows.{InTable, nameAt, valueAt, tokAt}
-use Rattle.decode.specs.Drain.{namesBack, asFault, valueFault, faultOf, Placed, topOf, Walkable}
+use Rattle.decode.specs.Drain.{namesBack, asFault, valueFault, faultOf, WellPlaced, topOf, Walkable}
 use Rattle.decode.proofs.Faults.{plain-none}
 
 -- ---- the open elements, by the rows in which they start
@@ -80,8 +80,7 @@ Topped top s (attr m v) = Unit {0}
 Topped top s gt = Unit {0}
 Topped top s (close m) = (l : List Name) × (s ≡ top ∷ l)
 Topped top s slash = Unit {0}
-Topped top s (text v) = Unit {0}
-Topped top s misc = Unit {0}
+Topped top s (matter b) = Unit {0}
 Topped top s bad = Unit {0}
 
 no-fault {ℓ} : {A : Type ℓ} {c : Cause} → Fault.Is c ≡ Fault.Nothing → A
@@ -109,7 +108,7 @@ step-going : (k : ℕ) (top : Name) (s a : List Name) (t : Tok) → Topped top s
     → step k s a t ≡ going (openAfter s t) (namesAfter a t)
 unfolding Topped
 step-going k top s a (start n) h e = refl
-step-going k top s a (attr m v) h e = go (seen m a) e
+step-going k top s a (attr m v) h e = go (hasName m a) e
   where
     go : (u : Bool) → pick u (Fault.Is Cause.RepeatedAttribute) (valueFault v) ≡ Fault.Nothing
         → withAttribute u k (withValue (validated v) k (going s (m ∷ a))) ≡ going s (m ∷ a)
@@ -122,10 +121,8 @@ step-going k top s a (close m) h e = rw (h .1) (go (sameName m top) e)
         → pick u (going (h .0) a) (failed k Cause.MismatchedEnd) ≡ going (h .0) a
     go true e = refl
     go false e = no-fault e
-step-going k top [] a slash h e = refl
-step-going k top (n ∷ s) a slash h e = refl
-step-going k top s a (text v) h e = value-going v k (going s a) e
-step-going k top s a misc h e = refl
+step-going k top s a slash h e = refl
+step-going k top s a (matter b) h e = value-going (referencesIn b) k (going s a) e
 step-going k top s a bad h e = no-fault e
 
 -- and one with a fault fails
@@ -133,7 +130,7 @@ step-failed : (k : ℕ) (top : Name) (s a : List Name) (t : Tok) {c : Cause} →
     → step k s a t ≡ failed k c
 unfolding Topped
 step-failed k top s a (start n) h e = is-fault e
-step-failed k top s a (attr m v) {c} h e = go (seen m a) e
+step-failed k top s a (attr m v) {c} h e = go (hasName m a) e
   where
     go : (u : Bool) → pick u (Fault.Is Cause.RepeatedAttribute) (valueFault v) ≡ Fault.Is c
         → withAttribute u k (withValue (validated v) k (going s (m ∷ a))) ≡ failed k c
@@ -147,8 +144,7 @@ step-failed k top s a (close m) {c} h e = rw (h .1) (go (sameName m top) e)
     go true e = is-fault e
     go false e = let q : Cause.MismatchedEnd ≡ c = cc in rw q
 step-failed k top s a slash h e = is-fault e
-step-failed k top s a (text v) h e = value-failed v k (going s a) e
-step-failed k top s a misc h e = is-fault e
+step-failed k top s a (matter b) h e = value-failed (referencesIn b) k (going s a) e
 step-failed k top s a bad {c} h e = let q : Cause.TokenError ≡ c = cc in rw q
 
 walk-failed : (j k : ℕ) (c : Cause) (l : List Tok) → walk j (failed k c) l ≡ failed k c
@@ -198,7 +194,7 @@ pub record WalkAt (body t : List ℕ) (n : ℕ) (opened : List ℕ) (depth tag k
   pub within : k ≤ n
   pub place : Place
   pub each : EachRow body place (rowsFrom t k (n - k))
-  pub deep : place .opened ≡ depth
+  pub deep : place .nesting ≡ depth
   pub limit : depth ≤ 256
   pub size : length opened ≡ 256
   pub rowsIn : (d : ℕ) → d < depth → getD opened d 0 < k
@@ -247,7 +243,7 @@ module _ {body t : List ℕ} {n : ℕ} {opened : List ℕ} {depth tag k : ℕ} (
       go zero f = record { row = omega (arith, w .count) }
       go (suc d) f = record { row = omega (arith, w .count, f d (omega arith)) }
 
-  pub row-placed : Placed t tag k
+  pub row-placed : WellPlaced t tag k
   row-placed =
       record {
         least = here .knownKind .0;
@@ -325,7 +321,7 @@ module _ {body t : List ℕ} {n : ℕ} {opened : List ℕ} {depth tag k : ℕ} (
 
       -- the element is closed: by kind 4 or 5
       closed-walk : (c : ℕ) → getD t (k * 8 + 0) 0 ≡ c → 0 < depth
-          → (after (w .place) (rowAt t k)) .opened ≡ depth - 1 → ((after (w .place) (rowAt t k)) .inTag ≡ true → ⊥)
+          → (after (w .place) (rowAt t k)) .nesting ≡ depth - 1 → ((after (w .place) (rowAt t k)) .inTag ≡ true → ⊥)
           → openAfter (stackOf body t opened depth) (tokAt body t k) ≡ stackOf body t opened (depth - 1)
           → namesAfter (w .names) (tokAt body t k) ≡ w .names
           → WalkAt body t n opened (depth - 1) tag (k + 1)
@@ -353,20 +349,12 @@ module _ {body t : List ℕ} {n : ℕ} {opened : List ℕ} {depth tag k : ℕ} (
       popped-stack zero l = absurd (omega arith)
       popped-stack (suc d) l = let z : suc d - 1 ≡ d = omega arith in rw z
 
-      after-close : (s : List Name) (m : Name) → openAfter s (close m) ≡ popped s
-      after-close [] m = refl
-      after-close (x ∷ s) m = refl
-
-      after-slash : (s : List Name) → openAfter s slash ≡ popped s
-      after-slash [] = refl
-      after-slash (x ∷ s) = refl
-
       by-close : getD t (k * 8 + 0) 0 ≡ 4 → WalkAt body t n opened (depth - 1) tag (k + 1)
       unfolding tokAs
       by-close i =
           let d : 0 < depth = open-before .0 i in
           closed-walk 4 i d (rw i (omega (arith, w .deep))) (λ x. outside (rw i at x))
-          (rw (i, tokAs) (after-close (stackOf body t opened depth) (nameAt body t k) ∙ popped-stack depth d)) (rw (i, tokAs))
+          (rw (i, tokAs) (popped-stack depth d)) (rw (i, tokAs))
         where
           outside : w .place .inTag ≡ true → ⊥
           outside x = false-true (rw i at (here .tagOrder .inside x))
@@ -376,7 +364,7 @@ module _ {body t : List ℕ} {n : ℕ} {opened : List ℕ} {depth tag k : ℕ} (
       by-slash i =
           let d : 0 < depth = open-before .1 i in
           closed-walk 5 i d (rw i (omega (arith, w .deep))) (λ x. false-true (rw i at x))
-          (rw (i, tokAs) (after-slash (stackOf body t opened depth) ∙ popped-stack depth d)) (rw (i, tokAs))
+          (rw (i, tokAs) (popped-stack depth d)) (rw (i, tokAs))
 
       -- a close tag and `/>` close the innermost element
       pub walk-close : kind ≡ 4 → WalkAt body t n opened (depth - 1) tag (k + 1)
@@ -386,7 +374,7 @@ module _ {body t : List ℕ} {n : ℕ} {opened : List ℕ} {depth tag k : ℕ} (
       walk-slash i = by-slash (sym f ∙ i)
 
       -- a row that opens and closes nothing
-      other-walk : (names : List Name) → (after (w .place) (rowAt t k)) .opened ≡ depth
+      other-walk : (names : List Name) → (after (w .place) (rowAt t k)) .nesting ≡ depth
           → ((after (w .place) (rowAt t k)) .inTag ≡ true → w .place .inTag ≡ true)
           → ((after (w .place) (rowAt t k)) .inTag ≡ true → names ≡ namesBack body t tag (k + 1))
           → openAfter (stackOf body t opened depth) (tokAt body t k) ≡ stackOf body t opened depth

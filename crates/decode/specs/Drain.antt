@@ -7,9 +7,9 @@ use lib.ListN.{length, getD}
 use Rattle.lists.specs.Tests.{pick}
 use Rattle.reference.specs.Text.{validated}
 use Rattle.reference.specs.declared.Validated.{Validated}
-use Rattle.table.specs.Row.{Name, Tok, start, attr, gt, close, slash, text, misc, bad, rowsOf}
+use Rattle.table.specs.Row.{Name, Tok, start, attr, gt, close, slash, matter, referencesIn, bad, rowsOf}
 use Rattle.table.specs.Rules.{atFirst, EachRow}
-use Rattle.xml.specs.Drain.{sameName, seen}
+use Rattle.xml.specs.Drain.{sameName, hasName}
 use Rattle.xml.specs.declared.Cause.{Cause}
 use Rattle.decode.specs.declared.drain.Fault.{Fault}
 use Rattle.decode.specs.Rows.{Readable, nameAt}
@@ -48,16 +48,15 @@ pub record LiesIn (t : List ℕ) (k low high : ℕ) (r : Bool) : Type 0 where
 -- ---- what is wrong with a token: top is the name of the innermost open element, names are the attribute names of the start tag so far
 abbrev pub faultOf : Name → List Name → Tok → Fault
 faultOf top names (start n) = Fault.Nothing
-faultOf top names (attr m v) = pick (seen m names) (Fault.Is Cause.RepeatedAttribute) (valueFault v)
+faultOf top names (attr m v) = pick (hasName m names) (Fault.Is Cause.RepeatedAttribute) (valueFault v)
 faultOf top names gt = Fault.Nothing
 faultOf top names (close m) = pick (sameName m top) Fault.Nothing (Fault.Is Cause.MismatchedEnd)
 faultOf top names slash = Fault.Nothing
-faultOf top names (text v) = valueFault v
-faultOf top names misc = Fault.Nothing
+faultOf top names (matter b) = valueFault (referencesIn b)
 faultOf top names bad = Fault.Is Cause.TokenError
 
 -- row k has a kind, and where it is an attribute it stands after the start row `tag`
-pub record Placed (t : List ℕ) (tag k : ℕ) : Type 0 where
+pub record WellPlaced (t : List ℕ) (tag k : ℕ) : Type 0 where
   pub least : 1 ≤ getD t (k * 8 + 0) 0
   pub most : getD t (k * 8 + 0) 0 ≤ 8
   pub inTag : getD t (k * 8 + 0) 0 ≡ 2 → tag < k

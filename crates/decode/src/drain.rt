@@ -2,14 +2,24 @@
 ghost use Prim.Native.Nat.{_<_, _≤_};
 ghost use mathlib.Core.Path.{_≡_};
 ghost use Rattle.decode.specs.Rows.{InTable, Readable, nameAt, tokAt, valueAt};
-ghost use Rattle.decode.specs.Drain.{LiesIn, Placed, Walkable, faultIf, faultOf, namesBack, topOf, valuePasses};
+ghost use Rattle.decode.specs.Drain.{LiesIn, WellPlaced, Walkable, faultIf, faultOf, namesBack, topOf, valuePasses};
+ghost use Rattle.lists.specs.Characters.{ampersand};
 ghost use Rattle.lists.specs.Find.{Clear};
 ghost use Rattle.table.specs.Row.{rowsOf, toksOf};
-ghost use Rattle.xml.specs.Drain.{drained, seen, walked};
+ghost use Rattle.xml.specs.Drain.{drained, hasName, walked};
 use crate::name::same_name;
 use crate::name::span;
 use reference::Validated;
 use table::field;
+use table::kind::ATTRIBUTE;
+use table::kind::CLOSE;
+use table::kind::ERROR;
+use table::kind::SLASH;
+use table::kind::START;
+use table::kind::TEXT;
+use table::number::KIND;
+use table::number::VALUE;
+use table::number::VALUE_LEN;
 use xml::Cause;
 use xml::Drained;
 
@@ -23,7 +33,7 @@ pub enum Fault {
 fn is_repeated(body: &[u8], rows: &[u32], tag: usize, k: usize) -> bool
     requires { ⌜ Readable (now body) (now rows) ⌝ }
     requires { ⌜ InTable (now rows) k × (tag < k) ⌝ }
-    ensures { λ r. ⌜ r ≡ seen (nameAt (now (body .entry)) (now (rows .entry)) k)
+    ensures { λ r. ⌜ r ≡ hasName (nameAt (now (body .entry)) (now (rows .entry)) k)
         (namesBack (now (body .entry)) (now (rows .entry)) tag k) ⌝ }
 {
     let mut j = k;
@@ -42,7 +52,7 @@ fn references_pass(body: &[u8], rows: &[u32], k: usize) -> bool
     requires { ⌜ InTable (now rows) k ⌝ }
     ensures { λ r. ⌜ r ≡ valuePasses (valueAt (now (body .entry)) (now (rows .entry)) k) ⌝ }
 {
-    match unescape::validate_references(span(body, rows, k, 5)) {
+    match unescape::validate_references(span(body, rows, k, VALUE)) {
         Validated::Valid => true,
         Validated::BadReference => false,
     }
@@ -58,10 +68,10 @@ struct Plain {
 fn plain_for(body: &[u8], rows: &[u32], k: usize, plain: Plain) -> Plain
     requires { ⌜ Readable (now body) (now rows) ⌝ }
     requires { ⌜ InTable (now rows) k ⌝ }
-    requires { ⌜ Clear (now body) 38 (plain .from) (plain .to) ⌝ }
-    ensures { λ r. ⌜ Clear (now (body .entry)) 38 (r .from) (r .to) ⌝ }
+    requires { ⌜ Clear (now body) ampersand (plain .from) (plain .to) ⌝ }
+    ensures { λ r. ⌜ Clear (now (body .entry)) ampersand (r .from) (r .to) ⌝ }
 {
-    let from = field(rows, k, 5);
+    let from = field(rows, k, VALUE);
     if plain.to < from {
         let to = slices::find(body, from, b'&');
         return Plain { from, to };
@@ -74,14 +84,14 @@ fn lies_in(rows: &[u32], k: usize, plain: Plain) -> bool
     requires { ⌜ InTable (now rows) k ⌝ }
     ensures { λ r. ⌜ LiesIn (now (rows .entry)) k (plain .from) (plain .to) r ⌝ }
 {
-    let from = field(rows, k, 5);
+    let from = field(rows, k, VALUE);
     if from < plain.from {
         return false;
     }
     if plain.to < from {
         return false;
     }
-    if plain.to - from < field(rows, k, 6) {
+    if plain.to - from < field(rows, k, VALUE_LEN) {
         return false;
     }
     true
@@ -101,13 +111,13 @@ fn value_fault(passes: bool) -> Fault
 fn row_fault(body: &[u8], rows: &[u32], k: usize, tag: usize, top: usize, plain: Plain) -> Fault
     requires { ⌜ Readable (now body) (now rows) ⌝ }
     requires { ⌜ InTable (now rows) k × InTable (now rows) top ⌝ }
-    requires { ⌜ Placed (now rows) tag k ⌝ }
-    requires { ⌜ Clear (now body) 38 (plain .from) (plain .to) ⌝ }
+    requires { ⌜ WellPlaced (now rows) tag k ⌝ }
+    requires { ⌜ Clear (now body) ampersand (plain .from) (plain .to) ⌝ }
     ensures { λ r. ⌜ r ≡ faultOf (nameAt (now (body .entry)) (now (rows .entry)) top)
         (namesBack (now (body .entry)) (now (rows .entry)) tag k) (tokAt (now (body .entry)) (now (rows .entry)) k) ⌝ }
 {
-    let kind = field(rows, k, 0);
-    if kind == 2 {
+    let kind = field(rows, k, KIND);
+    if kind == ATTRIBUTE {
         if is_repeated(body, rows, tag, k) {
             return Fault::Is(Cause::RepeatedAttribute);
         }
@@ -116,19 +126,19 @@ fn row_fault(body: &[u8], rows: &[u32], k: usize, tag: usize, top: usize, plain:
         }
         return value_fault(references_pass(body, rows, k));
     }
-    if kind == 4 {
+    if kind == CLOSE {
         if same_name(body, rows, k, top) {
             return Fault::Nothing;
         }
         return Fault::Is(Cause::MismatchedEnd);
     }
-    if kind == 6 {
+    if kind == TEXT {
         if lies_in(rows, k, plain) {
             return Fault::Nothing;
         }
         return value_fault(references_pass(body, rows, k));
     }
-    if kind == 8 {
+    if kind == ERROR {
         return Fault::Is(Cause::TokenError);
     }
     Fault::Nothing
@@ -164,16 +174,16 @@ pub fn walk(body: &[u8], rows: &[u32]) -> Drained
                 return Drained::IllFormed { row: k, cause };
             }
             Fault::Nothing => {
-                let kind = field(rows, k, 0);
-                if kind == 1 {
+                let kind = field(rows, k, KIND);
+                if kind == START {
                     opened[depth] = k;
                     depth += 1;
                     tag = k;
                     k += 1;
-                } else if kind == 4 {
+                } else if kind == CLOSE {
                     depth -= 1;
                     k += 1;
-                } else if kind == 5 {
+                } else if kind == SLASH {
                     depth -= 1;
                     k += 1;
                 } else {

@@ -7,6 +7,8 @@ ghost use Rattle.document.specs.Names.{nameMatches, named};
 ghost use Rattle.table.specs.Row.{cut};
 ghost use Rattle.xml.specs.Drain.{sameName};
 use table::field;
+use table::number::LOCAL;
+use table::number::PREFIX;
 
 // Whether a name, given by its prefix and its local name, is what a pattern asks for: `local`, or `prefix:local`.
 pub fn matches(prefix: &[u8], local: &[u8], pattern: &[u8]) -> bool
@@ -40,8 +42,8 @@ pub fn same_name(body: &[u8], rows: &[u32], i: usize, j: usize) -> bool
     requires { ⌜ InTable (now rows) i × InTable (now rows) j ⌝ }
     ensures { λ r. ⌜ r ≡ sameName (nameAt (now (body .entry)) (now (rows .entry)) i) (nameAt (now (body .entry)) (now (rows .entry)) j) ⌝ }
 {
-    if slices::same(span(body, rows, i, 1), span(body, rows, j, 1)) {
-        return slices::same(span(body, rows, i, 3), span(body, rows, j, 3));
+    if slices::same(span(body, rows, i, PREFIX), span(body, rows, j, PREFIX)) {
+        return slices::same(span(body, rows, i, LOCAL), span(body, rows, j, LOCAL));
     }
     false
 }
@@ -52,5 +54,9 @@ pub fn row_matches(body: &[u8], rows: &[u32], k: usize, pattern: &[u8]) -> bool
     requires { ⌜ InTable (now rows) k ⌝ }
     ensures { λ r. ⌜ r ≡ nameMatches (nameAt (now (body .entry)) (now (rows .entry)) k) (now (pattern .entry)) ⌝ }
 {
-    matches(span(body, rows, k, 1), span(body, rows, k, 3), pattern)
+    matches(
+        span(body, rows, k, PREFIX),
+        span(body, rows, k, LOCAL),
+        pattern,
+    )
 }

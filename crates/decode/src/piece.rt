@@ -13,6 +13,8 @@ use crate::reader::Past;
 use crate::reader::StartRow;
 use crate::view::View;
 use table::field;
+use table::number::LOCAL;
+use table::number::POSITION;
 
 // A part of the body.
 pub struct Piece {
@@ -30,7 +32,7 @@ fn piece_end(body: &[u8], rows: &[u32], view: View, past: Past) -> usize
         if row == 0 {
             return 0;
         }
-        return field(rows, row - 1, 7);
+        return field(rows, row - 1, POSITION);
     }
     view.ends
 }
@@ -42,7 +44,7 @@ pub fn piece_start(body: &[u8], rows: &[u32], n: usize, start: StartRow) -> usiz
     ensures { λ r. ⌜ r ≡ pieceStart (now (body .entry)) (drop (start .row) (rowsFrom (now (rows .entry)) 0 n)) ⌝ }
 {
     let row = start.row;
-    let at = field(rows, row, 3);
+    let at = field(rows, row, LOCAL);
     table::last_lt(body, 0, at)
 }
 

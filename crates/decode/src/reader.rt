@@ -2,7 +2,7 @@
 ghost use Prim.Native.Nat.{_+_, _<_, _^_};
 ghost use mathlib.Core.Path.{_≡_};
 ghost use Rattle.reference.specs.Text.{unescaped};
-ghost use Rattle.document.specs.Reader.{depth, endsAt, isEnd, less};
+ghost use Rattle.document.specs.Reader.{depth, endsAt, isEnd};
 ghost use Rattle.decode.specs.Rows.{InTable, Readable, nameAt, tokAt, valueAt};
 ghost use Rattle.decode.specs.Reader.{At, EndedAt, HasRow, Outside, ScopeIn, Sees, StartIn, StartsAt};
 ghost use Rattle.decode.specs.Reader.{AttributeIs, DepthIs, DroppedIs, LeftIs, NextIs, PastIs, RootIs, TagEnd, TagIs};
@@ -13,6 +13,14 @@ use crate::name::span;
 use document::Depth;
 use reference::Unescaped;
 use table::field;
+use table::kind::ATTRIBUTE;
+use table::kind::CLOSE;
+use table::kind::GT;
+use table::kind::SLASH;
+use table::kind::START;
+use table::number::KIND;
+use table::number::VALUE;
+use table::one_less;
 
 // A scope: the whole document, or the element of a depth that starts in a row.
 pub enum ScopeRow {
@@ -60,16 +68,6 @@ pub enum Attribute {
     Nothing,
 }
 
-// One less, or 0.
-pub fn less_of(d: usize) -> usize
-    ensures { λ r. ⌜ r ≡ less d ⌝ }
-{
-    if d == 0 {
-        return 0;
-    }
-    d - 1
-}
-
 // Whether the close tag of row k, which leaves depth d, ends a scope.
 pub fn is_end(body: &[u8], rows: &[u32], scope: ScopeRow, d: usize, k: usize) -> bool
     requires { ⌜ ScopeIn (now body) (now rows) scope k ⌝ }
@@ -91,11 +89,11 @@ pub fn is_end(body: &[u8], rows: &[u32], scope: ScopeRow, d: usize, k: usize) ->
 pub fn depth_after(kind: usize, d: usize) -> usize
     ensures { λ r. ⌜ DepthIs kind d r ⌝ }
 {
-    if kind == 4 {
-        return less_of(d);
+    if kind == CLOSE {
+        return one_less(d);
     }
-    if kind == 5 {
-        return less_of(d);
+    if kind == SLASH {
+        return one_less(d);
     }
     d
 }
@@ -106,7 +104,7 @@ pub fn ends_here(body: &[u8], rows: &[u32], scope: ScopeRow, d: usize, k: usize)
     ensures { λ r. ⌜ r ≡ endsAt (scopeAt (now (body .entry)) (now (rows .entry)) scope) (depth d)
         (tokAt (now (body .entry)) (now (rows .entry)) k) ⌝ }
 {
-    if field(rows, k, 0) == 4 {
+    if field(rows, k, KIND) == CLOSE {
         return is_end(body, rows, scope, d, k);
     }
     false
@@ -149,8 +147,8 @@ fn skip_from(
     let mut k = from;
     let mut d = depth.0;
     while k < n {
-        let kind = field(rows, k, 0);
-        if kind == 1 {
+        let kind = field(rows, k, KIND);
+        if kind == START {
             d += 1;
             k += 1;
         } else {
@@ -196,7 +194,7 @@ fn unescapes(body: &[u8], rows: &[u32], k: usize) -> bool
     requires { ⌜ InTable (now rows) k ⌝ }
     ensures { λ r. ⌜ r ≡ isBytes (unescaped (valueAt (now (body .entry)) (now (rows .entry)) k)) ⌝ }
 {
-    match unescape::measure(span(body, rows, k, 5)) {
+    match unescape::measure(span(body, rows, k, VALUE)) {
         Unescaped::Length(_) => true,
         Unescaped::BadReference => false,
         // `measure` never answers this: it has no room to run out of.
@@ -212,8 +210,8 @@ fn tag_end(body: &[u8], rows: &[u32], n: usize, i: usize) -> usize
 {
     let mut k = i + 1;
     while k < n {
-        let kind = field(rows, k, 0);
-        if kind == 2 {
+        let kind = field(rows, k, KIND);
+        if kind == ATTRIBUTE {
             if unescapes(body, rows, k) {
                 k += 1;
             } else {
@@ -255,11 +253,11 @@ fn start_tag(body: &[u8], rows: &[u32], n: usize, d: usize, i: usize) -> Next
     if n <= k {
         return Next::Gone(over(false, k, d + 1));
     }
-    let kind = field(rows, k, 0);
-    if kind == 3 {
+    let kind = field(rows, k, KIND);
+    if kind == GT {
         return found(i, k, false, d, d + 1);
     }
-    if kind == 5 {
+    if kind == SLASH {
         return found(i, k, true, d, d);
     }
     Next::Gone(over(false, k + 1, d + 1))
@@ -275,8 +273,8 @@ fn next_from(body: &[u8], rows: &[u32], n: usize, scope: ScopeRow, depth: Depth,
     let mut k = row;
     let mut d = depth.0;
     while k < n {
-        let kind = field(rows, k, 0);
-        if kind == 1 {
+        let kind = field(rows, k, KIND);
+        if kind == START {
             return start_tag(body, rows, n, d, k);
         }
         d = depth_after(kind, d);

@@ -13,6 +13,9 @@ use crate::reader::ends_here;
 use crate::view::Failure;
 use refusal::Refusal;
 use table::field;
+use table::kind::START;
+use table::kind::TEXT;
+use table::number::KIND;
 
 // The first text of an element: the value of a row, to be unescaped; the empty text; or a refusal.
 pub enum Text {
@@ -49,11 +52,11 @@ fn text_from(
     let mut k = from;
     let mut d = deep;
     while k < n {
-        let kind = field(rows, k, 0);
-        if kind == 6 {
+        let kind = field(rows, k, KIND);
+        if kind == TEXT {
             return Text::Row(k);
         }
-        if kind == 1 {
+        if kind == START {
             return Text::Refused(Refusal::ElementInText);
         }
         d = depth_after(kind, d);

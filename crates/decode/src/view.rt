@@ -9,6 +9,9 @@ ghost use Rattle.decode.specs.View.{ViewIs, wholeAt};
 use crate::drain::walk;
 use refusal::Refusal;
 use table::field;
+use table::kind::ERROR;
+use table::number::KIND;
+use table::number::POSITION;
 use xml::Cause;
 use xml::Drained;
 
@@ -46,7 +49,7 @@ fn position_at(body: &[u8], rows: &[u32], k: usize, end: usize) -> usize
     ensures { λ r. ⌜ r ≡ positionAt end (rowsOf (now (rows .entry))) k ⌝ }
 {
     if k < rows.len() / 8 {
-        return field(rows, k, 7);
+        return field(rows, k, POSITION);
     }
     end
 }
@@ -95,7 +98,7 @@ fn lenient_view(body: &[u8], rows: &[u32], end: usize) -> View
         return whole_view(rows, end);
     }
     let last = n - 1;
-    if field(rows, last, 0) == 8 {
+    if field(rows, last, KIND) == ERROR {
         return View {
             count: last,
             failure: Failure::Is(Refusal::TokenError),

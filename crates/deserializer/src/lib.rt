@@ -12,6 +12,15 @@ use output::Step;
 use output::Written;
 use sheet::ShapeDepth;
 
+// What is read by a sheet, as a number.
+pub const STRUCT: u32 = 1;
+
+pub const LIST: u32 = 2;
+
+pub const MAP: u32 = 3;
+
+pub const STRING_LIST: u32 = 4;
+
 // What is read by a sheet.
 pub enum Shape {
     Struct,
@@ -216,7 +225,7 @@ fn read_entered(
 {
     let settings = settings_by(flags, max_depth);
     let deep = ShapeDepth(depth);
-    if kind == 1 {
+    if kind == STRUCT {
         let step = read_struct(
             body,
             rows,
@@ -230,7 +239,7 @@ fn read_entered(
         );
         return tell(step, told);
     }
-    if kind == 2 {
+    if kind == LIST {
         let step = read_list(
             body,
             rows,
@@ -244,7 +253,7 @@ fn read_entered(
         );
         return tell(step, told);
     }
-    if kind == 3 {
+    if kind == MAP {
         let step = read_map(
             body,
             rows,
@@ -330,7 +339,7 @@ pub fn read(
     count: &mut usize,
     length: &mut usize,
 ) -> u32
-    ensures { λ r. ⌜ SheetCall (shapeOf kind) (uploaded (now (body .entry)) (now (rows .entry)) end)
+    ensures reading { λ r. ⌜ SheetCall (shapeOf kind) (uploaded (now (body .entry)) (now (rows .entry)) end)
         (calling (now (sheet .entry)) (settingsBy flags «max_depth») (shapeDepth depth))
         (now (entries .entry)) (now (texts .entry)) (now (entries .exit)) (now (texts .exit)) (now (count .exit)) (now (length .exit)) r ⌝ }
     ensures demand { λ r. ⌜ Demanded (shapeOf kind) (uploaded (now (body .entry)) (now (rows .entry)) end)

@@ -8,7 +8,7 @@ use Rattle.lists.specs.Bytes.{ascii}
 use Rattle.refusal.specs.declared.Refusal.{Refusal}
 use Rattle.refusal.specs.Answer.{Answer, gives, refuses}
 use Rattle.reference.proofs.All as reference
-use Rattle.table.specs.Row.{Name, Tok, start, attr, gt, close, slash, text, misc}
+use Rattle.table.specs.Row.{Name, Tok, start, attr, gt, close, slash, text, misc, matter}
 use Rattle.xml.specs.Drain.{sameName}
 use Rattle.document.specs.Reader.{skip, next}
 use Rattle.document.specs.Scope.{Child, level, children, childrenOf, rootOf}
@@ -31,13 +31,13 @@ met toks = go (rootOf toks)
 pub scopes :
     map met (
     -- <r><a/><p:b>2</p:b></r>
-    (start (plain "r") ∷ gt ∷ start (plain "a") ∷ slash ∷ start (record { prefix = ascii "p"; local = ascii "b" }) ∷ gt ∷ text (ascii "2") ∷ close (record { prefix = ascii "p"; local = ascii "b" }) ∷ close (plain "r") ∷ [])
+    (start (plain "r") ∷ gt ∷ start (plain "a") ∷ slash ∷ start (record { prefix = ascii "p"; local = ascii "b" }) ∷ gt ∷ matter (text (ascii "2")) ∷ close (record { prefix = ascii "p"; local = ascii "b" }) ∷ close (plain "r") ∷ [])
     -- <r><a><a></a></a><b/></r>: the inner end tag is not the outer one's
     ∷ (start (plain "r") ∷ gt ∷ start (plain "a") ∷ gt ∷ start (plain "a") ∷ gt ∷ close (plain "a") ∷ close (plain "a") ∷ start (plain "b") ∷ slash ∷ close (plain "r") ∷ [])
     -- <r><a>1</b><c>2</c></r>: the scope of a is ended by no tag, so c is never seen
-    ∷ (start (plain "r") ∷ gt ∷ start (plain "a") ∷ gt ∷ text (ascii "1") ∷ close (plain "b") ∷ start (plain "c") ∷ gt ∷ text (ascii "2") ∷ close (plain "c") ∷ close (plain "r") ∷ [])
+    ∷ (start (plain "r") ∷ gt ∷ start (plain "a") ∷ gt ∷ matter (text (ascii "1")) ∷ close (plain "b") ∷ start (plain "c") ∷ gt ∷ matter (text (ascii "2")) ∷ close (plain "c") ∷ close (plain "r") ∷ [])
     -- <r><a x="&zz;">1</a><b>2</b></r>: the level ends at the attribute
-    ∷ (start (plain "r") ∷ gt ∷ start (plain "a") ∷ attr (plain "x") (ascii "&zz;") ∷ gt ∷ text (ascii "1") ∷ close (plain "a") ∷ start (plain "b") ∷ gt ∷ text (ascii "2") ∷ close (plain "b") ∷ close (plain "r") ∷ [])
+    ∷ (start (plain "r") ∷ gt ∷ start (plain "a") ∷ attr (plain "x") (ascii "&zz;") ∷ gt ∷ matter (text (ascii "1")) ∷ close (plain "a") ∷ start (plain "b") ∷ gt ∷ matter (text (ascii "2")) ∷ close (plain "b") ∷ close (plain "r") ∷ [])
     -- <r x="&zz;"/>: no root
     ∷ (start (plain "r") ∷ attr (plain "x") (ascii "&zz;") ∷ slash ∷ [])
     ∷ [])
@@ -61,11 +61,11 @@ root-text toks = go (rootOf toks)
 pub texts :
     map root-text (
     -- <r><!-- -->x&lt;<b/></r>: what is not text is passed over, and the first text is the answer
-    (start (plain "r") ∷ gt ∷ misc ∷ text (ascii "x&lt;") ∷ start (plain "b") ∷ slash ∷ close (plain "r") ∷ [])
+    (start (plain "r") ∷ gt ∷ matter misc ∷ matter (text (ascii "x&lt;")) ∷ start (plain "b") ∷ slash ∷ close (plain "r") ∷ [])
     -- <r><b/>x</r>
-    ∷ (start (plain "r") ∷ gt ∷ start (plain "b") ∷ slash ∷ text (ascii "x") ∷ close (plain "r") ∷ [])
+    ∷ (start (plain "r") ∷ gt ∷ start (plain "b") ∷ slash ∷ matter (text (ascii "x")) ∷ close (plain "r") ∷ [])
     -- <r>&zz;</r>
-    ∷ (start (plain "r") ∷ gt ∷ text (ascii "&zz;") ∷ close (plain "r") ∷ [])
+    ∷ (start (plain "r") ∷ gt ∷ matter (text (ascii "&zz;")) ∷ close (plain "r") ∷ [])
     -- <r></r> and <r/>
     ∷ (start (plain "r") ∷ gt ∷ close (plain "r") ∷ [])
     ∷ (start (plain "r") ∷ slash ∷ [])

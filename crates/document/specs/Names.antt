@@ -5,6 +5,7 @@ use mathlib.Core.Bool.{Bool, false}
 use mathlib.Core.List.{List, [], _∷_}
 use lib.Dec.{ltb, eqb}
 use lib.ListN.{length, take, drop}
+use Rattle.lists.specs.Characters.{colon}
 use Rattle.lists.specs.Tests.{pick}
 use Rattle.lists.specs.Bytes.{sameb}
 use Rattle.table.specs.Row.{Name}
@@ -15,7 +16,7 @@ named prefix local = record { prefix = prefix; local = local }
 -- how many bytes stand before the first colon; the length where there is none
 unfoldable pub beforeColon : List ℕ → ℕ
 beforeColon [] = 0
-beforeColon (b ∷ s) = pick (eqb b 58) 0 (suc (beforeColon s))
+beforeColon (b ∷ s) = pick (eqb b colon) 0 (suc (beforeColon s))
 
 unfoldable pub nameMatches : Name → List ℕ → Bool
 nameMatches n pattern =

@@ -5,10 +5,10 @@ use Prim.Native.Nat.{ℕ, zero, suc}
 use mathlib.Core.Bool.{Bool, true, false}
 use mathlib.Core.List.{List, [], _∷_, _++_}
 use lib.Dec.{eqb}
-use Rattle.lists.specs.Tests.{pick}
+use Rattle.lists.specs.Tests.{pick, less}
 use Rattle.reference.specs.Text.{Out, bytes, unescaped}
 use Rattle.reference.specs.Text as text
-use Rattle.table.specs.Row.{Name, Tok, start, attr, gt, close, slash, text, misc, bad}
+use Rattle.table.specs.Row.{Name, Tok, start, attr, gt, close, slash, matter, bad, Move, enters, leaves, stays, moveOf}
 use Rattle.xml.specs.Drain.{sameName}
 use Rattle.document.specs.declared.Depth.{Depth}
 
@@ -19,10 +19,6 @@ depth d = record { 0 = d }
 abbrev pub deeper : Depth → Depth
 deeper d = depth (suc (d .0))
 
-abbrev pub less : ℕ → ℕ
-less zero = zero
-less (suc d) = d
-
 abbrev pub shallower : Depth → Depth
 shallower d = depth (less (d .0))
 
@@ -30,15 +26,13 @@ abbrev pub sameDepth : Depth → Depth → Bool
 sameDepth c d = eqb (c .0) (d .0)
 
 -- the depth after a token: 1 more after a start, 1 less after a close tag and after `/>`
+abbrev pub depthBy : Move → Depth → Depth
+depthBy (enters n) d = deeper d
+depthBy leaves d = shallower d
+depthBy stays d = d
+
 abbrev pub depthAfter : Tok → Depth → Depth
-depthAfter (start n) d = deeper d
-depthAfter (attr m v) d = d
-depthAfter gt d = d
-depthAfter (close m) d = shallower d
-depthAfter slash d = shallower d
-depthAfter (text v) d = d
-depthAfter misc d = d
-depthAfter bad d = d
+depthAfter t d = depthBy (moveOf t) d
 
 -- ---- the reader: its depth, the number of the next row, and the tokens from it on
 pub record Reader : Type 0 where
@@ -72,8 +66,7 @@ endsAt s d (attr m v) = false
 endsAt s d gt = false
 endsAt s d (close m) = isEnd s d m
 endsAt s d slash = false
-endsAt s d (text v) = false
-endsAt s d misc = false
+endsAt s d (matter b) = false
 endsAt s d bad = false
 
 -- where the reader stands once a scope is over, and whether the scope's own end was read; else the rows ran out
@@ -147,8 +140,7 @@ turn s o d k (attr m v) = onAttribute o m (unescaped v)
 turn s o d k gt = complete o
 turn s o d k (close m) = onClose o (isEnd s (shallower d) m)
 turn s o d k slash = complete (asClosed o)
-turn s o d k (text v) = goes o
-turn s o d k misc = goes o
+turn s o d k (matter b) = goes o
 turn s o d k bad = goes o
 
 -- a start element and the reader after its tag; or none, with the reader where the search was over, and whether the scope's end was read

@@ -3,7 +3,7 @@
 use mathlib.Core.Path.{_≡_}
 use mathlib.Core.Bool.{Bool, true, false, not}
 use mathlib.Core.List.{List, [], _∷_}
-use Rattle.table.specs.Row.{Tok, start, attr, gt, close, slash, text, misc, bad}
+use Rattle.table.specs.Row.{Tok, start, attr, gt, close, slash, matter, bad}
 
 -- ---- the order of tokens, as far as start tags go
 -- whether a token may stand in a start tag, and outside of one
@@ -13,8 +13,7 @@ mayStand (attr m v) inTag = inTag
 mayStand gt inTag = inTag
 mayStand (close m) inTag = not inTag
 mayStand slash inTag = inTag
-mayStand (text v) inTag = not inTag
-mayStand misc inTag = not inTag
+mayStand (matter b) inTag = not inTag
 mayStand bad inTag = true
 
 -- whether a start tag is not ended yet after a token
@@ -24,8 +23,7 @@ inTagAfter (attr m v) inTag = inTag
 inTagAfter gt inTag = false
 inTagAfter (close m) inTag = inTag
 inTagAfter slash inTag = false
-inTagAfter (text v) inTag = inTag
-inTagAfter misc inTag = inTag
+inTagAfter (matter b) inTag = inTag
 inTagAfter bad inTag = inTag
 
 -- each token may stand where it does, the first in a start tag or outside of one

@@ -5,7 +5,7 @@ use mathlib.Core.List.{List, [], _∷_}
 use mathlib.Core.Option.{Option, none, some}
 use lib.ListN.{take}
 use Rattle.refusal.specs.declared.Refusal.{Refusal}
-use Rattle.table.specs.Row.{Row, Tok, start, attr, gt, close, slash, text, misc, bad, toksOf}
+use Rattle.table.specs.Row.{Row, Tok, start, attr, gt, close, slash, matter, bad, toksOf}
 use Rattle.xml.specs.declared.Cause.{Cause}
 use Rattle.xml.specs.declared.Drained.{Drained}
 use Rattle.xml.specs.Drain.{walked}
@@ -50,8 +50,7 @@ isError (attr m v) = false
 isError gt = false
 isError (close m) = false
 isError slash = false
-isError (text v) = false
-isError misc = false
+isError (matter b) = false
 isError bad = true
 
 abbrev pub laterError : Bool → Option ℕ → Option ℕ

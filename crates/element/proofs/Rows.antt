@@ -14,11 +14,11 @@ use Rattle.lists.specs.Tests.{pick}
 use Rattle.lists.specs.Decide.{Says}
 use Rattle.lists.proofs.Decide.{says-no, says-same, says-not, says-ltb}
 use Rattle.table.specs.Row.{Row}
-use Rattle.table.specs.Rules.{among}
+use Rattle.table.specs.Rules.{openCount, among}
 use Rattle.table.specs.Flat.{rowAt, rowsFrom}
 use Rattle.table.proofs.Flat.{length-rows, unroll, rolled-out}
-use Rattle.table.specs.Piece.{openCount, closing}
-use Rattle.element.specs.Rows.{openAfter, StartsAfter, FirstAfter, movedTable, OwnRows}
+use Rattle.table.specs.Piece.{closing}
+use Rattle.element.specs.Rows.{StartsAfter, FirstAfter, movedTable, OwnRows}
 
 -- ---- the start row
 pub row-in : (t : List ℕ) {k : ℕ} → k < length t / 8 → k * 8 + 8 ≤ length t
@@ -60,16 +60,16 @@ pub ruleset seeking-laws = (needs, row-in, seeking-start, seeking-on, seeking-fo
 
 -- ---- how many are open
 module _ (kind n : ℕ) where
-  pub opens : kind ≡ 1 → n + 1 ≡ openAfter kind n
+  pub opens : kind ≡ 1 → n + 1 ≡ openCount n kind
   opens e = rw (eq-eqb kind 1 e) (add-one n)
 
-  pub stays : (kind ≡ 1 → ⊥) → (kind ≡ 4 → ⊥) → (kind ≡ 5 → ⊥) → n ≡ openAfter kind n
+  pub stays : (kind ≡ 1 → ⊥) → (kind ≡ 4 → ⊥) → (kind ≡ 5 → ⊥) → n ≡ openCount n kind
   stays a b c = rw (ne-eqb kind 1 a, ne-eqb kind 4 b, ne-eqb kind 5 c)
 
-  pub closes : {r : ℕ} → (kind ≡ 1 → ⊥) → kind ≡ 4 → r ≡ n - 1 → r ≡ openAfter kind n
+  pub closes : {r : ℕ} → (kind ≡ 1 → ⊥) → kind ≡ 4 → r ≡ n - 1 → r ≡ openCount n kind
   closes a b e = rw (ne-eqb kind 1 a, eq-eqb kind 4 b) e
 
-  pub closes-empty : {r : ℕ} → (kind ≡ 1 → ⊥) → (kind ≡ 4 → ⊥) → kind ≡ 5 → r ≡ n - 1 → r ≡ openAfter kind n
+  pub closes-empty : {r : ℕ} → (kind ≡ 1 → ⊥) → (kind ≡ 4 → ⊥) → kind ≡ 5 → r ≡ n - 1 → r ≡ openCount n kind
   closes-empty a b c e = rw (ne-eqb kind 1 a, ne-eqb kind 4 b, eq-eqb kind 5 c) e
 
 pub ruleset open-laws = (needs, opens, stays, closes, closes-empty)
@@ -84,15 +84,15 @@ pub record Counting (t : List ℕ) (k n j : ℕ) : Type 0 where
 pub counting-start : (t : List ℕ) {k : ℕ} → k ≤ length t / 8 → Counting t k 0 k
 counting-start t {k} h = record { low = omega arith; high = h; few = omega arith; rest = omega arith }
 
-closing-here : (n : ℕ) (r : Row) (rest : List Row) → openCount n r ≡ 0 → closing n (r ∷ rest) ≡ 1
+closing-here : (n : ℕ) (r : Row) (rest : List Row) → openCount n (r .kind) ≡ 0 → closing n (r ∷ rest) ≡ 1
 unfolding closing
-closing-here n r rest e = rw (eq-eqb (openCount n r) 0 e)
+closing-here n r rest e = rw (eq-eqb (openCount n (r .kind)) 0 e)
 
-closing-on : (n : ℕ) (r : Row) (rest : List Row) → (openCount n r ≡ 0 → ⊥) → closing n (r ∷ rest) ≡ suc (closing (openCount n r) rest)
+closing-on : (n : ℕ) (r : Row) (rest : List Row) → (openCount n (r .kind) ≡ 0 → ⊥) → closing n (r ∷ rest) ≡ suc (closing (openCount n (r .kind)) rest)
 unfolding closing
-closing-on n r rest f = rw (ne-eqb (openCount n r) 0 f)
+closing-on n r rest f = rw (ne-eqb (openCount n (r .kind)) 0 f)
 
-open-low : (kind n : ℕ) → openAfter kind n ≤ suc n
+open-low : (kind n : ℕ) → openCount n kind ≤ suc n
 open-low kind n = go (eqb kind 1) (among (4 ∷ 5 ∷ []) kind)
   where
     go : (a b : Bool) → pick a (suc n) (pick b (n - 1) n) ≤ suc n
@@ -108,8 +108,8 @@ module _ {t : List ℕ} {k n j : ℕ} (c : Counting t k n j) where
   pub counting-few : j + 1 < 2 ^ 64 → n + 1 < 2 ^ 64
   counting-few h = omega (arith, c .few)
 
-  module _ (h : j < length t / 8) {kind m : ℕ} (e : kind ≡ getD t (j * 8 + 0) 0) (o : m ≡ openAfter kind n) where
-    is : m ≡ openCount n (rowAt t j)
+  module _ (h : j < length t / 8) {kind m : ℕ} (e : kind ≡ getD t (j * 8 + 0) 0) (o : m ≡ openCount n kind) where
+    is : m ≡ openCount n (rowAt t j .kind)
     is = rw e at o
 
     abbrev later : List Row
@@ -142,9 +142,9 @@ pub ruleset counting-laws = (needs, row-in, counting-start, counting-out, counti
 pub closing-low : (n : ℕ) (l : List Row) → closing n l ≤ length l
 unfolding closing
 closing-low n [] = omega arith
-closing-low n (r ∷ l) = go (eqb (openCount n r) 0) (closing-low (openCount n r) l)
+closing-low n (r ∷ l) = go (eqb (openCount n (r .kind)) 0) (closing-low (openCount n (r .kind)) l)
   where
-    go : (b : Bool) → closing (openCount n r) l ≤ length l → suc (pick b 0 (closing (openCount n r) l)) ≤ suc (length l)
+    go : (b : Bool) → closing (openCount n (r .kind)) l ≤ length l → suc (pick b 0 (closing (openCount n (r .kind)) l)) ≤ suc (length l)
     go true h = omega arith
     go false h = omega arith
 

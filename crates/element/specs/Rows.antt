@@ -2,12 +2,9 @@
 use Prim.Native.Nat.{ℕ, suc, _+_, _*_, _/_, _-_, _≤_, _<_}
 use mathlib.Core.Path.{_≡_}
 use mathlib.Core.List.{List, [], _∷_, map}
-use lib.Dec.{eqb}
 use lib.ListN.{length, getD}
 use lib.Seq.{sets}
-use Rattle.lists.specs.Tests.{pick}
 use Rattle.table.specs.Row.{Row, tableOf}
-use Rattle.table.specs.Rules.{among}
 use Rattle.table.specs.Flat.{rowsFrom}
 use Rattle.table.specs.Piece.{moved, closing}
 
@@ -19,10 +16,6 @@ eightNumbers r =
 -- the flat table of rows counted from a place
 abbrev pub movedTable : ℕ → List Row → List ℕ
 movedTable place rows = tableOf (map (moved place) rows)
-
--- how many elements are open after a row of this kind
-abbrev pub openAfter : ℕ → ℕ → ℕ
-openAfter kind n = pick (eqb kind 1) (suc n) (pick (among (4 ∷ 5 ∷ []) kind) (n - 1) n)
 
 -- row k starts an element, and its local name stands after a place
 pub record StartsAfter (rows : List ℕ) (place k : ℕ) : Type 0 where

@@ -6,10 +6,17 @@ ghost use lib.ListN.{length, getD};
 ghost use lib.Seq.{sets};
 ghost use Rattle.lists.specs.Tests.{pick};
 ghost use Rattle.lists.specs.Decide.{Says};
+ghost use Rattle.table.specs.Rules.{openCount};
 ghost use Rattle.table.specs.Flat.{rowAt, rowsFrom};
 ghost use Rattle.table.specs.Piece.{moved, movedSpan, closing};
-ghost use Rattle.element.specs.Rows.{eightNumbers, movedTable, openAfter, StartsAfter, FirstAfter, OwnRows};
+ghost use Rattle.element.specs.Rows.{eightNumbers, movedTable, StartsAfter, FirstAfter, OwnRows};
 use table::field;
+use table::kind::CLOSE;
+use table::kind::SLASH;
+use table::kind::START;
+use table::number::KIND;
+use table::number::LOCAL;
+use table::one_less;
 use table::uses_name;
 
 // ---- where an element's rows are
@@ -19,8 +26,8 @@ fn starts_after(rows: &[u32], k: usize, place: usize) -> bool
     requires { ⌜ k * 8 + 8 ≤ length (now rows) ⌝ }
     ensures { λ r. ⌜ Says (StartsAfter (now (rows .entry)) place k) r ⌝ }
 {
-    if field(rows, k, 0) == 1 {
-        return place < field(rows, k, 3);
+    if field(rows, k, KIND) == START {
+        return place < field(rows, k, LOCAL);
     }
     false
 }
@@ -40,28 +47,18 @@ fn start_row(rows: &[u32], place: usize) -> usize
     k
 }
 
-// One less, or 0.
-fn one_less(n: usize) -> usize
-    ensures { λ r. ⌜ r ≡ n - 1 ⌝ }
-{
-    if n == 0 {
-        return 0;
-    }
-    n - 1
-}
-
 // How many elements are open after a row of this kind, where n are before it.
 fn open_after(kind: usize, n: usize) -> usize
     requires { ⌜ n + 1 < 2 ^ 64 ⌝ }
-    ensures { λ r. ⌜ r ≡ openAfter kind n ⌝ }
+    ensures { λ r. ⌜ r ≡ openCount n kind ⌝ }
 {
-    if kind == 1 {
+    if kind == START {
         return n + 1;
     }
-    if kind == 4 {
+    if kind == CLOSE {
         return one_less(n);
     }
-    if kind == 5 {
+    if kind == SLASH {
         return one_less(n);
     }
     n
@@ -76,7 +73,7 @@ fn row_count(rows: &[u32], k: usize) -> usize
     let mut open = 0;
     let mut j = k;
     while j < n {
-        open = open_after(field(rows, j, 0), open);
+        open = open_after(field(rows, j, KIND), open);
         j += 1;
         if open == 0 {
             return j - k;
@@ -88,7 +85,7 @@ fn row_count(rows: &[u32], k: usize) -> usize
 // ---- its rows, counted from a place
 
 // One number less another, or 0.
-fn less(a: u32, b: u32) -> u32
+fn minus(a: u32, b: u32) -> u32
     ensures { λ r. ⌜ r ≡ a - b ⌝ }
 {
     if a < b {
@@ -104,7 +101,7 @@ fn moved_span(from: u32, len: u32, place: u32) -> u32
     if len == 0 {
         return from;
     }
-    less(from, place)
+    minus(from, place)
 }
 
 // The start of a local name, counted from a place, where the row has a name.
@@ -112,7 +109,7 @@ fn moved_local(used: bool, from: u32, place: u32) -> u32
     ensures { λ r. ⌜ r ≡ pick used (from - place) from ⌝ }
 {
     if used {
-        return less(from, place);
+        return minus(from, place);
     }
     from
 }
@@ -127,13 +124,13 @@ fn moved_number(rows: &[u32], k: usize, j: usize, place: u32) -> u32
         return moved_span(rows[at + 1], rows[at + 2], place);
     }
     if j == 3 {
-        return moved_local(uses_name(field(rows, k, 0)), rows[at + 3], place);
+        return moved_local(uses_name(field(rows, k, KIND)), rows[at + 3], place);
     }
     if j == 5 {
         return moved_span(rows[at + 5], rows[at + 6], place);
     }
     if j == 7 {
-        return less(rows[at + 7], place);
+        return minus(rows[at + 7], place);
     }
     rows[at + j]
 }

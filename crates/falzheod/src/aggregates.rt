@@ -6,6 +6,10 @@ ghost use Rattle.deserializer.specs.Call.{SheetCall, settingsBy, shapeDepth};
 ghost use Rattle.deserializer.specs.Demand.{Demanded};
 ghost use Rattle.deserializer.specs.declared.Shape.{Shape};
 ghost use Rattle.readings.specs.Call.{uploaded, calling};
+use deserializer::LIST;
+use deserializer::MAP;
+use deserializer::STRING_LIST;
+use deserializer::STRUCT;
 
 // The structure reading: 0, 1, 2, 3, 4, 5, 9 or 10.
 #[no_mangle]
@@ -22,7 +26,7 @@ pub extern "C" fn falzheod_read_struct(
     count: &mut usize,
     length: &mut usize,
 ) -> u32
-    ensures { λ r. ⌜ SheetCall Shape.Struct (uploaded (now (body .entry)) (now (rows .entry)) end)
+    ensures reading { λ r. ⌜ SheetCall Shape.Struct (uploaded (now (body .entry)) (now (rows .entry)) end)
         (calling (now (sheet .entry)) (settingsBy flags «max_depth») (shapeDepth depth))
         (now (entries .entry)) (now (texts .entry)) (now (entries .exit)) (now (texts .exit)) (now (count .exit)) (now (length .exit)) r ⌝ }
     ensures demand { λ r. ⌜ Demanded Shape.Struct (uploaded (now (body .entry)) (now (rows .entry)) end)
@@ -30,7 +34,7 @@ pub extern "C" fn falzheod_read_struct(
         (now (entries .entry)) (now (texts .entry)) (now (entries .exit)) (now (count .exit)) r ⌝ }
 {
     deserializer::read(
-        1,
+        STRUCT,
         body,
         rows,
         end,
@@ -60,7 +64,7 @@ pub extern "C" fn falzheod_read_list(
     count: &mut usize,
     length: &mut usize,
 ) -> u32
-    ensures { λ r. ⌜ SheetCall Shape.List (uploaded (now (body .entry)) (now (rows .entry)) end)
+    ensures reading { λ r. ⌜ SheetCall Shape.List (uploaded (now (body .entry)) (now (rows .entry)) end)
         (calling (now (sheet .entry)) (settingsBy flags «max_depth») (shapeDepth depth))
         (now (entries .entry)) (now (texts .entry)) (now (entries .exit)) (now (texts .exit)) (now (count .exit)) (now (length .exit)) r ⌝ }
     ensures demand { λ r. ⌜ Demanded Shape.List (uploaded (now (body .entry)) (now (rows .entry)) end)
@@ -68,7 +72,7 @@ pub extern "C" fn falzheod_read_list(
         (now (entries .entry)) (now (texts .entry)) (now (entries .exit)) (now (count .exit)) r ⌝ }
 {
     deserializer::read(
-        2,
+        LIST,
         body,
         rows,
         end,
@@ -98,7 +102,7 @@ pub extern "C" fn falzheod_read_map(
     count: &mut usize,
     length: &mut usize,
 ) -> u32
-    ensures { λ r. ⌜ SheetCall Shape.Map (uploaded (now (body .entry)) (now (rows .entry)) end)
+    ensures reading { λ r. ⌜ SheetCall Shape.Map (uploaded (now (body .entry)) (now (rows .entry)) end)
         (calling (now (sheet .entry)) (settingsBy flags «max_depth») (shapeDepth depth))
         (now (entries .entry)) (now (texts .entry)) (now (entries .exit)) (now (texts .exit)) (now (count .exit)) (now (length .exit)) r ⌝ }
     ensures demand { λ r. ⌜ Demanded Shape.Map (uploaded (now (body .entry)) (now (rows .entry)) end)
@@ -106,7 +110,7 @@ pub extern "C" fn falzheod_read_map(
         (now (entries .entry)) (now (texts .entry)) (now (entries .exit)) (now (count .exit)) r ⌝ }
 {
     deserializer::read(
-        3,
+        MAP,
         body,
         rows,
         end,
@@ -136,7 +140,7 @@ pub extern "C" fn falzheod_read_string_list(
     count: &mut usize,
     length: &mut usize,
 ) -> u32
-    ensures { λ r. ⌜ SheetCall Shape.StringList (uploaded (now (body .entry)) (now (rows .entry)) end)
+    ensures reading { λ r. ⌜ SheetCall Shape.StringList (uploaded (now (body .entry)) (now (rows .entry)) end)
         (calling (now (sheet .entry)) (settingsBy flags «max_depth») (shapeDepth depth))
         (now (entries .entry)) (now (texts .entry)) (now (entries .exit)) (now (texts .exit)) (now (count .exit)) (now (length .exit)) r ⌝ }
     ensures demand { λ r. ⌜ Demanded Shape.StringList (uploaded (now (body .entry)) (now (rows .entry)) end)
@@ -144,7 +148,7 @@ pub extern "C" fn falzheod_read_string_list(
         (now (entries .entry)) (now (texts .entry)) (now (entries .exit)) (now (count .exit)) r ⌝ }
 {
     deserializer::read(
-        4,
+        STRING_LIST,
         body,
         rows,
         end,

@@ -17,7 +17,7 @@ use xml::Drained;
 // 0 where each reference of the text is right, else 7.
 #[no_mangle]
 pub extern "C" fn falzheod_validate_references(text: &[u8]) -> u32
-    ensures { λ r. ⌜ r ≡ validatedNumber (validated (now (text .entry))) ⌝ }
+    ensures validated { λ r. ⌜ r ≡ validatedNumber (validated (now (text .entry))) ⌝ }
 {
     match unescape::validate_references(text) {
         Validated::Valid => 0,
@@ -28,7 +28,7 @@ pub extern "C" fn falzheod_validate_references(text: &[u8]) -> u32
 // Replaces each reference of the text by its character, into out: 0, 7 or 10. `length` is how many bytes of out were written.
 #[no_mangle]
 pub extern "C" fn falzheod_unescape(text: &[u8], out: &mut [u8], length: &mut usize) -> u32
-    ensures { λ r. ⌜ UnescapeCall (now (text .entry)) (now (out .entry)) (now (out .exit)) (now (length .exit)) r ⌝ }
+    ensures unescaped { λ r. ⌜ UnescapeCall (now (text .entry)) (now (out .entry)) (now (out .exit)) (now (length .exit)) r ⌝ }
 {
     match unescape::unescape(text, out) {
         Unescaped::Length(n) => {
@@ -49,7 +49,7 @@ pub extern "C" fn falzheod_unescape(text: &[u8], out: &mut [u8], length: &mut us
 // 1 where the text is well-formed UTF-8, else 0.
 #[no_mangle]
 pub extern "C" fn falzheod_is_utf8(text: &[u8]) -> u32
-    ensures { λ r. ⌜ r ≡ yesNo (isUtf8 (now (text .entry))) ⌝ }
+    ensures well_formed { λ r. ⌜ r ≡ yesNo (isUtf8 (now (text .entry))) ⌝ }
 {
     if utf8::is_utf8(text) { 1 } else { 0 }
 }
@@ -76,7 +76,7 @@ pub extern "C" fn falzheod_drain(
     row: &mut usize,
     cause: &mut u32,
 ) -> u32
-    ensures { λ r. ⌜ DrainCall (drained (now (body .entry)) (now (rows .entry)) end) (now (row .exit)) (now (cause .exit)) r ⌝ }
+    ensures drained { λ r. ⌜ DrainCall (drained (now (body .entry)) (now (rows .entry)) end) (now (row .exit)) (now (cause .exit)) r ⌝ }
 {
     match decode::drain::drain(body, rows, end) {
         Drained::Passes => {

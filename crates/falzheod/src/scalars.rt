@@ -16,7 +16,7 @@ use sheet::ShapeDepth;
 // The boolean that a text spells: 0 or 11.
 #[no_mangle]
 pub extern "C" fn falzheod_text_boolean(text: &[u8], value: &mut u32) -> u32
-    ensures { λ r. ⌜ BooleanCall (booleanOf (now (text .entry))) (now (value .entry)) (now (value .exit)) r ⌝ }
+    ensures value { λ r. ⌜ BooleanCall (booleanOf (now (text .entry))) (now (value .entry)) (now (value .exit)) r ⌝ }
 {
     give_boolean(scalar::text::boolean_of(text), value)
 }
@@ -24,7 +24,7 @@ pub extern "C" fn falzheod_text_boolean(text: &[u8], value: &mut u32) -> u32
 // The integer that a text spells: 0 or 12.
 #[no_mangle]
 pub extern "C" fn falzheod_text_integer(text: &[u8], value: &mut i32) -> u32
-    ensures { λ r. ⌜ IntegerCall (integerOf (now (text .entry))) (now (value .entry)) (now (value .exit)) r ⌝ }
+    ensures value { λ r. ⌜ IntegerCall (integerOf (now (text .entry))) (now (value .entry)) (now (value .exit)) r ⌝ }
 {
     give_integer(scalar::text::integer_of(text), value)
 }
@@ -32,7 +32,7 @@ pub extern "C" fn falzheod_text_integer(text: &[u8], value: &mut i32) -> u32
 // A text as a string: 0 or 10.
 #[no_mangle]
 pub extern "C" fn falzheod_text_string(text: &[u8], out: &mut [u8], length: &mut usize) -> u32
-    ensures { λ r. ⌜ StringCall (stringIn (sizeOf (now (out .entry))) (now (text .entry))) (now (out .entry)) (now (out .exit))
+    ensures value { λ r. ⌜ StringCall (stringIn (sizeOf (now (out .entry))) (now (text .entry))) (now (out .entry)) (now (out .exit))
         (now (length .exit)) r ⌝ }
 {
     give_length(scalar::text::string_of(text, out), length)
@@ -48,7 +48,7 @@ pub extern "C" fn falzheod_read_boolean(
     depth: u32,
     value: &mut u32,
 ) -> u32
-    ensures { λ r. ⌜ BooleanCall (booleanReading (uploaded (now (body .entry)) (now (rows .entry)) end) (settingsBy flags 0)
+    ensures reading { λ r. ⌜ BooleanCall (booleanReading (uploaded (now (body .entry)) (now (rows .entry)) end) (settingsBy flags 0)
         (shapeDepth depth)) (now (value .entry)) (now (value .exit)) r ⌝ }
 {
     let settings = settings_by(flags, 0);
@@ -68,7 +68,7 @@ pub extern "C" fn falzheod_read_integer(
     depth: u32,
     value: &mut i32,
 ) -> u32
-    ensures { λ r. ⌜ IntegerCall (integerReading (uploaded (now (body .entry)) (now (rows .entry)) end) (settingsBy flags 0)
+    ensures reading { λ r. ⌜ IntegerCall (integerReading (uploaded (now (body .entry)) (now (rows .entry)) end) (settingsBy flags 0)
         (shapeDepth depth)) (now (value .entry)) (now (value .exit)) r ⌝ }
 {
     let settings = settings_by(flags, 0);
@@ -89,7 +89,7 @@ pub extern "C" fn falzheod_read_string(
     out: &mut [u8],
     length: &mut usize,
 ) -> u32
-    ensures { λ r. ⌜ StringCall (stringReading (uploaded (now (body .entry)) (now (rows .entry)) end) (settingsBy flags 0)
+    ensures reading { λ r. ⌜ StringCall (stringReading (uploaded (now (body .entry)) (now (rows .entry)) end) (settingsBy flags 0)
         (shapeDepth depth) (sizeOf (now (out .entry)))) (now (out .entry)) (now (out .exit)) (now (length .exit)) r ⌝ }
 {
     let settings = settings_by(flags, 0);
@@ -109,7 +109,7 @@ pub extern "C" fn falzheod_find(
     start: &mut usize,
     length: &mut usize,
 ) -> u32
-    ensures { λ r. ⌜ FindCall (readings.find (uploaded (now (body .entry)) (now (rows .entry)) end) (now (name .entry))) (now (start .exit))
+    ensures found { λ r. ⌜ FindCall (readings.find (uploaded (now (body .entry)) (now (rows .entry)) end) (now (name .entry))) (now (start .exit))
         (now (length .exit)) r ⌝ }
 {
     give_part(
@@ -128,7 +128,7 @@ pub extern "C" fn falzheod_whole_text(
     out: &mut [u8],
     length: &mut usize,
 ) -> u32
-    ensures { λ r. ⌜ StringCall (wholeText (uploaded (now (body .entry)) (now (rows .entry)) end) (sizeOf (now (out .entry))))
+    ensures reading { λ r. ⌜ StringCall (wholeText (uploaded (now (body .entry)) (now (rows .entry)) end) (sizeOf (now (out .entry))))
         (now (out .entry)) (now (out .exit)) (now (length .exit)) r ⌝ }
 {
     give_length(scalar::whole::whole_text(body, rows, end, out), length)

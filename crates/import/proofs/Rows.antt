@@ -14,7 +14,7 @@ use Rattle.table.specs.Row.{Row, rowsOf, tableOf}
 use Rattle.table.specs.Rules.{Place, atFirst, lastLt, EachRow, none, row, TableRules}
 use Rattle.table.specs.Flat.{rowAt, rowsFrom}
 use Rattle.table.proofs.Flat.{length-rows, rows-same, rows-whole}
-use Rattle.table.specs.Piece.{openCount, closing, elementRows, pieceStart, pieceRows, ElementAt}
+use Rattle.table.specs.Piece.{closing, elementRows, pieceStart, pieceRows, ElementAt}
 use Rattle.table.proofs.Element.{element-is}
 use Rattle.decode.proofs.Seen.{take-rows}
 use Rattle.element.specs.Rows.{movedTable, StartsAfter, FirstAfter}

@@ -1,5 +1,5 @@
 -- Laws on a choice by a test, and what `search` needs to go by the tests of a definition.
-use Prim.Native.Nat.{ℕ, _≤_}
+use Prim.Native.Nat.{ℕ, zero, suc, _-_, _≤_}
 use mathlib.Core.Path.{_≡_, refl}
 use mathlib.Core.Bool.{Bool, true, false}
 use mathlib.Core.Logic.{_⊎_, inl, inr}
@@ -8,7 +8,7 @@ use native.Mathlib.Omega.{arith}
 use borrow.Author.Needs.{needs}
 use borrow.Author.Tests.{leb-true, le-leb, lt-leb, le-ltb, lt-ltb, eq-eqb, ne-eqb}
 use lib.Dec.{leb}
-use Rattle.lists.specs.Tests.{pick, within}
+use Rattle.lists.specs.Tests.{pick, within, less}
 
 pub pick-same {ℓ} : {A : Type ℓ} (t : Bool) (a : A) → pick t a a ≡ a
 pick-same true a = refl
@@ -53,6 +53,10 @@ pick-true {t = t} u a b r e h q = rw (← e, h) q
 
 pub pick-false : {A : Type 0} {t : Bool} (u : Bool) (a b r : A) → t ≡ u → t ≡ false → r ≡ b → r ≡ pick u a b
 pick-false {t = t} u a b r e h q = rw (← e, h) q
+
+pub less-is : (n : ℕ) → less n ≡ n - 1
+less-is zero = refl
+less-is (suc n) = omega arith
 
 -- what `search` needs besides the borrow checker's own set to go by the tests of a definition
 pub ruleset tests = (needs, le-leb, lt-leb, le-ltb, lt-ltb, eq-eqb, ne-eqb, lt-of-lt-of-le)

@@ -1,3 +1,4 @@
+pub mod Characters
 pub mod Tests
 pub mod Bytes
 pub mod Parts

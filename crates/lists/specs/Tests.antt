@@ -1,5 +1,5 @@
--- A choice by a test, and whether a number lies in a range.
-use Prim.Native.Nat.{ℕ}
+-- A choice by a test, whether a number lies in a range, and one less.
+use Prim.Native.Nat.{ℕ, zero, suc}
 use mathlib.Core.Bool.{Bool, true, false}
 use lib.Dec.{leb}
 
@@ -11,3 +11,8 @@ pick false a b = b
 -- from ≤ x ≤ to
 abbrev pub within : ℕ → ℕ → ℕ → Bool
 within from to x = pick (leb from x) (leb x to) false
+
+-- one less, or 0: n - 1, by its cases
+abbrev pub less : ℕ → ℕ
+less zero = zero
+less (suc n) = n

@@ -19,6 +19,9 @@ use decode::view::View;
 use reference::Unescaped;
 use refusal::Refusal;
 use table::field;
+use table::number::LOCAL;
+use table::number::VALUE;
+use table::number::VALUE_LEN;
 
 // A text whose references are right: its part of the body, and to how many bytes it comes.
 pub struct Measured {
@@ -70,10 +73,10 @@ fn measure_row(body: &[u8], rows: &[u32], k: usize) -> FirstText
     requires { ⌜ InTable (now rows) k ⌝ }
     ensures { λ r. ⌜ MeasuredIs (now (body .entry)) (unescapedText (unescaped (valueAt (now (body .entry)) (now (rows .entry)) k))) r ⌝ }
 {
-    match unescape::measure(span(body, rows, k, 5)) {
+    match unescape::measure(span(body, rows, k, VALUE)) {
         Unescaped::Length(size) => {
-            let start = field(rows, k, 5);
-            let len = field(rows, k, 6);
+            let start = field(rows, k, VALUE);
+            let len = field(rows, k, VALUE_LEN);
             FirstText::Read(Measured { start, len, size })
         }
         Unescaped::BadReference => FirstText::Refused(Refusal::BadReference),
@@ -118,7 +121,7 @@ fn role_of(body: &[u8], rows: &[u32], sheet: &[u8], map: MapSheet, k: usize) -> 
     requires { ⌜ MapSaid (now sheet) map ⌝ }
     ensures { λ r. ⌜ RoleIs (mapSaid (now (sheet .entry))) (nameAt (now (body .entry)) (now (rows .entry)) k .local) r ⌝ }
 {
-    let local = span(body, rows, k, 3);
+    let local = span(body, rows, k, LOCAL);
     if codec::collection::is_key(sheet, map, local) {
         return Role::Key;
     }

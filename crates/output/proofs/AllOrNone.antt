@@ -11,7 +11,7 @@ use Rattle.refusal.specs.declared.Refusal.{Refusal}
 use Rattle.document.specs.View.{View}
 use Rattle.document.specs.Scope.{Child}
 use Rattle.sheet.specs.Sheet.{Structure}
-use Rattle.readings.specs.Output.{Entry, Room, Output, Reading, finished, refused, numbersOf, written, groupEntry}
+use Rattle.readings.specs.Output.{Entry, Room, Output, Reading, finished, refused, numbersOf, appended, groupEntry}
 use Rattle.readings.specs.Plan.{end, perform, followedBy, oneByOne, allOrNone}
 use Rattle.readings.specs.Structure.{groupOf, groupPlan}
 use Rattle.readings.specs.Demand.{Reaches, here, later, Exceeds, too-many, too-long}
@@ -50,7 +50,7 @@ module _ (body : List ℕ) (v : View) (s : Structure) (kids : List Child) where
   all-of [] out = record { all = out; reaches = here; entries = omega arith; texts = omega arith }
   all-of (i ∷ order) out =
       let b = groupOf body v s kids i in
-      let more = all-of order (written (groupEntry i b) b out) in
+      let more = all-of order (appended (groupEntry i b) b out) in
       record {
         all = more .all;
         reaches = later (more .reaches);

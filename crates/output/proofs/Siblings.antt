@@ -77,21 +77,21 @@ module _ (start len : ℕ) where
   more-has f (z ∷ x) h p q = rw p q
 
 -- ---- after some of the children: those kept so far, with those that are left, are those of all children
-pub record Keeps (body : List ℕ) (v : View) (s : Structure) (l : List ℕ) (count : ℕ) (left all : List Child) : Type 0 where
+pub record KeepsSiblings (body : List ℕ) (v : View) (s : Structure) (l : List ℕ) (count : ℕ) (left all : List Child) : Type 0 where
   pub room : count * 3 ≤ length l
   pub bytes : (i : ℕ) → keptBytes body (take (count * 3) l) i ++ siblings body v s i left ≡ siblings body v s i all
   pub has : (i : ℕ) → pick (isKept (take (count * 3) l) i) true (hasGroup s i left) ≡ hasGroup s i all
   pub inside : Inside body (take (count * 3) l)
 
-pub keeps-start : (body : List ℕ) (v : View) (s : Structure) (l : List ℕ) (all : List Child) → Keeps body v s l 0 all all
+pub keeps-start : (body : List ℕ) (v : View) (s : Structure) (l : List ℕ) (all : List Child) → KeepsSiblings body v s l 0 all all
 unfolding keptBytes isKept keptFor bytesOf
 keeps-start body v s l all =
     record { room = omega arith; bytes = λ i. refl; has = λ i. refl; inside = record { each = λ k h. absurd (omega (arith, h)) } }
 
 module _ {body : List ℕ} {v : View} {s : Structure} {l : List ℕ} {count : ℕ} {c : Child} {left all : List Child}
-    (q : Keeps body v s l count (c ∷ left) all) where
+    (q : KeepsSiblings body v s l count (c ∷ left) all) where
   -- a child that is not kept
-  pub keeps-other : flatMember (resolve s (c .start .name .local)) ≡ none → Keeps body v s l count left all
+  pub keeps-other : flatMember (resolve s (c .start .name .local)) ≡ none → KeepsSiblings body v s l count left all
   unfolding siblings hasGroup inGroup
   keeps-other e = record { room = q .room; bytes = λ i. rw e at (q .bytes i); has = λ i. rw e at (q .has i); inside = q .inside }
 
@@ -99,7 +99,7 @@ module _ {body : List ℕ} {v : View} {s : Structure} {l : List ℕ} {count : �
   pub keeps-more : {j start len : ℕ} {l′ : List ℕ} → l′ ≡ sets l (count * 3) (j ∷ start ∷ len ∷ []) → count * 3 + 3 ≤ length l
       → flatMember (resolve s (c .start .name .local)) ≡ some j → pieceOf body v c ≡ record { start = start; len = len }
       → start + len ≤ length body
-      → Keeps body v s l′ (count + 1) left all
+      → KeepsSiblings body v s l′ (count + 1) left all
   unfolding siblings hasGroup inGroup keptBytes isKept keptFor
   keeps-more {j} {start} {len} {l′} p h e w g =
       record {
@@ -125,7 +125,7 @@ module _ {body : List ℕ} {v : View} {s : Structure} {l : List ℕ} {count : �
       new = let z : (count + 1) * 3 ≡ count * 3 + 3 = omega arith in rw (z, p) (take-sets l (count * 3) (j ∷ start ∷ len ∷ []) h)
 
 -- ---- after all of them
-module _ {body : List ℕ} {v : View} {s : Structure} {l : List ℕ} {count : ℕ} {all : List Child} (q : Keeps body v s l count [] all)
+module _ {body : List ℕ} {v : View} {s : Structure} {l : List ℕ} {count : ℕ} {all : List Child} (q : KeepsSiblings body v s l count [] all)
     (i : ℕ) where
   pub keeps-bytes : keptBytes body (take (count * 3) l) i ≡ siblings body v s i all
   unfolding siblings

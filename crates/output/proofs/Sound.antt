@@ -12,7 +12,7 @@ use Rattle.lists.specs.Overwrite.{overwritten}
 use Rattle.refusal.specs.declared.Refusal.{Refusal}
 use Rattle.reference.specs.Text.{Out, bytes, bad, unescaped}
 use Rattle.reference.proofs.Result.{unescaped-shorter}
-use Rattle.readings.specs.Output.{Entry, Room, Output, finished, refused, output, numbersOf, fits, written, textEntry}
+use Rattle.readings.specs.Output.{Entry, Room, Output, finished, refused, output, numbersOf, fits, appended, textEntry}
 use Rattle.readings.specs.Output.{pieceEntry, groupEntry, failedEntry, keyTextEntry, keyPieceEntry}
 use Rattle.readings.specs.Plan.{Plan, perform, one}
 use Rattle.readings.specs.Structure.{scalarPlan}
@@ -108,7 +108,7 @@ write-adds : (room : Room) (entry : ℕ → Entry) (x : List ℕ) (out : Output)
 unfolding perform
 write-adds room entry x out = go (fits room x out)
   where
-    go : (b : Bool) → length (output (pick b (finished (written entry x out)) (refused Refusal.NoRoom out)) .texts)
+    go : (b : Bool) → length (output (pick b (finished (appended entry x out)) (refused Refusal.NoRoom out)) .texts)
         ≤ length (out .texts) + length x
     go true = omega (arith, length-append (out .texts) x)
     go false = omega arith

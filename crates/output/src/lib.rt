@@ -12,6 +12,13 @@ ghost use Rattle.readings.specs.Output.{sixNumbers};
 ghost use Rattle.output.specs.Plans.{entryOf, plainOf, entered, piece, failed, text, scalar, keyText, keyPiece, group};
 ghost use Rattle.output.specs.Held.{HasRoom, Does, Enters, Comes, Ready};
 ghost use Rattle.output.specs.Kept.{isKept, GroupLen, keptBytes, flat, Inside, Wide};
+
+pub mod kind;
+
+use crate::kind::FAILED;
+use crate::kind::GROUP;
+use crate::kind::PIECE;
+use crate::kind::TEXT;
 use reference::Unescaped;
 use refusal::Refusal;
 
@@ -87,7 +94,7 @@ pub fn write_piece(entries: &mut [u32], w: Written, member: u32, start: u32, len
         entries,
         w,
         Six {
-            kind: 2,
+            kind: PIECE,
             member,
             key_start: 0,
             key_len: 0,
@@ -106,7 +113,7 @@ pub fn write_failed(entries: &mut [u32], w: Written, member: u32, why: Refusal) 
         entries,
         w,
         Six {
-            kind: 4,
+            kind: FAILED,
             member,
             key_start: 0,
             key_len: 0,
@@ -172,7 +179,7 @@ fn write_measured(
         b"",
         0,
         Six {
-            kind: 1,
+            kind: TEXT,
             member,
             key_start: 0,
             key_len: 0,
@@ -246,7 +253,7 @@ pub fn write_key_piece(
         b"",
         0,
         Six {
-            kind: 2,
+            kind: PIECE,
             member: 0,
             key_start: used as u32,
             key_len: n as u32,
@@ -282,7 +289,7 @@ pub fn write_key_text(
         value,
         m,
         Six {
-            kind: 1,
+            kind: TEXT,
             member: 0,
             key_start: used as u32,
             key_len: n as u32,
@@ -367,6 +374,9 @@ fn put_kept(body: &[u8], kept: &[u32], member: u32, texts: &mut [u8], from: usiz
     at
 }
 
+// The bytes of `<__flat>` and `</__flat>`.
+pub const FLAT_TAGS: usize = 17;
+
 // Copies the group of a member between its two tags, and answers the place after it.
 fn put_flat(body: &[u8], kept: &[u32], member: u32, texts: &mut [u8], from: usize) -> usize
     requires { ⌜ Inside (now body) (now kept) ⌝ }
@@ -395,11 +405,11 @@ pub fn write_group(
 {
     let count = w.count;
     let used = w.used;
-    let n = group_len(kept, member) + 17;
+    let n = group_len(kept, member) + FLAT_TAGS;
     if has_room(entries.len(), texts.len(), w, n) {
         let end = put_flat(body, kept, member, texts, used);
         let s = Six {
-            kind: 3,
+            kind: GROUP,
             member,
             key_start: 0,
             key_len: 0,

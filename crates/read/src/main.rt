@@ -1,6 +1,6 @@
 // The command for a person: `read FILE` takes the file's bytes as the text, `read --text TEXT` the argument, and either says in words what
 // the proved functions answer: whether the text's references are valid, and the text that they stand for. `read --table TABLE FILE` says
-// whether the XML body in the file is well-formed by its token table, and where it is not. It rests on `unescape` and `falzheod`; that a
+// whether the XML body in the file is well-formed by its token table, and where it is not. It rests on `unescape` and `decode`; that a
 // file is read as it stands rests on the system's calls, whose contracts are assumed.
 mod file;
 mod place;

@@ -4,8 +4,10 @@ use crate::file::Content;
 use crate::place;
 use crate::table;
 use crate::table::Numbers;
-use falzheod::falzheod_drain;
+use decode::drain::drain;
 use libc::STDOUT_FILENO;
+use xml::Cause;
+use xml::Drained;
 
 // An empty table passes whatever the body is, one that is not UTF-8 too, so well-formed is not said of it.
 fn print_passes(rows: usize) {
@@ -28,30 +30,31 @@ fn print_place(before: &[u8]) {
     io::print_decimal(STDOUT_FILENO, place::column(before));
 }
 
-fn print_cause(cause: u32) {
-    if cause == 1 {
-        io::write_all(STDOUT_FILENO, b": a token cannot be read");
+fn print_cause(cause: Cause) {
+    match cause {
+        Cause::TokenError => {
+            io::write_all(STDOUT_FILENO, b": a token cannot be read\n");
+        }
+        Cause::MismatchedEnd => {
+            io::write_all(
+                STDOUT_FILENO,
+                b": an end tag is not that of the open element\n",
+            );
+        }
+        Cause::UnclosedElement => {
+            io::write_all(STDOUT_FILENO, b": an element is not closed\n");
+        }
+        Cause::RepeatedAttribute => {
+            io::write_all(STDOUT_FILENO, b": an attribute is repeated\n");
+        }
+        Cause::BadReference => {
+            io::write_all(STDOUT_FILENO, b": a reference is bad\n");
+        }
     }
-    if cause == 2 {
-        io::write_all(
-            STDOUT_FILENO,
-            b": an end tag is not that of the open element",
-        );
-    }
-    if cause == 3 {
-        io::write_all(STDOUT_FILENO, b": an element is not closed");
-    }
-    if cause == 4 {
-        io::write_all(STDOUT_FILENO, b": an attribute is repeated");
-    }
-    if cause == 5 {
-        io::write_all(STDOUT_FILENO, b": a reference is bad");
-    }
-    io::write_all(STDOUT_FILENO, b"\n");
 }
 
 // `at` is where the row's token begins, within the body for each table that obeys the rules.
-fn print_ill_formed(body: &[u8], row: usize, at: usize, cause: u32) {
+fn print_ill_formed(body: &[u8], row: usize, at: usize, cause: Cause) {
     io::write_all(STDOUT_FILENO, b"refused with 9 in row ");
     io::print_decimal(STDOUT_FILENO, row as u64);
     if at <= body.len() {
@@ -61,15 +64,16 @@ fn print_ill_formed(body: &[u8], row: usize, at: usize, cause: u32) {
 }
 
 fn show_drained(body: &[u8], rows: &[u32], end: u32) {
-    let mut row: usize = 0;
-    let mut cause: u32 = 0;
-    let number = falzheod_drain(body, rows, end, &mut row, &mut cause);
-    if number == 0 {
-        print_passes(rows.len() / 8);
-    } else if number == 9 {
-        print_ill_formed(body, row, place::start(body, rows, end, row), cause);
-    } else {
-        io::write_all(STDOUT_FILENO, b"refused with 1: the table breaks a rule\n");
+    match drain(body, rows, end) {
+        Drained::Passes => {
+            print_passes(rows.len() / 8);
+        }
+        Drained::Table => {
+            io::write_all(STDOUT_FILENO, b"refused with 1: the table breaks a rule\n");
+        }
+        Drained::IllFormed { row, cause } => {
+            print_ill_formed(body, row, place::start(body, rows, end, row), cause);
+        }
     }
 }
 

@@ -23,5 +23,5 @@ use Rattle.readings.specs.Scalar.{booleanOf, integerOf, stringIn, scalar
 use Rattle.readings.specs.Find.{firstChild, findIn, find}
 
 unfoldable pub computed : Unit {0}
-unfolding reference.computed sameb rowsOf tokAs lastLt closing isClosed decTable xml.sameName xml.seen xml.walk xml.walked xml.drained beforeColon nameMatches errorAt view skip next level children endOf childrenOf afterChildren rootOf pieceOf firstText textOf joined wholeOf times structureOf listOf mapOf indexed firstNamed numbersOf perform followedBy oneByOne performed opened asked attributeOf attributePlan childPlan inGroup siblings groupOf groupPlan membersPlan rootPiece unwrappedPlan openedPlan structurePlan structureReading isWanted itemPlan itemsPlan listPlan listReading stringPlan stringsPlan stringListPlan stringListReading readField readFields entryPlan afterEntry entriesOf entriesPlan mapPlan mapReading booleanOf integerOf stringIn scalarText booleanReading integerReading stringReading wholeText firstChild findIn find
+unfolding reference.computed sameb rowsOf tokAs lastLt closing isClosed decTable xml.sameName xml.hasName xml.walk xml.walked xml.drained beforeColon nameMatches errorAt view skip next level children endOf childrenOf afterChildren rootOf pieceOf firstText textOf joined wholeOf times structureOf listOf mapOf indexed firstNamed numbersOf perform followedBy oneByOne performed opened asked attributeOf attributePlan childPlan inGroup siblings groupOf groupPlan membersPlan rootPiece unwrappedPlan openedPlan structurePlan structureReading isWanted itemPlan itemsPlan listPlan listReading stringPlan stringsPlan stringListPlan stringListReading readField readFields entryPlan afterEntry entriesOf entriesPlan mapPlan mapReading booleanOf integerOf stringIn scalarText booleanReading integerReading stringReading wholeText firstChild findIn find
 computed = tt {0}

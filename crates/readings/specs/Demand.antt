@@ -22,7 +22,7 @@ use Rattle.sheet.specs.Settings.{Settings, testsRootName}
 use Rattle.sheet.specs.Sheet.{Structure, structureOf, ListSheet, MapSheet}
 use Rattle.sheet.specs.Names.{rootName, itemName, entryName, keyName, valueName, valueAggregate}
 use Rattle.readings.specs.Call.{Upload, Call}
-use Rattle.readings.specs.Output.{Entry, textKind, pieceKind, groupKind, failedKind, Room, Output, nothing, written}
+use Rattle.readings.specs.Output.{Entry, textKind, pieceKind, groupKind, failedKind, Room, Output, nothing, appended}
 use Rattle.readings.specs.Output.{Reading, finished, refused}
 use Rattle.readings.specs.Plan.{Plan, put, end}
 use Rattle.readings.specs.Opening.{Asked}
@@ -59,7 +59,7 @@ pub data TextWanted (settings : Settings) : (shape : Shape) → Asked (SheetOf s
 -- "no room": a plan, whatever the room, writes from one output to another, and there another plan is left of it
 pub data Reaches : Plan → Output → Plan → Output → Type 0 where
   here : {p : Plan} {out : Output} → Reaches p out p out
-  later : {entry : ℕ → Entry} {bytes : List ℕ} {p q : Plan} {out last : Output} → Reaches p (written entry bytes out) q last
+  later : {entry : ℕ → Entry} {bytes : List ℕ} {p q : Plan} {out last : Output} → Reaches p (appended entry bytes out) q last
       → Reaches (put entry bytes p) out q last
 
 pub data Exceeds (room : Room) (out : Output) : Type 0 where
@@ -77,9 +77,9 @@ pub data MayRefuse (u : Upload) (call : Call) (room : Room) (shape : Shape) (out
   element-in-text : (a : Asked (SheetOf shape)) (c : Child) → ReadOf u (call .sheet) shape a → TextWanted (call .settings) shape a c
       → textOf none c ≡ answer.refuses Refusal.ElementInText → MayRefuse u call room shape out Refusal.ElementInText
   no-room : {entry : ℕ → Entry} {bytes : List ℕ} {more : Plan} → Reaches (planOf shape u call .asMet) nothing (put entry bytes more) out
-      → Exceeds room (written entry bytes out) → MayRefuse u call room shape out Refusal.NoRoom
+      → Exceeds room (appended entry bytes out) → MayRefuse u call room shape out Refusal.NoRoom
   groups-no-room : {entry : ℕ → Entry} {bytes : List ℕ} {more : Plan} {last : Output} → Reaches (planOf shape u call .asMet) nothing end out
-      → Reaches (planOf shape u call .groups) out (put entry bytes more) last → Exceeds room (written entry bytes last)
+      → Reaches (planOf shape u call .groups) out (put entry bytes more) last → Exceeds room (appended entry bytes last)
       → MayRefuse u call room shape out Refusal.NoRoom
 
 -- ---- "Each piece it hands out, finished or refused, is exactly its element's bytes from `<` to the end of its end tag or `/>`, and that

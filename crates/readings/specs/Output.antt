@@ -81,25 +81,25 @@ abbrev pub fits : Room → List ℕ → Output → Bool
 fits room bytes out = pick (ltb (length (out .entries)) (room .entries)) (leb (length (out .texts) + length bytes) (room .bytes)) false
 
 -- an entry more, made with the place where its bytes begin in the text buffer, and its bytes
-abbrev pub written : (ℕ → Entry) → List ℕ → Output → Output
-written entry bytes out = record { entries = out .entries ++ entry (length (out .texts)) ∷ []; texts = out .texts ++ bytes }
+abbrev pub appended : (ℕ → Entry) → List ℕ → Output → Output
+appended entry bytes out = record { entries = out .entries ++ entry (length (out .texts)) ∷ []; texts = out .texts ++ bytes }
 
 -- ---- the entries of each kind, made with the place where their bytes begin in the text buffer
 -- an entry outside maps
-abbrev pub plain : ℕ → ℕ → ℕ → ℕ → Entry
-plain kind member start len = record { kind = kind; member = member; keyStart = 0; keyLen = 0; start = start; len = len }
+abbrev pub keyless : ℕ → ℕ → ℕ → ℕ → Entry
+keyless kind member start len = record { kind = kind; member = member; keyStart = 0; keyLen = 0; start = start; len = len }
 
 abbrev pub textEntry : ℕ → List ℕ → ℕ → Entry
-textEntry member bytes at = plain textKind member at (length bytes)
+textEntry member bytes at = keyless textKind member at (length bytes)
 
 abbrev pub pieceEntry : ℕ → Piece → ℕ → Entry
-pieceEntry member piece at = plain pieceKind member (piece .start) (piece .len)
+pieceEntry member piece at = keyless pieceKind member (piece .start) (piece .len)
 
 abbrev pub groupEntry : ℕ → List ℕ → ℕ → Entry
-groupEntry member bytes at = plain groupKind member at (length bytes)
+groupEntry member bytes at = keyless groupKind member at (length bytes)
 
 abbrev pub failedEntry : ℕ → Refusal → ℕ → Entry
-failedEntry member refusal at = plain failedKind member (number refusal) 0
+failedEntry member refusal at = keyless failedKind member (number refusal) 0
 
 -- a map entry: "A map writes the key before the value."
 abbrev pub keyTextEntry : List ℕ → List ℕ → ℕ → Entry

@@ -4,7 +4,7 @@ use mathlib.Core.Bool.{Bool, true, false}
 use mathlib.Core.List.{List, [], _∷_}
 use Rattle.lists.specs.Tests.{pick}
 use Rattle.refusal.specs.declared.Refusal.{Refusal}
-use Rattle.readings.specs.Output.{Entry, Room, Output, nothing, Reading, finished, refused, fits, written}
+use Rattle.readings.specs.Output.{Entry, Room, Output, nothing, Reading, finished, refused, fits, appended}
 
 -- an entry, made with the place where its bytes begin in the text buffer, with its bytes, and what comes then; or the end; or a refusal
 pub data Plan : Type 0 where
@@ -15,7 +15,7 @@ pub data Plan : Type 0 where
 -- "An entry and its text are written only if both fit; else 10": there the plan is left. What was written stays.
 unfoldable pub perform : Room → Plan → Output → Reading
 perform room (put entry bytes more) out =
-    pick (fits room bytes out) (perform room more (written entry bytes out)) (refused Refusal.NoRoom out)
+    pick (fits room bytes out) (perform room more (appended entry bytes out)) (refused Refusal.NoRoom out)
 perform room end out = finished out
 perform room (stop r) out = refused r out
 

@@ -9,7 +9,7 @@ use Rattle.lists.specs.Tests.{pick}
 use Rattle.lists.specs.Bytes.{ascii, sameb}
 use Rattle.refusal.specs.declared.Refusal.{Refusal}
 use Rattle.refusal.specs.Answer.{Answer, gives, refuses, onward}
-use Rattle.reference.specs.Number.{number}
+use Rattle.reference.specs.Number.{numeral}
 use Rattle.reference.specs.declared.Number.{Number}
 use Rattle.reference.specs.declared.Number.the-variants.{Value, No}
 use Rattle.table.specs.Row.{rowsOf, toksOf}
@@ -32,7 +32,7 @@ booleanOf text =
 -- "one or more digits"
 abbrev pub digitsOf : List ℕ → Number
 digitsOf [] = No
-digitsOf (b ∷ s) = number 10 0 (b ∷ s)
+digitsOf (b ∷ s) = numeral 10 0 (b ∷ s)
 
 abbrev pub minus : ℕ → ℤ
 minus zero = pos zero
@@ -49,7 +49,7 @@ negative (Value n) = pick (leb n (2 ^ 31)) (gives (minus n)) (refuses Refusal.No
 
 -- "Integers: optional sign, one or more digits, range of 32 bits, nothing trimmed."
 unfoldable pub integerOf : List ℕ → Answer ℤ
-unfolding number
+unfolding numeral
 integerOf [] = refuses Refusal.NotInteger
 integerOf (b ∷ s) =
     pick (eqb b 43) (positive (digitsOf s))

@@ -16,7 +16,7 @@ use Rattle.lists.proofs.Tests.{pick-same, pick-cases, false-true, or-is, within
 use Rattle.lists.specs.Bytes.{ascii, sameb}
 use Rattle.lists.proofs.Parts.{getD-in}
 use Rattle.utf8.specs.Encode.{encode}
-use Rattle.reference.specs.Number.{digit, number, limited, digits}
+use Rattle.reference.specs.Number.{digit, numeral, limited, digits}
 use Rattle.reference.specs.Entity.{named, numeric, only, first, xmlChar, reader, allowed, charOf}
 use Rattle.reference.specs.Text.{span, sized, reference, Out, before, decode, verdict, references, validated}
 use Rattle.reference.specs.Text.Out.{bytes, bad}
@@ -110,7 +110,7 @@ hexadecimal-complete b d (xml.capital k g h i) =
     record { value = omega (arith, in-second b (omega arith) (omega arith)); less = omega arith; semicolon = λ e. omega arith; ampersand = λ e. omega arith }
 
 -- bytes that end no entity
-data Clean : List ℕ → Type 0 where
+pub data Clean : List ℕ → Type 0 where
   clean-none : Clean []
   clean-byte : {b : ℕ} {s : List ℕ} → (b ≡ 59 → ⊥) → (b ≡ 38 → ⊥) → Clean s → Clean (b ∷ s)
 
@@ -130,7 +130,7 @@ span-clean (clean-byte {b} {s} g h c) r = rw (ne-eqb b 59 g, ne-eqb b 38 h) (ap 
 -- the digits of a numeral: some, clean, and its number
 record IsNumeral (base : ℕ) (s : List ℕ) (n : ℕ) : Type 0 where
   some : 1 ≤ length s
-  value : number base 0 s ≡ Value n
+  value : numeral base 0 s ≡ Value n
   clean : Clean s
 
 limited-is : (x : Number) {n : ℕ} → limited x ≡ Value n → x ≡ Value n
@@ -142,34 +142,34 @@ limited-is (Value m) {n} e = go (ltb m (2 ^ 32)) e
     go true e = e
     go false e = no-value e
 
-digits-is : (base : ℕ) (s : List ℕ) {n : ℕ} → digits base s ≡ Value n → number base 0 s ≡ Value n
+digits-is : (base : ℕ) (s : List ℕ) {n : ℕ} → digits base s ≡ Value n → numeral base 0 s ≡ Value n
 unfolding digits
 digits-is base s {n} e = go (leb 1 (length s)) e
   where
-    go : (t : Bool) → pick t (limited (number base 0 s)) No ≡ Value n → number base 0 s ≡ Value n
-    go true e = limited-is (number base 0 s) e
+    go : (t : Bool) → pick t (limited (numeral base 0 s)) No ≡ Value n → numeral base 0 s ≡ Value n
+    go true e = limited-is (numeral base 0 s) e
     go false e = no-value e
 
 -- ---- numerals, over a kind of digit
 module _ (Digit : ℕ → ℕ → Type 0) (base : ℕ) (sound : (b : ℕ) → digit b < base → Digit b (digit b)) where
   -- p is read and comes to acc
-  more-digits : (p s : List ℕ) (acc n : ℕ) → Numeral Digit base p acc → number base acc s ≡ Value n → Numeral Digit base (p ++ s) n
-  unfolding number
+  more-digits : (p s : List ℕ) (acc n : ℕ) → Numeral Digit base p acc → numeral base acc s ≡ Value n → Numeral Digit base (p ++ s) n
+  unfolding numeral
   more-digits p [] acc n x e = let q : acc ≡ n = cc in rw (append-nil, ← q) x
   more-digits p (b ∷ s) acc n x e = go (ltb (digit b) base) refl e (more-digits (p ++ (b ∷ [])) s (acc * base + digit b) n)
     where
-      go : (t : Bool) → ltb (digit b) base ≡ t → pick t (number base (acc * base + digit b) s) No ≡ Value n
-          → (Numeral Digit base (p ++ (b ∷ [])) (acc * base + digit b) → number base (acc * base + digit b) s ≡ Value n → Numeral Digit base ((p ++ (b ∷ [])) ++ s) n)
+      go : (t : Bool) → ltb (digit b) base ≡ t → pick t (numeral base (acc * base + digit b) s) No ≡ Value n
+          → (Numeral Digit base (p ++ (b ∷ [])) (acc * base + digit b) → numeral base (acc * base + digit b) s ≡ Value n → Numeral Digit base ((p ++ (b ∷ [])) ++ s) n)
           → Numeral Digit base (p ++ (b ∷ s)) n
       go true h e ih = rw append-assoc at (ih (xml.more x (sound b (ltb-true _ _ h))) e)
       go false h e ih = no-value e
 
   numeral-sound : (s : List ℕ) {n : ℕ} → digits base s ≡ Value n → Numeral Digit base s n
-  unfolding digits number
+  unfolding digits numeral
   numeral-sound [] e = no-value e
   numeral-sound (b ∷ s) {n} e = go (ltb (digit b) base) refl (digits-is base (b ∷ s) e)
     where
-      go : (t : Bool) → ltb (digit b) base ≡ t → pick t (number base (0 * base + digit b) s) No ≡ Value n → Numeral Digit base (b ∷ s) n
+      go : (t : Bool) → ltb (digit b) base ≡ t → pick t (numeral base (0 * base + digit b) s) No ≡ Value n → Numeral Digit base (b ∷ s) n
       go true h e =
           let z : 0 * base + digit b ≡ digit b = rw (zero-mul, zero-add) in
           more-digits (b ∷ []) s (digit b) n (xml.one (sound b (ltb-true _ _ h))) (rw z at e)
@@ -177,19 +177,19 @@ module _ (Digit : ℕ → ℕ → Type 0) (base : ℕ) (sound : (b : ℕ) → di
 
 module _ (Digit : ℕ → ℕ → Type 0) (base : ℕ) (complete : (b d : ℕ) → Digit b d → IsDigit base b d) where
   -- one digit more
-  number-snoc : (s : List ℕ) (acc n b d : ℕ) → number base acc s ≡ Value n → IsDigit base b d → number base acc (s ++ (b ∷ [])) ≡ Value (n * base + d)
-  unfolding number
+  number-snoc : (s : List ℕ) (acc n b d : ℕ) → numeral base acc s ≡ Value n → IsDigit base b d → numeral base acc (s ++ (b ∷ [])) ≡ Value (n * base + d)
+  unfolding numeral
   number-snoc [] acc n b d e i = let q : acc ≡ n = cc in rw (i .value, lt-ltb d base (i .less), q)
   number-snoc (x ∷ s) acc n b d e i = go (ltb (digit x) base) e (number-snoc s (acc * base + digit x) n b d)
     where
-      go : (t : Bool) → pick t (number base (acc * base + digit x) s) No ≡ Value n
-          → (number base (acc * base + digit x) s ≡ Value n → IsDigit base b d → number base (acc * base + digit x) (s ++ (b ∷ [])) ≡ Value (n * base + d))
-          → pick t (number base (acc * base + digit x) (s ++ (b ∷ []))) No ≡ Value (n * base + d)
+      go : (t : Bool) → pick t (numeral base (acc * base + digit x) s) No ≡ Value n
+          → (numeral base (acc * base + digit x) s ≡ Value n → IsDigit base b d → numeral base (acc * base + digit x) (s ++ (b ∷ [])) ≡ Value (n * base + d))
+          → pick t (numeral base (acc * base + digit x) (s ++ (b ∷ []))) No ≡ Value (n * base + d)
       go true e ih = ih e i
       go false e ih = no-value e
 
   numeral-complete : {s : List ℕ} {n : ℕ} → Numeral Digit base s n → IsNumeral base s n
-  unfolding number
+  unfolding numeral
   numeral-complete (xml.one {b} {d} x) =
       let i = complete b d x in
       let z : 0 * base + digit b ≡ d = rw (zero-mul, zero-add) (i .value) in
@@ -275,8 +275,8 @@ unfolding digits limited
 digits-value base {s} {c} m k = rw (le-leb 1 (length s) (m .some), m .value, lt-ltb c (2 ^ 32) (char-limit c k))
 
 -- a numeral does not begin with `x`
-no-x : (base : ℕ) (s : List ℕ) {n : ℕ} → base ≤ 16 → number base 0 s ≡ Value n → getD s 0 0 ≡ 120 → ⊥
-unfolding number digit
+no-x : (base : ℕ) (s : List ℕ) {n : ℕ} → base ≤ 16 → numeral base 0 s ≡ Value n → getD s 0 0 ≡ 120 → ⊥
+unfolding numeral digit
 no-x base [] h e q = omega arith
 no-x base (b ∷ s) {n} h e q = no-value (rw (q, le-ltb 16 base h) at e)
 
@@ -451,6 +451,11 @@ validate-sound t e = go (decode true 0 0 t) refl e
     go : (o : Out) → decode true 0 0 t ≡ o → verdict o ≡ Validated.Valid → EachReference t
     go (bytes l) q e = record { each = each-sound 0 0 t l (λ j h e. omega arith) q }
     go (bad at) q e = let z : _≡_ {A = ℕ} 0 1 = cc in absurd (omega arith)
+
+-- where there is nothing, nothing is wrong
+pub validated-none : validated [] ≡ Validated.Valid
+unfolding validated references verdict decode
+validated-none = refl
 
 pub validate-complete : (t : List ℕ) → EachReference t → validated t ≡ Validated.Valid
 unfolding validated references verdict

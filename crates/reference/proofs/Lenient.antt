@@ -10,7 +10,7 @@ use lib.ListN.{getD, drop, take}
 use Rattle.lists.specs.Tests.{pick}
 use Rattle.lists.proofs.Tests.{pick-same}
 use Rattle.utf8.specs.Encode.{scalar, encode}
-use Rattle.reference.specs.Number.{digit, number, limited, digits, plusDigits}
+use Rattle.reference.specs.Number.{digit, numeral, limited, digits, plusDigits}
 use Rattle.reference.specs.Entity.{named, numeric, only, first, xmlChar, reader, allowed, charOf}
 use Rattle.reference.specs.Text.{span, sized, reference, Out, before, decode, verdict, references, validated, unescaped}
 use Rattle.reference.specs.Text.Out.{bytes, bad}
@@ -26,7 +26,7 @@ unfolding digit
 plus b e = rw e
 
 plus-no : (base : ℕ) (s : List ℕ) → base ≤ 16 → getD s 0 0 ≡ 43 → digits base s ≡ No
-unfolding digits number limited
+unfolding digits numeral limited
 plus-no base [] h e = absurd (omega arith)
 plus-no base (b ∷ s) h e = rw (plus b e, le-ltb 16 base h, pick-same)
 

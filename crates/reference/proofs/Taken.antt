@@ -13,7 +13,7 @@ use Rattle.lists.specs.Bytes.{ascii, sameb}
 use Rattle.lists.proofs.Bytes.{same-is}
 use Rattle.lists.proofs.Parts.{getD-in}
 use Rattle.utf8.specs.Encode.{scalar}
-use Rattle.reference.specs.Number.{digits, plusDigits, limited, number}
+use Rattle.reference.specs.Number.{digits, plusDigits, limited, numeral}
 use Rattle.reference.specs.Entity.{named, numeric, only, first, xmlChar, reader, allowed, charOf}
 use Rattle.reference.specs.Text.{span, sized, reference}
 use Rattle.reference.specs.declared.Number.{Number}
@@ -50,7 +50,7 @@ digits-some : (base : ℕ) (s : List ℕ) {n : ℕ} → digits base s ≡ Value 
 unfolding digits
 digits-some base s {n} e = go (leb 1 (length s)) refl e
   where
-    go : (t : Bool) → leb 1 (length s) ≡ t → pick t (limited (number base 0 s)) No ≡ Value n → 1 ≤ length s
+    go : (t : Bool) → leb 1 (length s) ≡ t → pick t (limited (numeral base 0 s)) No ≡ Value n → 1 ≤ length s
     go true h q = leb-true _ _ h
     go false h q = no-value q
 

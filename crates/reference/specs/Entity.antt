@@ -4,6 +4,7 @@ use mathlib.Core.Bool.{Bool, true, false}
 use mathlib.Core.List.{List}
 use lib.Dec.{eqb}
 use lib.ListN.{getD, drop}
+use Rattle.lists.specs.Characters.{quote, hash, ampersand, apostrophe, lessThan, greaterThan, smallX}
 use Rattle.lists.specs.Tests.{pick, within}
 use Rattle.lists.specs.Bytes.{ascii, sameb}
 use Rattle.utf8.specs.Encode.{scalar}
@@ -14,18 +15,18 @@ use Rattle.reference.specs.declared.Number.the-variants.{Value, No}
 -- "Both know lt, gt, amp, quot, apos"
 unfoldable pub named : List ℕ → Number
 named e =
-    pick (sameb e (ascii "lt")) (Value 60)
-    (pick (sameb e (ascii "gt")) (Value 62)
-    (pick (sameb e (ascii "amp")) (Value 38)
-    (pick (sameb e (ascii "quot")) (Value 34)
-    (pick (sameb e (ascii "apos")) (Value 39)
+    pick (sameb e (ascii "lt")) (Value lessThan)
+    (pick (sameb e (ascii "gt")) (Value greaterThan)
+    (pick (sameb e (ascii "amp")) (Value ampersand)
+    (pick (sameb e (ascii "quot")) (Value quote)
+    (pick (sameb e (ascii "apos")) (Value apostrophe)
     No))))
 
 -- "`#` decimal, `#x` hexadecimal (small x)", the digits read by f
 unfoldable pub numeric : (ℕ → List ℕ → Number) → List ℕ → Number
 numeric f e =
-    pick (eqb (getD e 0 0) 35)
-    (pick (eqb (getD e 1 0) 120) (f 16 (drop 2 e)) (f 10 (drop 1 e)))
+    pick (eqb (getD e 0 0) hash)
+    (pick (eqb (getD e 1 0) smallX) (f 16 (drop 2 e)) (f 10 (drop 1 e)))
     No
 
 -- a number, if it passes the test

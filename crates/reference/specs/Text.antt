@@ -5,6 +5,7 @@ use mathlib.Core.Bool.{Bool, true, false}
 use mathlib.Core.List.{List, [], _∷_, _++_}
 use lib.Dec.{leb, eqb}
 use lib.ListN.{length, getD, take}
+use Rattle.lists.specs.Characters.{ampersand, semicolon}
 use Rattle.lists.specs.Tests.{pick}
 use Rattle.lists.specs.Overwrite.{overwritten}
 use Rattle.utf8.specs.Encode.{encode}
@@ -18,7 +19,7 @@ use Rattle.reference.specs.declared.Unescaped.{Unescaped}
 -- how many bytes stand before the first `;` or `&`
 unfoldable pub span : List ℕ → ℕ
 span [] = 0
-span (b ∷ s) = pick (eqb b 59) 0 (pick (eqb b 38) 0 (suc (span s)))
+span (b ∷ s) = pick (eqb b semicolon) 0 (pick (eqb b ampersand) 0 (suc (span s)))
 
 -- a character as a reference of n bytes after its `&`
 unfoldable pub sized : ℕ → Number → Reference
@@ -27,7 +28,7 @@ sized n No = Reference.Bad
 
 -- the reference whose bytes after `&` the list begins with: "each section after an `&` needs a `;` before the next `&`"
 unfoldable pub reference : Bool → List ℕ → Reference
-reference strict s = pick (eqb (getD s (span s) 0) 59) (sized (span s + 1) (charOf strict (take (span s) s))) Reference.Bad
+reference strict s = pick (eqb (getD s (span s) 0) semicolon) (sized (span s + 1) (charOf strict (take (span s) s))) Reference.Bad
 
 -- the bytes that a text stands for, or the place of its first `&` that begins no reference, counted from the start of the text
 pub data Out : Type 0 where
@@ -44,7 +45,7 @@ unfoldable pub decode : Bool → ℕ → ℕ → List ℕ → Out
 decode strict at skip [] = bytes []
 decode strict at (suc k) (b ∷ s) = decode strict (suc at) k s
 decode strict at zero (b ∷ s) =
-    elim (eqb b 38) [
+    elim (eqb b ampersand) [
       | true ↦ elim (reference strict s) [ Reference.Char c n ↦ before (encode c) (decode strict (suc at) n s) | Reference.Bad ↦ bad at ]
       | false ↦ before (b ∷ []) (decode strict (suc at) zero s)
     ]

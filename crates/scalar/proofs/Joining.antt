@@ -21,13 +21,14 @@ use Rattle.unescape.specs.Loops.{sizeOf}
 use Rattle.table.specs.Row.{Name, Tok, tokAs}
 use Rattle.document.specs.declared.Depth.{Depth}
 use Rattle.document.specs.Reader.{depth, depthAfter, Scope, endsAt}
-use Rattle.document.specs.Text.{joinTurn, joined}
+use Rattle.document.specs.Text.{takeEach, joined}
 use Rattle.document.proofs.Laws.Short.{cut-short}
 use Rattle.decode.specs.declared.reader.ScopeRow.{ScopeRow}
 use Rattle.decode.specs.declared.view.View.{View}
 use Rattle.decode.specs.Rows.{InTable, nameAt, valueAt, tokAt}
 use Rattle.decode.specs.Reader.{toksFrom, scopeAt, HasRow, DepthIs, bytesOf}
 use Rattle.decode.specs.View.{Viewed}
+use Rattle.decode.proofs.ByKind.{other}
 use Rattle.decode.proofs.Names.{value-span}
 use Rattle.decode.proofs.Places.{toks-next, toks-none, tok-is, row-seen}
 use Rattle.scalar.specs.declared.Copied.{Copied}
@@ -37,20 +38,6 @@ use Rattle.scalar.specs.Whole.{prepend, turnAs, joinAt, TurnIs, joinedFr
 use Rattle.scalar.proofs.Unescaping.{size-length, size-bad, size-never}
 
 -- ---- what a row does
--- no start and no text: the text goes on after it, unless it ends the scope
-other-join : (kind : ℕ) (m : Name) (v : List ℕ) → (kind ≡ 6 → ⊥) → (kind ≡ 1 → ⊥) → (s : Scope) (d : Depth) (more : Answer (List ℕ))
-    → joinTurn s d (tokAs kind m v) more ≡ pick (endsAt s d (tokAs kind m v)) (gives []) more
-unfolding tokAs
-other-join zero m v a b s d more = refl
-other-join (suc zero) m v a b s d more = absurd (b refl)
-other-join (suc (suc zero)) m v a b s d more = refl
-other-join (suc (suc (suc zero))) m v a b s d more = refl
-other-join (suc (suc (suc (suc zero)))) m v a b s d more = refl
-other-join (suc (suc (suc (suc (suc zero))))) m v a b s d more = refl
-other-join (suc (suc (suc (suc (suc (suc zero)))))) m v a b s d more = absurd (a refl)
-other-join (suc (suc (suc (suc (suc (suc (suc zero))))))) m v a b s d more = refl
-other-join (suc (suc (suc (suc (suc (suc (suc (suc k)))))))) m v a b s d more = refl
-
 module _ (body t : List ℕ) (s : ScopeRow) (d k : ℕ) {kind : ℕ} (g : kind ≡ getD t (k * 8 + 0) 0) where
   pub turn-text : kind ≡ 6 → TurnIs body t s d k Turn.Text
   unfolding tokAs
@@ -65,7 +52,7 @@ module _ (body t : List ℕ) (s : ScopeRow) (d k : ℕ) {kind : ℕ} (g : kind �
     passed : (more : Depth → Answer (List ℕ)) → joinAt body t s d (tokAt body t k) more ≡ pick r (gives []) (more (depth e))
     passed more =
         let y : depthAfter (tokAt body t k) (depth d) ≡ depth e = rw (← g) (x .is b (nameAt body t k) (valueAt body t k)) in
-        let z = other-join kind (nameAt body t k) (valueAt body t k) a b (scopeAt body t s) (depth e) (more (depth e)) in
+        let z = other kind (nameAt body t k) (valueAt body t k) .text b a takeEach (scopeAt body t s) (depth e) (more (depth e)) in
         rw (y, i) (rw g at z)
 
     pub turn-on : r ≡ false → TurnIs body t s d k (Turn.On e)

@@ -22,7 +22,7 @@ use Rattle.lists.specs.Overwrite.{overwritten, Stored}
 use Rattle.lists.proofs.Overwrite.{overwrite-none}
 use Rattle.refusal.specs.declared.Refusal.{Refusal}
 use Rattle.refusal.specs.Answer.{Answer}
-use Rattle.reference.specs.Number.{digit, number}
+use Rattle.reference.specs.Number.{digit, numeral}
 use Rattle.reference.specs.declared.Number.{Number}
 use Rattle.reference.specs.declared.Number.the-variants.{Value, No}
 use Rattle.readings.specs.Scalar.{booleanOf, digitsOf, positive, negative, integerOf, stringIn}
@@ -68,19 +68,19 @@ digit-other b e = rw e (go (within 65 70 b) refl)
     go false q = last (within 97 102 b) refl
 
 -- a number only grows
-big : (s : List ℕ) (acc : ℕ) → 2147483648 < acc → bounded (number 10 acc s) ≡ No
-unfolding number
+big : (s : List ℕ) (acc : ℕ) → 2147483648 < acc → bounded (numeral 10 acc s) ≡ No
+unfolding numeral
 big [] acc h = rw (lt-leb acc 2147483648 h)
 big (b ∷ s) acc h = go (ltb (digit b) 10) (big s (acc * 10 + digit b) (omega arith))
   where
-    go : (t : Bool) → bounded (number 10 (acc * 10 + digit b) s) ≡ No → bounded (pick t (number 10 (acc * 10 + digit b) s) No) ≡ No
+    go : (t : Bool) → bounded (numeral 10 (acc * 10 + digit b) s) ≡ No → bounded (pick t (numeral 10 (acc * 10 + digit b) s) No) ≡ No
     go true e = e
     go false e = refl
 
 -- the loop: the digits so far are acc, and the rest gives the whole
 pub record DigitsAt (s : List ℕ) (from acc i : ℕ) : Type 0 where
   pub small : acc ≤ 2147483648
-  pub rest : bounded (number 10 acc (drop i s)) ≡ bounded (digitsOf (drop from s))
+  pub rest : bounded (numeral 10 acc (drop i s)) ≡ bounded (digitsOf (drop from s))
 
 pub digits-none : (s : List ℕ) {from : ℕ} → from ≡ length s → No ≡ bounded (digitsOf (drop from s))
 digits-none s {from} e = rw (drop-of-length-le s {i = from} (omega arith))
@@ -94,13 +94,13 @@ digits-start s {from} l h = go (leb (suc from) (length s)) refl
 
 module _ {s : List ℕ} {from acc i : ℕ} (w : DigitsAt s from acc i) where
   pub digits-end : length s ≤ i → Value acc ≡ bounded (digitsOf (drop from s))
-  unfolding number
+  unfolding numeral
   digits-end h = rw (← w .rest, drop-of-length-le s {i = i} h, le-leb acc 2147483648 (w .small))
 
   module _ (h : i < length s) where
-    step : bounded (pick (ltb (digit (getD s i 0)) 10) (number 10 (acc * 10 + digit (getD s i 0)) (drop (suc i) s)) No)
+    step : bounded (pick (ltb (digit (getD s i 0)) 10) (numeral 10 (acc * 10 + digit (getD s i 0)) (drop (suc i) s)) No)
         ≡ bounded (digitsOf (drop from s))
-    unfolding number
+    unfolding numeral
     step = rw (drop-cons s i 0 h) at (w .rest)
 
     pub digits-low : getD s i 0 < 48 → No ≡ bounded (digitsOf (drop from s))
@@ -110,7 +110,7 @@ module _ {s : List ℕ} {from acc i : ℕ} (w : DigitsAt s from acc i) where
     digits-high l = rw (digit-other (getD s i 0) (rw (le-leb 48 (getD s i 0) (omega arith), lt-leb (getD s i 0) 57 l))) at step
 
     module _ (a : 48 ≤ getD s i 0) (b : getD s i 0 ≤ 57) where
-      on : bounded (number 10 (acc * 10 + (getD s i 0 - 48)) (drop (suc i) s)) ≡ bounded (digitsOf (drop from s))
+      on : bounded (numeral 10 (acc * 10 + (getD s i 0 - 48)) (drop (suc i) s)) ≡ bounded (digitsOf (drop from s))
       on =
           let e = digit-is (getD s i 0) a b in
           let d : ltb (digit (getD s i 0)) 10 ≡ true = rw e (lt-ltb (getD s i 0 - 48) 10 (omega arith)) in

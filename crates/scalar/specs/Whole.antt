@@ -11,7 +11,7 @@ use Rattle.table.specs.Row.{Tok, rowsOf}
 use Rattle.document.specs.declared.Depth.{Depth}
 use Rattle.document.specs.Reader.{depth, depthAfter}
 use Rattle.document.specs.View.{view}
-use Rattle.document.specs.Text.{unescapedText, joinTurn, joined, wholeOf}
+use Rattle.document.specs.Text.{unescapedText, textTurn, takeEach, joined, wholeOf}
 use Rattle.readings.specs.Opening.{Opened, rooted}
 use Rattle.readings.specs.Scalar.{stringIn}
 use Rattle.decode.specs.declared.reader.ScopeRow.{ScopeRow}
@@ -37,7 +37,7 @@ turnAs body t d k more (Turn.On e) = more (depth e)
 
 -- what a token says
 abbrev pub joinAt : List ℕ → List ℕ → ScopeRow → ℕ → Tok → (Depth → Answer (List ℕ)) → Answer (List ℕ)
-joinAt body t s d u more = joinTurn (scopeAt body t s) (depthAfter u (depth d)) u (more (depthAfter u (depth d)))
+joinAt body t s d u more = textTurn takeEach (scopeAt body t s) (depthAfter u (depth d)) u (more (depthAfter u (depth d)))
 
 -- row k at depth d, whatever the rows after it say
 pub record TurnIs (body t : List ℕ) (s : ScopeRow) (d k : ℕ) (r : Turn) : Type 0 where

@@ -28,6 +28,7 @@ use decode::reader::next_start_element;
 use decode::view::View;
 use opening::Opening;
 use refusal::Refusal;
+use table::number::LOCAL;
 
 // Whether row k has this local name.
 fn has_local(body: &[u8], rows: &[u32], k: usize, name: &[u8]) -> bool
@@ -35,7 +36,7 @@ fn has_local(body: &[u8], rows: &[u32], k: usize, name: &[u8]) -> bool
     requires { ⌜ InTable (now rows) k ⌝ }
     ensures { λ r. ⌜ r ≡ sameb (nameAt (now (body .entry)) (now (rows .entry)) k .local) (now (name .entry)) ⌝ }
 {
-    slices::same(span(body, rows, k, 3), name)
+    slices::same(span(body, rows, k, LOCAL), name)
 }
 
 // The piece of the first element of a scope, from a place on, that has the name.

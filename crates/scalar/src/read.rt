@@ -31,6 +31,7 @@ use opening::Opening;
 use reference::Unescaped;
 use refusal::Refusal;
 use sheet::ShapeDepth;
+use table::number::VALUE;
 
 // A text of a body that is refused as ill-formed at its end: a bad reference in it was met before.
 fn spoilt(body: &[u8], rows: &[u32], text: Text) -> Text
@@ -38,7 +39,7 @@ fn spoilt(body: &[u8], rows: &[u32], text: Text) -> Text
     ensures { λ r. ⌜ TextRead (now (body .entry)) (now (rows .entry)) r (spoiltBy (textAt (now (body .entry)) (now (rows .entry)) text)) ⌝ }
 {
     match text {
-        Text::Row(k) => match unescape::measure(span(body, rows, k, 5)) {
+        Text::Row(k) => match unescape::measure(span(body, rows, k, VALUE)) {
             Unescaped::Length(_) => Text::Refused(Refusal::IllFormed),
             Unescaped::BadReference => Text::Refused(Refusal::BadReference),
             // `measure` never answers this: it has no room to run out of.
@@ -100,7 +101,7 @@ fn boolean_at(body: &[u8], rows: &[u32], text: Text) -> Boolean
     ensures { λ r. ⌜ booleanAs r ≡ onward (textAt (now (body .entry)) (now (rows .entry)) text) booleanOf ⌝ }
 {
     match text {
-        Text::Row(k) => boolean_in(span(body, rows, k, 5)),
+        Text::Row(k) => boolean_in(span(body, rows, k, VALUE)),
         Text::Empty => Boolean::Refused(Refusal::NotBoolean),
         Text::Refused(why) => Boolean::Refused(why),
     }
@@ -152,7 +153,7 @@ fn integer_at(body: &[u8], rows: &[u32], text: Text) -> Integer
     ensures { λ r. ⌜ integerAs r ≡ onward (textAt (now (body .entry)) (now (rows .entry)) text) integerOf ⌝ }
 {
     match text {
-        Text::Row(k) => integer_in(span(body, rows, k, 5)),
+        Text::Row(k) => integer_in(span(body, rows, k, VALUE)),
         Text::Empty => Integer::Refused(Refusal::NotInteger),
         Text::Refused(why) => Integer::Refused(why),
     }
@@ -192,7 +193,7 @@ fn string_at(body: &[u8], rows: &[u32], text: Text, out: &mut [u8]) -> Copied
         (now (out .entry)) (now (out .exit)) r ⌝ }
 {
     match text {
-        Text::Row(k) => string_in(span(body, rows, k, 5), out),
+        Text::Row(k) => string_in(span(body, rows, k, VALUE), out),
         Text::Empty => Copied::Length(0),
         Text::Refused(why) => Copied::Refused(why),
     }

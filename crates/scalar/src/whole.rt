@@ -28,6 +28,10 @@ use opening::Opening;
 use reference::Unescaped;
 use refusal::Refusal;
 use table::field;
+use table::kind::START;
+use table::kind::TEXT;
+use table::number::KIND;
+use table::number::VALUE;
 use xml::Drained;
 
 // What a row of the content of an element does to its text: it is a text; it is a start, which is refused; it ends the element; or the text
@@ -44,11 +48,11 @@ fn turn_of(body: &[u8], rows: &[u32], scope: ScopeRow, d: usize, k: usize) -> Tu
     requires { ⌜ ScopeIn (now body) (now rows) scope k ⌝ }
     ensures { λ r. ⌜ TurnIs (now (body .entry)) (now (rows .entry)) scope d k r ⌝ }
 {
-    let kind = field(rows, k, 0);
-    if kind == 6 {
+    let kind = field(rows, k, KIND);
+    if kind == TEXT {
         return Turn::Text;
     }
-    if kind == 1 {
+    if kind == START {
         return Turn::Element;
     }
     let after = depth_after(kind, d);
@@ -64,7 +68,7 @@ fn row_length(body: &[u8], rows: &[u32], k: usize) -> Unescaped
     requires { ⌜ InTable (now rows) k ⌝ }
     ensures { λ r. ⌜ r ≡ sizeOf (unescaped (valueAt (now (body .entry)) (now (rows .entry)) k)) ⌝ }
 {
-    unescape::measure(span(body, rows, k, 5))
+    unescape::measure(span(body, rows, k, VALUE))
 }
 
 // How many bytes the texts of a scope come to, from a place on, or why they are refused.
@@ -127,7 +131,7 @@ fn put_row(body: &[u8], rows: &[u32], k: usize, out: &mut [u8], size: usize) -> 
     ensures { λ r. ⌜ Stored (now (out .entry)) (now (out .exit)) size
         (bytesOf (unescaped (valueAt (now (body .entry)) (now (rows .entry)) k))) r ⌝ }
 {
-    put_text(out, size, span(body, rows, k, 5))
+    put_text(out, size, span(body, rows, k, VALUE))
 }
 
 // Writes the texts of a scope, from a place on, for which there is room.

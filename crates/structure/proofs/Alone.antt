@@ -11,14 +11,15 @@ use borrow.Author.Tests.{eq-eqb, ne-eqb, eqb-true, eqb-false}
 use lib.Dec.{eqb}
 use lib.ListN.{length, getD, drop}
 use Rattle.lists.specs.Tests.{pick}
+use Rattle.lists.proofs.Tests.{less-is}
 use Rattle.refusal.specs.declared.Refusal.{Refusal}
 use Rattle.table.specs.Row.{Row, Name, tokAs}
-use Rattle.table.specs.Rules.{among}
+use Rattle.table.specs.Rules.{openCount, among}
 use Rattle.table.specs.Flat.{rowAt, rowsFrom}
 use Rattle.table.proofs.Flat.{unroll, rolled-out}
-use Rattle.table.specs.Piece.{openCount, closing, isClosed, pieceStart}
+use Rattle.table.specs.Piece.{closing, isClosed, pieceStart}
 use Rattle.document.specs.declared.Depth.{Depth}
-use Rattle.document.specs.Reader.{depth, depthAfter, less}
+use Rattle.document.specs.Reader.{depth, depthAfter}
 use Rattle.document.specs.Scope as scope
 use Rattle.sheet.specs.Sheet.{Structure}
 use Rattle.sheet.specs.Names.{Indexed, resolve}
@@ -48,14 +49,7 @@ use Rattle.structure.specs.Unwrapped.{endFrom, EndIs, RootPieceIs, rootA
 use Rattle.structure.proofs.Loops.{given-index, idle-does}
 
 -- ---- how many elements are open after a row of a kind
-abbrev openAfter : ℕ → ℕ → ℕ
-openAfter n kind = pick (eqb kind 1) (suc n) (pick (among (4 ∷ 5 ∷ []) kind) (n - 1) n)
-
-less-is : (n : ℕ) → less n ≡ n - 1
-less-is zero = refl
-less-is (suc n) = omega arith
-
-open-is : (n kind : ℕ) {m : ℕ} → (kind ≡ 1 → ⊥) → DepthIs kind n m → m ≡ openAfter n kind
+open-is : (n kind : ℕ) {m : ℕ} → (kind ≡ 1 → ⊥) → DepthIs kind n m → m ≡ openCount n kind
 unfolding tokAs
 open-is n kind {m} a d = rw (ne-eqb kind 1 a) (four (eqb kind 4) refl (eqb kind 5) refl)
   where
@@ -74,14 +68,14 @@ open-is n kind {m} a d = rw (ne-eqb kind 1 a) (four (eqb kind 4) refl (eqb kind 
     four false e false f = rw (e, f) (of (sym (other kind blank [] .depth a (eqb-false kind 4 e) (eqb-false kind 5 f) (depth n)) ∙ is))
 
 -- ---- where an element ends by its rows
-end-here : (ends p n : ℕ) (r : Row) (rest : List Row) → openCount n r ≡ 0 → endFrom ends p n (r ∷ rest) ≡ r .position
+end-here : (ends p n : ℕ) (r : Row) (rest : List Row) → openCount n (r .kind) ≡ 0 → endFrom ends p n (r ∷ rest) ≡ r .position
 unfolding isClosed closing
-end-here ends p n r rest e = rw (eq-eqb (openCount n r) 0 e)
+end-here ends p n r rest e = rw (eq-eqb (openCount n (r .kind)) 0 e)
 
-end-on : (ends p n : ℕ) (r : Row) (rest : List Row) → (openCount n r ≡ 0 → ⊥) → endFrom ends p n (r ∷ rest)
-    ≡ endFrom ends (r .position) (openCount n r) rest
+end-on : (ends p n : ℕ) (r : Row) (rest : List Row) → (openCount n (r .kind) ≡ 0 → ⊥) → endFrom ends p n (r ∷ rest)
+    ≡ endFrom ends (r .position) (openCount n (r .kind)) rest
 unfolding isClosed closing
-end-on ends p n r rest e = rw (ne-eqb (openCount n r) 0 e)
+end-on ends p n r rest e = rw (ne-eqb (openCount n (r .kind)) 0 e)
 
 -- ---- the loop: n are open before row k
 pub record CloseAt (t : List ℕ) (v : View) (from n k : ℕ) : Type 0 where
@@ -104,9 +98,9 @@ module _ {body t : List ℕ} {v : View} {from n k : ℕ} (q : Viewed body t v) (
     close-in = omega (arith, q .sees .rows)
 
     module _ {kind : ℕ} (f : kind ≡ getD t (k * 8 + 0) 0) where
-      on : {m : ℕ} → m ≡ openAfter n kind → m ≤ n + 1 → (m ≡ 0 → ⊥) → CloseAt t v from m (k + 1)
+      on : {m : ℕ} → m ≡ openCount n kind → m ≤ n + 1 → (m ≡ 0 → ⊥) → CloseAt t v from m (k + 1)
       on {m} g l e =
-          let z : m ≡ openCount n (rowAt t k) = rw f at g in
+          let z : m ≡ openCount n (rowAt t k .kind) = rw f at g in
           record {
             low = omega (arith, a .low);
             high = omega arith;

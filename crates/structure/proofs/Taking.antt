@@ -17,7 +17,7 @@ use Rattle.document.specs.Scope as scope
 use Rattle.document.specs.Text.{textOf}
 use Rattle.sheet.specs.Sheet.{Structure}
 use Rattle.sheet.specs.Names.{Indexed, resolve}
-use Rattle.readings.specs.Output.{Output, finished, refused, output, fits, written, pieceEntry, failedEntry}
+use Rattle.readings.specs.Output.{Output, finished, refused, output, fits, appended, pieceEntry, failedEntry}
 use Rattle.readings.specs.Plan.{end, perform, one, oneByOne}
 use Rattle.readings.specs.Structure.{memberPlan, childPlan, flatMember}
 use Rattle.decode.specs.Rows.{InTable, nameAt, valueAt}
@@ -45,7 +45,7 @@ use Rattle.output.specs.Plans.{piece, scalar, failed}
 use Rattle.output.specs.Held.{Does, Enters, Adds}
 use Rattle.output.proofs.Then.{does-as}
 use Rattle.output.proofs.Sound.{scalar-adds, piece-adds}
-use Rattle.output.proofs.Siblings.{Keeps, keeps-start, keeps-other, keeps-more, keeps-flat, keeps-has}
+use Rattle.output.proofs.Siblings.{KeepsSiblings, keeps-start, keeps-other, keeps-more, keeps-flat, keeps-has}
 use Rattle.opening.specs.Level.{left}
 use Rattle.opening.proofs.Level.{found-in, found-start, found-outside, none-left, one-left, less-left}
 use Rattle.structure.specs.declared.children.Taken.{Taken}
@@ -76,8 +76,8 @@ unfolding failed perform
 failed-adds member why = record { most = λ room out. go (fits room [] out) out }
   where
     go : (b : Bool) (out : Output) → length (output
-        (pick b (finished (written (failedEntry member why) [] out)) (refused Refusal.NoRoom out)) .texts) ≤ length (out .texts) + 0
-    go true out = let z : length (written (failedEntry member why) [] out .texts)
+        (pick b (finished (appended (failedEntry member why) [] out)) (refused Refusal.NoRoom out)) .texts) ≤ length (out .texts) + 0
+    go true out = let z : length (appended (failedEntry member why) [] out .texts)
         ≡ length (out .texts) = rw (append-nil (out .texts)) in omega arith
     go false out = omega arith
 
@@ -226,7 +226,7 @@ pub record ChildrenAt (body t : List ℕ) (v : View) (st : Structure) (s : Scope
   pub same : length l ≡ length l₀
   pub one : OneByOne (childPlan body (viewAt t v) st) (left body t (v .count) s c₀) (left body t (v .count) s c)
       (afterAttributes + c .row * 65536) e x w e₁ x₁ w₁
-  pub keeps : Keeps body (viewAt t v) st l count (left body t (v .count) s c) (left body t (v .count) s c₀)
+  pub keeps : KeepsSiblings body (viewAt t v) st l count (left body t (v .count) s c) (left body t (v .count) s c₀)
 
 pub children-start : {body t : List ℕ} {v : View} {sheet members : List ℕ} (st : Structure) (s : ScopeRow) (c : Cursor) (l : List ℕ)
     {e x : List ℕ} {w : Written}
@@ -247,7 +247,7 @@ children-start {body} {t} {v} st s c l g h o b =
 -- all are taken
 all-taken : {body t : List ℕ} {v : View} {st : Structure} {kids : List Child} {e x : List ℕ} {w : Written} {l : List ℕ} {n : ℕ}
     → Viewed body t v → n * 2 ≤ v .count
-    → Begins afterChildren e x w → Keeps body (viewAt t v) st l n [] kids → AllTaken body t v st kids e x w l n
+    → Begins afterChildren e x w → KeepsSiblings body (viewAt t v) st l n [] kids → AllTaken body t v st kids e x w l n
 all-taken {l = l} {n} q h b k =
     record {
       begins = b;
@@ -311,11 +311,11 @@ module _ {body t : List ℕ} {v : View} {st : Structure} {s : ScopeRow} {c₀ : 
             rest : List Child
             rest = left body t (v .count) s (p .at)
 
-            before : Keeps body (viewAt t v) st l count (childAt body t (v .count) st₁ i ∷ left body t (v .count) s (p .at))
+            before : KeepsSiblings body (viewAt t v) st l count (childAt body t (v .count) st₁ i ∷ left body t (v .count) s (p .at))
                 (left body t (v .count) s c₀)
             before = rw (one-left n q y) at (a .keeps)
 
-            with-kept : m ≤ count + 1 → Keeps body (viewAt t v) st l₂ m (left body t (v .count) s (p .at)) (left body t (v .count) s c₀)
+            with-kept : m ≤ count + 1 → KeepsSiblings body (viewAt t v) st l₂ m (left body t (v .count) s (p .at)) (left body t (v .count) s c₀)
                 → ChildrenAt body t v st s c₀ l₀ e x w l₂ e₂ x₂ w₂ m (p .at)
             with-kept h new =
                 record {

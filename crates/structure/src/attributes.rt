@@ -15,6 +15,7 @@ use decode::reader::attr;
 use decode::view::View;
 use output::Step;
 use output::Written;
+use table::number::VALUE;
 
 // Writes the attribute of a root that a name asks for, if there is one.
 fn read_attribute(
@@ -35,7 +36,13 @@ fn read_attribute(
         (now (entries .entry)) (now (texts .entry)) w (now (entries .exit)) (now (texts .exit)) r ⌝ }
 {
     match attr(body, rows, n, root, name) {
-        Attribute::Row(k) => output::write_text(span(body, rows, k, 5), member, entries, texts, w),
+        Attribute::Row(k) => output::write_text(
+            span(body, rows, k, VALUE),
+            member,
+            entries,
+            texts,
+            w,
+        ),
         Attribute::Nothing => Step::Done(w),
     }
 }

@@ -30,6 +30,8 @@ use decode::view::View;
 use output::Step;
 use output::Written;
 use refusal::Refusal;
+use table::number::LOCAL;
+use table::number::VALUE;
 
 // What was taken of the children so far: what is written, and how many are kept; or a refusal.
 pub enum Taken {
@@ -63,7 +65,7 @@ fn put_text(
         (now (entries .entry)) (now (texts .entry)) w (now (entries .exit)) (now (texts .exit)) r ⌝ }
 {
     match text {
-        Text::Row(k) => output::write_scalar(span(body, rows, k, 5), member, entries, texts, w),
+        Text::Row(k) => output::write_scalar(span(body, rows, k, VALUE), member, entries, texts, w),
         Text::Empty => output::write_scalar(b"", member, entries, texts, w),
         Text::Refused(why) => output::write_failed(entries, w, member, why),
     }
@@ -141,7 +143,7 @@ pub fn member_of(body: &[u8], rows: &[u32], row: usize, sheet: &[u8], members: &
     requires { ⌜ MembersSaid (now sheet) (now members) ⌝ }
     ensures { λ r. ⌜ Resolved (now (sheet .entry)) (now (members .entry)) (nameAt (now (body .entry)) (now (rows .entry)) row .local) r ⌝ }
 {
-    resolve_member(sheet, members, span(body, rows, row, 3))
+    resolve_member(sheet, members, span(body, rows, row, LOCAL))
 }
 
 // Takes a child by the member that its local name resolves to; nothing where there is none.

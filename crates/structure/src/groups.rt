@@ -4,6 +4,7 @@ ghost use Rattle.structure.specs.Steps.{Begins, afterChildren};
 ghost use Rattle.structure.specs.Groups.{KeptIn, SumIs, flatPlan, keptFrom, GroupsIs};
 ghost use Rattle.readings.specs.Plan.{oneByOne};
 ghost use Rattle.output.specs.Held.{Does};
+use output::FLAT_TAGS;
 use output::Step;
 use output::Written;
 use output::group_len;
@@ -29,7 +30,7 @@ fn groups_size(body: &[u8], kept: &[u32], n: usize) -> Sum
     while i < n {
         if has_group(kept, i as u32) {
             entries += 1;
-            bytes += group_len(kept, i as u32) + 17;
+            bytes += group_len(kept, i as u32) + FLAT_TAGS;
             i += 1;
         } else {
             i += 1;

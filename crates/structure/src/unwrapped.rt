@@ -19,6 +19,9 @@ use output::Step;
 use output::Written;
 use refusal::Refusal;
 use table::field;
+use table::kind::START;
+use table::number::KIND;
+use table::number::POSITION;
 
 // Where a root ends: at the position of the row that closes it, whatever its name, or where the view ends.
 fn root_end(body: &[u8], rows: &[u32], view: View, root: StartRow) -> usize
@@ -29,14 +32,14 @@ fn root_end(body: &[u8], rows: &[u32], view: View, root: StartRow) -> usize
     let mut k = root.row;
     let mut deep = 0;
     while k < view.count {
-        let kind = field(rows, k, 0);
-        if kind == 1 {
+        let kind = field(rows, k, KIND);
+        if kind == START {
             deep += 1;
             k += 1;
         } else {
             deep = depth_after(kind, deep);
             if deep == 0 {
-                return field(rows, k, 7);
+                return field(rows, k, POSITION);
             }
             k += 1;
         }

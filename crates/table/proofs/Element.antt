@@ -12,8 +12,8 @@ use Rattle.lists.specs.Tests.{pick}
 use Rattle.lists.proofs.Tests.{false-true}
 use Rattle.utf8.proofs.Cut.{utf8-part}
 use Rattle.table.specs.Row.{Row, cut, toksOf}
-use Rattle.table.specs.Rules.{among, Place, beginOf, RowRules, EachRow, none, row, lastPosition, Rules}
-use Rattle.table.specs.Piece.{moved, openCount, closing, isClosed, elementRows, pieceBytes, pieceRows, pieceFinal, ElementAt}
+use Rattle.table.specs.Rules.{openCount, among, Place, beginOf, RowRules, EachRow, none, row, lastPosition, Rules}
+use Rattle.table.specs.Piece.{moved, closing, isClosed, elementRows, pieceBytes, pieceRows, pieceFinal, ElementAt}
 use Rattle.table.proofs.Flat.{last-high}
 use Rattle.table.proofs.Moved.{length-cut, moved-toks, element-rows, last-taken}
 
@@ -64,7 +64,7 @@ positive zero f = absurd (f refl)
 positive (suc m) f = omega arith
 
 -- a row after which none is open, and some were before it, is of kind 4 or 5
-closes-is : (n : ℕ) (r : Row) → 0 < n → openCount n r ≡ 0 → among (4 ∷ 5 ∷ []) (r .kind) ≡ true
+closes-is : (n : ℕ) (r : Row) → 0 < n → openCount n (r .kind) ≡ 0 → among (4 ∷ 5 ∷ []) (r .kind) ≡ true
 closes-is n r h = go (eqb (r .kind) 1) (among (4 ∷ 5 ∷ []) (r .kind))
   where
     go : (a b : Bool) → pick a (suc n) (pick b (n - 1) n) ≡ 0 → b ≡ true
@@ -76,13 +76,13 @@ closed-ends : {body : List ℕ} (n : ℕ) {p : Place} {rows : List Row} → 0 < 
     → getD body (lastPosition (p .position) (take (closing n rows) rows) - 1) 0 ≡ 62
 unfolding closing isClosed
 closed-ends n h none e = false-true e
-closed-ends {body} n h (row {p} {r} {rest} o t) e = go (eqb (openCount n r) 0) refl e (λ m l. closed-ends m l t)
+closed-ends {body} n h (row {p} {r} {rest} o t) e = go (eqb (openCount n (r .kind)) 0) refl e (λ m l. closed-ends m l t)
   where
-    go : (c : Bool) → eqb (openCount n r) 0 ≡ c → pick c true (isClosed (openCount n r) rest) ≡ true
+    go : (c : Bool) → eqb (openCount n (r .kind)) 0 ≡ c → pick c true (isClosed (openCount n (r .kind)) rest) ≡ true
         → ((m : ℕ) → 0 < m → isClosed m rest ≡ true → getD body (lastPosition (r .position) (take (closing m rest) rest) - 1) 0 ≡ 62)
-        → getD body (lastPosition (p .position) (take (suc (pick c 0 (closing (openCount n r) rest))) (r ∷ rest)) - 1) 0 ≡ 62
-    go true q e ih = o .ending .gt (close-ends (r .kind) (closes-is n r h (eqb-true (openCount n r) 0 q))) .1
-    go false q e ih = let some : openCount n r ≡ 0 → ⊥ = eqb-false (openCount n r) 0 q in ih (openCount n r) (positive (openCount n r) some) e
+        → getD body (lastPosition (p .position) (take (suc (pick c 0 (closing (openCount n (r .kind)) rest))) (r ∷ rest)) - 1) 0 ≡ 62
+    go true q e ih = o .ending .gt (close-ends (r .kind) (closes-is n r h (eqb-true (openCount n (r .kind)) 0 q))) .1
+    go false q e ih = let some : openCount n (r .kind) ≡ 0 → ⊥ = eqb-false (openCount n (r .kind)) 0 q in ih (openCount n (r .kind)) (positive (openCount n (r .kind)) some) e
 
 -- ---- the theorems
 -- the rows of an element: its start row first
@@ -111,7 +111,7 @@ bounds {rest = rest} (row o t) one e u =
 
 -- a start row obeys the rules of rows from its own `<` on
 from-begin : {body : List ℕ} {p : Place} {r : Row} {rest : List Row} → RowRules body p r rest → r .kind ≡ 1
-    → RowRules body (record { position = beginOf body r; inTag = p .inTag; opened = p .opened; rooted = p .rooted }) r rest
+    → RowRules body (record { position = beginOf body r; inTag = p .inTag; nesting = p .nesting; rooted = p .rooted }) r rest
 from-begin {body} {p} {r} o one =
     let b = o .tagBegins (rw one) in
     let x = o .localStart (rw one) in

@@ -13,8 +13,8 @@ use lib.Seq.{drop-drop, take-take, getD-take, getD-drop}
 use Rattle.lists.specs.Tests.{pick}
 use Rattle.lists.proofs.Tests.{pick-same, false-true}
 use Rattle.table.specs.Row.{Row, cut, tokAs, tokOf, toksOf}
-use Rattle.table.specs.Rules.{among, usesName, Place, atFirst, after, ZeroFields, FilledSpan, FilledSpans, LocalStart, lastLt, beginOf, LastLt, EndsIn, Ending, RowRules, EachRow, none, row, lastPosition}
-use Rattle.table.specs.Piece.{openCount, movedSpan, moved, closing}
+use Rattle.table.specs.Rules.{openCount, among, usesName, Place, atFirst, after, ZeroFields, FilledSpan, FilledSpans, LocalStart, lastLt, beginOf, LastLt, EndsIn, Ending, RowRules, EachRow, none, row, lastPosition}
+use Rattle.table.specs.Piece.{movedSpan, moved, closing}
 
 -- ---- parts of a body
 -- dropping some of a front
@@ -117,7 +117,7 @@ moved-toks body s n (suc c) (row o t) h u =
 -- ---- the rules of a row that is moved
 -- where it stands in a piece that begins at s, in an element around which d are open
 abbrev pub placed : ℕ → ℕ → Place → Place
-placed s d p = record { position = p .position - s; inTag = p .inTag; opened = p .opened - d; rooted = true }
+placed s d p = record { position = p .position - s; inTag = p .inTag; nesting = p .nesting - d; rooted = true }
 
 tag-named : (k : ℕ) → among (1 ∷ 4 ∷ []) k ≡ true → usesName k ≡ true
 tag-named k = go (eqb k 1) (eqb k 2) (eqb k 4)
@@ -142,7 +142,7 @@ moved-zero {r} s z =
     }
 
 module _ (body : List ℕ) (s n d : ℕ) {p : Place} {r : Row} {rest : List Row} (o : RowRules body p r rest)
-    (begun : s < p .position) (lt : getD body s 0 ≡ 60) (deep : d < p .opened) (u : r .position ≤ s + n) where
+    (begun : s < p .position) (lt : getD body s 0 ≡ 60) (deep : d < p .nesting) (u : r .position ≤ s + n) where
   local-moved : (b : Bool) → usesName (r .kind) ≡ b → FilledSpan (p .position - s) (r .position - s) (pick b (r .localStart - s) (r .localStart)) (r .localLen)
   local-moved true e g = let x = o .filledSpans .local g in (omega arith, omega arith)
   local-moved false e g = absurd (omega (arith, o .zeroFields .local e .1))
@@ -221,20 +221,20 @@ module _ (body : List ℕ) (s n d : ℕ) {p : Place} {r : Row} {rest : List Row}
 
 -- ---- the rows of an element
 -- counted without the d that are open around it
-open-less : (d : ℕ) (p : Place) (r : Row) → d < p .opened → openCount (p .opened - d) r ≡ after p r .opened - d
+open-less : (d : ℕ) (p : Place) (r : Row) → d < p .nesting → openCount (p .nesting - d) (r .kind) ≡ after p r .nesting - d
 open-less d p r h = go (eqb (r .kind) 1) (among (4 ∷ 5 ∷ []) (r .kind))
   where
-    go : (a b : Bool) → pick a (suc (p .opened - d)) (pick b (p .opened - d - 1) (p .opened - d)) ≡ pick a (suc (p .opened)) (pick b (p .opened - 1) (p .opened)) - d
+    go : (a b : Bool) → pick a (suc (p .nesting - d)) (pick b (p .nesting - d - 1) (p .nesting - d)) ≡ pick a (suc (p .nesting)) (pick b (p .nesting - 1) (p .nesting)) - d
     go true b = omega arith
     go false true = omega arith
     go false false = refl
 
-placed-after : (s d : ℕ) (p : Place) (r : Row) → d < p .opened → after (placed s d p) (moved s r) ≡ placed s d (after p r)
+placed-after : (s d : ℕ) (p : Place) (r : Row) → d < p .nesting → after (placed s d p) (moved s r) ≡ placed s d (after p r)
 placed-after s d p r h =
     λ i. record {
       position = r .position - s;
       inTag = pick (eqb (r .kind) 1) true (pick (among (3 ∷ 5 ∷ []) (r .kind)) false (p .inTag));
-      opened = open-less d p r h i;
+      nesting = open-less d p r h i;
       rooted = pick-same (eqb (r .kind) 1) true i;
     }
 
@@ -251,25 +251,25 @@ left-open x d f = go (leb x d) refl
     go false q = leb-false x d q
 
 -- the rows of an element after its start row, in the piece that begins at its `<`
-later-rows : (body : List ℕ) (s n d : ℕ) {p : Place} {rows : List Row} → EachRow body p rows → s < p .position → getD body s 0 ≡ 60 → d < p .opened
-    → lastPosition (p .position) (take (closing (p .opened - d) rows) rows) ≤ s + n
-    → EachRow (cut body s n) (placed s d p) (map (moved s) (take (closing (p .opened - d) rows) rows))
+later-rows : (body : List ℕ) (s n d : ℕ) {p : Place} {rows : List Row} → EachRow body p rows → s < p .position → getD body s 0 ≡ 60 → d < p .nesting
+    → lastPosition (p .position) (take (closing (p .nesting - d) rows) rows) ≤ s + n
+    → EachRow (cut body s n) (placed s d p) (map (moved s) (take (closing (p .nesting - d) rows) rows))
 unfolding closing
 later-rows body s n d none h g l u = none
 later-rows body s n d (row {p} {r} {rest} o t) h g l u =
     let e = open-less d p r l in
-    rw e (go (eqb (after p r .opened - d) 0) refl (rw e at u) (later-rows body s n d t (omega (arith, o .positionRises)) g))
+    rw e (go (eqb (after p r .nesting - d) 0) refl (rw e at u) (later-rows body s n d t (omega (arith, o .positionRises)) g))
   where
-    go : (b : Bool) → eqb (after p r .opened - d) 0 ≡ b
-        → lastPosition (r .position) (take (pick b 0 (closing (after p r .opened - d) rest)) rest) ≤ s + n
-        → (d < after p r .opened → lastPosition (r .position) (take (closing (after p r .opened - d) rest) rest) ≤ s + n
-        → EachRow (cut body s n) (placed s d (after p r)) (map (moved s) (take (closing (after p r .opened - d) rest) rest)))
-        → EachRow (cut body s n) (placed s d p) (map (moved s) (r ∷ take (pick b 0 (closing (after p r .opened - d) rest)) rest))
+    go : (b : Bool) → eqb (after p r .nesting - d) 0 ≡ b
+        → lastPosition (r .position) (take (pick b 0 (closing (after p r .nesting - d) rest)) rest) ≤ s + n
+        → (d < after p r .nesting → lastPosition (r .position) (take (closing (after p r .nesting - d) rest) rest) ≤ s + n
+        → EachRow (cut body s n) (placed s d (after p r)) (map (moved s) (take (closing (after p r .nesting - d) rest) rest)))
+        → EachRow (cut body s n) (placed s d p) (map (moved s) (r ∷ take (pick b 0 (closing (after p r .nesting - d) rest)) rest))
     go true q u ih = row {rest = []} (moved-rules body s n d o h g l u (λ e. refl)) none
     go false q u ih =
-        let far = last-taken t (closing (after p r .opened - d) rest) in
-        row {rest = map (moved s) (take (closing (after p r .opened - d) rest) rest)} (moved-rules body s n d o h g l (omega arith) (none-later s (closing (after p r .opened - d) rest) rest))
-        (rw (placed-after s d p r l) (ih (left-open (after p r .opened) d (eqb-false (after p r .opened - d) 0 q)) u))
+        let far = last-taken t (closing (after p r .nesting - d) rest) in
+        row {rest = map (moved s) (take (closing (after p r .nesting - d) rest) rest)} (moved-rules body s n d o h g l (omega arith) (none-later s (closing (after p r .nesting - d) rest) rest))
+        (rw (placed-after s d p r l) (ih (left-open (after p r .nesting) d (eqb-false (after p r .nesting - d) 0 q)) u))
 
 -- ---- the start row, at the front of the piece
 module _ (body : List ℕ) (n : ℕ) {p : Place} {r : Row} {rest : List Row} (o : RowRules body p r rest) (one : r .kind ≡ 1) (u : r .position ≤ beginOf body r + n) where
@@ -329,13 +329,13 @@ pub element-rows : (body : List ℕ) (n : ℕ) {p : Place} {r : Row} {rest : Lis
 element-rows body n {p} {r} {rest} (row o t) one u =
     let s = beginOf body r in
     let x = after-begin body n o one (omega (arith, last-taken t (closing 1 rest))) in
-    let more : after p r .opened - p .opened ≡ 1 = rw one (omega arith) in
-    let deep : p .opened < after p r .opened = rw one (omega arith) in
-    let k : EachRow (cut body s n) (placed s (p .opened) (after p r)) (map (moved s) (take (closing 1 rest) rest)) =
-    rw (ap (λ (m : ℕ). closing m rest) more) at (later-rows body s n (p .opened) t (omega (arith, x .0, x .1)) (begins body n o one (omega (arith, last-taken t (closing 1 rest))) .is) deep (rw (ap (λ (m : ℕ). closing m rest) more) u)) in
+    let more : after p r .nesting - p .nesting ≡ 1 = rw one (omega arith) in
+    let deep : p .nesting < after p r .nesting = rw one (omega arith) in
+    let k : EachRow (cut body s n) (placed s (p .nesting) (after p r)) (map (moved s) (take (closing 1 rest) rest)) =
+    rw (ap (λ (m : ℕ). closing m rest) more) at (later-rows body s n (p .nesting) t (omega (arith, x .0, x .1)) (begins body n o one (omega (arith, last-taken t (closing 1 rest))) .is) deep (rw (ap (λ (m : ℕ). closing m rest) more) u)) in
     row {rest = map (moved s) (take (closing 1 rest) rest)} (front-rules body n o one (omega (arith, last-taken t (closing 1 rest)))) (rw first-after k)
   where
-    first-after : after atFirst (moved (beginOf body r) r) ≡ placed (beginOf body r) (p .opened) (after p r)
+    first-after : after atFirst (moved (beginOf body r) r) ≡ placed (beginOf body r) (p .nesting) (after p r)
     first-after =
-        let q : 1 ≡ suc (p .opened) - p .opened = omega arith in
-        rw one (λ i. record { position = r .position - beginOf body r; inTag = true; opened = q i; rooted = true })
+        let q : 1 ≡ suc (p .nesting) - p .nesting = omega arith in
+        rw one (λ i. record { position = r .position - beginOf body r; inTag = true; nesting = q i; rooted = true })

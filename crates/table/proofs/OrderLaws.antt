@@ -27,52 +27,52 @@ module _ {inTag : Bool} (kind : ℕ) {a : Bool} where
       says-same (λ q. record { inside = λ y. false-true (sym n ∙ y); outside = λ z. sym e ∙ q }) (λ o. e ∙ o .outside n) (says-not-flag a)
 
 -- ---- open elements
-module _ {opened : ℕ} {rooted : Bool} {kind : ℕ} where
-  module _ {a : Bool} (z : opened ≡ 0) (e : a ≡ among (4 ∷ 6 ∷ []) kind) where
-    pub open-none : a ≡ true → Says (OpenOrder opened rooted kind) false
+module _ {nesting : ℕ} {rooted : Bool} {kind : ℕ} where
+  module _ {a : Bool} (z : nesting ≡ 0) (e : a ≡ among (4 ∷ 6 ∷ []) kind) where
+    pub open-none : a ≡ true → Says (OpenOrder nesting rooted kind) false
     open-none y = says-no (λ o. omega (arith, o .needs (sym e ∙ y)))
 
-    pub open-root : {b : Bool} → a ≡ false → rooted ≡ true → b ≡ among (7 ∷ 8 ∷ []) kind → Says (OpenOrder opened rooted kind) b
+    pub open-root : {b : Bool} → a ≡ false → rooted ≡ true → b ≡ among (7 ∷ 8 ∷ []) kind → Says (OpenOrder nesting rooted kind) b
     open-root {b} n y f =
         says-same
         (λ q. record { needs = λ m. false-true (sym n ∙ e ∙ m); root = λ r o. sym f ∙ q; limit = λ k. omega arith })
         (λ o. f ∙ o .root y z)
         (says-flag b)
 
-    pub open-first : a ≡ false → rooted ≡ false → Says (OpenOrder opened rooted kind) true
+    pub open-first : a ≡ false → rooted ≡ false → Says (OpenOrder nesting rooted kind) true
     open-first n m =
         says-yes (record { needs = λ q. false-true (sym n ∙ e ∙ q); root = λ r o. false-true (sym m ∙ r); limit = λ k. omega arith })
 
-  module _ (f : opened ≡ 0 → ⊥) where
-    pub open-one : kind ≡ 1 → Says (OpenOrder opened rooted kind) (ltb opened 256)
+  module _ (f : nesting ≡ 0 → ⊥) where
+    pub open-one : kind ≡ 1 → Says (OpenOrder nesting rooted kind) (ltb nesting 256)
     open-one e =
-        says-same (λ h. record { needs = λ q. filled opened f; root = λ r o. absurd (f o); limit = λ k. h }) (λ o. o .limit e) (says-ltb opened 256)
+        says-same (λ h. record { needs = λ q. filled nesting f; root = λ r o. absurd (f o); limit = λ k. h }) (λ o. o .limit e) (says-ltb nesting 256)
 
-    pub open-other : (kind ≡ 1 → ⊥) → Says (OpenOrder opened rooted kind) true
-    open-other g = says-yes (record { needs = λ q. filled opened f; root = λ r o. absurd (f o); limit = λ k. absurd (g k) })
+    pub open-other : (kind ≡ 1 → ⊥) → Says (OpenOrder nesting rooted kind) true
+    open-other g = says-yes (record { needs = λ q. filled nesting f; root = λ r o. absurd (f o); limit = λ k. absurd (g k) })
 
 -- ---- all of them, with so many rows left
-module _ {inTag : Bool} {opened : ℕ} {rooted : Bool} {kind left : ℕ} where
-  pub order-low : kind < 1 → Says (Order inTag opened rooted kind left) false
+module _ {inTag : Bool} {nesting : ℕ} {rooted : Bool} {kind left : ℕ} where
+  pub order-low : kind < 1 → Says (Order inTag nesting rooted kind left) false
   order-low h = says-no (λ o. omega (arith, o .low))
 
-  pub order-high : 8 < kind → Says (Order inTag opened rooted kind left) false
+  pub order-high : 8 < kind → Says (Order inTag nesting rooted kind left) false
   order-high h = says-no (λ o. omega (arith, o .high))
 
-  pub order-tag : {a : Bool} → Says (InOrder inTag kind) a → a ≡ false → Says (Order inTag opened rooted kind left) false
+  pub order-tag : {a : Bool} → Says (InOrder inTag kind) a → a ≡ false → Says (Order inTag nesting rooted kind left) false
   order-tag s n = says-no (λ o. says-not s n (o .tag))
 
-  pub order-open : {b : Bool} → Says (OpenOrder opened rooted kind) b → b ≡ false → Says (Order inTag opened rooted kind left) false
+  pub order-open : {b : Bool} → Says (OpenOrder nesting rooted kind) b → b ≡ false → Says (Order inTag nesting rooted kind left) false
   order-open s n = says-no (λ o. says-not s n (o .count))
 
-  module _ {a b : Bool} (low : 1 ≤ kind) (high : kind ≤ 8) (s : Says (InOrder inTag kind) a) (y : a ≡ true) (u : Says (OpenOrder opened rooted kind) b) (z : b ≡ true) where
-    all : (kind ≡ 8 → left ≡ 0) → Order inTag opened rooted kind left
+  module _ {a b : Bool} (low : 1 ≤ kind) (high : kind ≤ 8) (s : Says (InOrder inTag kind) a) (y : a ≡ true) (u : Says (OpenOrder nesting rooted kind) b) (z : b ≡ true) where
+    all : (kind ≡ 8 → left ≡ 0) → Order inTag nesting rooted kind left
     all f = record { low = low; high = high; tag = s .sound y; count = u .sound z; last = f }
 
-    pub order-last : kind ≡ 8 → Says (Order inTag opened rooted kind left) (eqb left 0)
+    pub order-last : kind ≡ 8 → Says (Order inTag nesting rooted kind left) (eqb left 0)
     order-last e = says-same (λ q. all (λ k. q)) (λ o. o .last e) (says-eqb left 0)
 
-    pub order-other : (kind ≡ 8 → ⊥) → Says (Order inTag opened rooted kind left) true
+    pub order-other : (kind ≡ 8 → ⊥) → Says (Order inTag nesting rooted kind left) true
     order-other f = says-yes (all (λ e. absurd (f e)))
 
 pub ruleset order-laws = (needs, not-true, not-false, order-inside, order-outside, open-none, open-root, open-first, open-one, open-other, order-low, order-high, order-tag, order-open, order-last, order-other)

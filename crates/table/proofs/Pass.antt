@@ -133,7 +133,7 @@ pub ruleset at-laws = (needs, step-at)
 pub record Walking (body : List ℕ) (last : ℕ) (t : List ℕ) (n k : ℕ) (p : Place) : Type 0 where
   pub within : k ≤ n
   pub low : p .position ≤ last
-  pub few : p .opened ≤ k
+  pub few : p .nesting ≤ k
   pub on : Rest body last atFirst (rowsFrom t 0 n) → Rest body last p (rowsFrom t k (n - k))
   pub back : Rest body last p (rowsFrom t k (n - k)) → Rest body last atFirst (rowsFrom t 0 n)
 

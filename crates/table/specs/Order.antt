@@ -13,22 +13,22 @@ pub record InOrder (inTag : Bool) (kind : ℕ) : Type 0 where
   pub outside : inTag ≡ false → among (2 ∷ 3 ∷ 5 ∷ []) kind ≡ false
 
 -- ---- open elements
-pub record OpenOrder (opened : ℕ) (rooted : Bool) (kind : ℕ) : Type 0 where
-  pub needs : among (4 ∷ 6 ∷ []) kind ≡ true → 0 < opened
-  pub root : rooted ≡ true → opened ≡ 0 → among (7 ∷ 8 ∷ []) kind ≡ true
-  pub limit : kind ≡ 1 → opened < 256
+pub record OpenOrder (nesting : ℕ) (rooted : Bool) (kind : ℕ) : Type 0 where
+  pub needs : among (4 ∷ 6 ∷ []) kind ≡ true → 0 < nesting
+  pub root : rooted ≡ true → nesting ≡ 0 → among (7 ∷ 8 ∷ []) kind ≡ true
+  pub limit : kind ≡ 1 → nesting < 256
 
 -- ---- all of them, with so many rows left
-pub record Order (inTag : Bool) (opened : ℕ) (rooted : Bool) (kind left : ℕ) : Type 0 where
+pub record Order (inTag : Bool) (nesting : ℕ) (rooted : Bool) (kind left : ℕ) : Type 0 where
   pub low : 1 ≤ kind
   pub high : kind ≤ 8
   pub tag : InOrder inTag kind
-  pub count : OpenOrder opened rooted kind
+  pub count : OpenOrder nesting rooted kind
   pub last : kind ≡ 8 → left ≡ 0
 
 -- ---- the place after a row
 abbrev pub place : ℕ → Bool → ℕ → Bool → Place
-place a b c d = record { position = a; inTag = b; opened = c; rooted = d }
+place a b c d = record { position = a; inTag = b; nesting = c; rooted = d }
 
 -- `after` by the row's kind and position
 abbrev pub stepTo : Place → ℕ → ℕ → Place
@@ -36,10 +36,10 @@ stepTo p kind own =
     record {
       position = own;
       inTag = pick (eqb kind 1) true (pick (among (3 ∷ 5 ∷ []) kind) false (p .inTag));
-      opened = pick (eqb kind 1) (suc (p .opened)) (pick (among (4 ∷ 5 ∷ []) kind) (p .opened - 1) (p .opened));
+      nesting = pick (eqb kind 1) (suc (p .nesting)) (pick (among (4 ∷ 5 ∷ []) kind) (p .nesting - 1) (p .nesting));
       rooted = pick (eqb kind 1) true (p .rooted);
     }
 
 pub record StepsTo (p : Place) (kind own : ℕ) (q : Place) : Type 0 where
   pub is : q ≡ stepTo p kind own
-  pub more : q .opened ≤ p .opened + 1
+  pub more : q .nesting ≤ p .nesting + 1

@@ -21,4 +21,4 @@ pub record Rest (body : List ℕ) (last : ℕ) (p : Place) (rows : List Row) : T
 -- q is the place after row k
 pub record StepAt (t : List ℕ) (k : ℕ) (p q : Place) : Type 0 where
   pub is : q ≡ after p (rowAt t k)
-  pub more : q .opened ≤ p .opened + 1
+  pub more : q .nesting ≤ p .nesting + 1

@@ -7,7 +7,7 @@ use lib.Dec.{eqb}
 use lib.ListN.{length, take, drop}
 use Rattle.lists.specs.Tests.{pick}
 use Rattle.table.specs.Row.{Row, cut}
-use Rattle.table.specs.Rules.{among, usesName, beginOf, lastPosition}
+use Rattle.table.specs.Rules.{usesName, openCount, beginOf, lastPosition}
 
 -- a filled span's start is counted from s, an empty one's stays
 abbrev pub movedSpan : ℕ → ℕ → ℕ → ℕ
@@ -29,16 +29,12 @@ moved s r =
       position = r .position - s;
     }
 
--- how many elements are open after a row, where n are before it: a start row opens one, kinds 4 and 5 close one
-abbrev pub openCount : ℕ → Row → ℕ
-openCount n r = pick (eqb (r .kind) 1) (suc n) (pick (among (4 ∷ 5 ∷ []) (r .kind)) (n - 1) n)
-
 -- "the row that closes it, kind 4 or 5": how many rows there are up to and with the first after which none is open, where n elements are
 -- open, the element itself among them (0 before its start row); all rows where none closes it
 unfoldable pub closing : ℕ → List Row → ℕ
 closing n [] = zero
 closing n (r ∷ rest) =
-    let m = openCount n r in
+    let m = openCount n (r .kind) in
     let more = closing m rest in
     suc (pick (eqb m 0) 0 more)
 
@@ -46,7 +42,7 @@ closing n (r ∷ rest) =
 unfoldable pub isClosed : ℕ → List Row → Bool
 isClosed n [] = false
 isClosed n (r ∷ rest) =
-    let m = openCount n r in
+    let m = openCount n (r .kind) in
     let more = isClosed m rest in
     pick (eqb m 0) true more
 

@@ -49,6 +49,16 @@ nameOf body r = record { prefix = cut body (r .prefixStart) (r .prefixLen); loca
 abbrev pub valueOf : List ℕ → Row → List ℕ
 valueOf body r = cut body (r .valueStart) (r .valueLen)
 
+-- what stands between tags and leaves the elements as they are: "6 text, 7 all others"
+pub data Matter : Type 0 where
+  text : List ℕ → Matter
+  misc : Matter
+
+-- the bytes of it in which references stand
+abbrev pub referencesIn : Matter → List ℕ
+referencesIn (text v) = v
+referencesIn misc = []
+
 -- what a row stands for, with its bytes: "Kinds: 1 start, 2 attribute, 3 `>`, 4 close tag, 5 `/>`, 6 text, 7 all others, 8 token error."
 pub data Tok : Type 0 where
   start : Name → Tok
@@ -56,9 +66,23 @@ pub data Tok : Type 0 where
   gt : Tok
   close : Name → Tok
   slash : Tok
-  text : List ℕ → Tok
-  misc : Tok
+  matter : Matter → Tok
   bad : Tok
+
+-- what a token does to the elements: it opens one of a name, closes the innermost, or leaves them as they are
+pub data Move : Type 0 where
+  enters : Name → Move
+  leaves : Move
+  stays : Move
+
+abbrev pub moveOf : Tok → Move
+moveOf (start n) = enters n
+moveOf (attr m v) = stays
+moveOf gt = stays
+moveOf (close m) = leaves
+moveOf slash = leaves
+moveOf (matter b) = stays
+moveOf bad = stays
 
 -- by the number of its kind; a number that is no kind stands for a token error
 unfoldable pub tokAs : ℕ → Name → List ℕ → Tok
@@ -68,8 +92,8 @@ tokAs (suc (suc zero)) n v = attr n v
 tokAs (suc (suc (suc zero))) n v = gt
 tokAs (suc (suc (suc (suc zero)))) n v = close n
 tokAs (suc (suc (suc (suc (suc zero))))) n v = slash
-tokAs (suc (suc (suc (suc (suc (suc zero)))))) n v = text v
-tokAs (suc (suc (suc (suc (suc (suc (suc zero))))))) n v = misc
+tokAs (suc (suc (suc (suc (suc (suc zero)))))) n v = matter (text v)
+tokAs (suc (suc (suc (suc (suc (suc (suc zero))))))) n v = matter misc
 tokAs (suc (suc (suc (suc (suc (suc (suc (suc k)))))))) n v = bad
 
 abbrev pub tokOf : List ℕ → Row → Tok

@@ -5,6 +5,7 @@ use mathlib.Core.Bool.{Bool, true, false}
 use mathlib.Core.List.{List, [], _∷_}
 use lib.Dec.{eqb}
 use lib.ListN.{length, getD}
+use Rattle.lists.specs.Characters.{solidus, lessThan, greaterThan}
 use Rattle.lists.specs.Tests.{pick}
 use Rattle.utf8.specs.Table.{isUtf8}
 use Rattle.table.specs.Row.{Row, rowsOf}
@@ -37,19 +38,23 @@ usesValue k = among (2 ∷ 6 ∷ []) k
 pub record Place : Type 0 where
   pub position : ℕ
   pub inTag : Bool
-  pub opened : ℕ
+  pub nesting : ℕ
   pub rooted : Bool
 
 abbrev pub atFirst : Place
-atFirst = record { position = 0; inTag = false; opened = 0; rooted = false }
+atFirst = record { position = 0; inTag = false; nesting = 0; rooted = false }
 
--- a start row begins a start tag and opens an element; 3 and 5 end a start tag; 4 and 5 close an element
+-- how many elements are open after a row of a kind, where n are before it: a start row opens one, kinds 4 and 5 close one
+abbrev pub openCount : ℕ → ℕ → ℕ
+openCount n kind = pick (eqb kind 1) (suc n) (pick (among (4 ∷ 5 ∷ []) kind) (n - 1) n)
+
+-- a start row begins a start tag, 3 and 5 end one
 abbrev pub after : Place → Row → Place
 after p r =
     record {
       position = r .position;
       inTag = pick (eqb (r .kind) 1) true (pick (among (3 ∷ 5 ∷ []) (r .kind)) false (p .inTag));
-      opened = pick (eqb (r .kind) 1) (suc (p .opened)) (pick (among (4 ∷ 5 ∷ []) (r .kind)) (p .opened - 1) (p .opened));
+      nesting = openCount (p .nesting) (r .kind);
       rooted = pick (eqb (r .kind) 1) true (p .rooted);
     }
 
@@ -86,7 +91,7 @@ LocalStart p r = usesName (r .kind) ≡ true → (p .position ≤ r .localStart)
 -- the place of the last `<` before a place, or 0 where there is none
 unfoldable pub lastLt : List ℕ → ℕ → ℕ
 lastLt body zero = zero
-lastLt body (suc i) = let before = lastLt body i in pick (eqb (getD body i 0) 60) i before
+lastLt body (suc i) = let before = lastLt body i in pick (eqb (getD body i 0) lessThan) i before
 
 -- where a tag begins: the last `<` before its local name
 abbrev pub beginOf : List ℕ → Row → ℕ
@@ -94,7 +99,7 @@ beginOf body r = lastLt body (r .localStart)
 
 -- "In kinds 1 and 4 the last `<` before the local name stands no earlier than the previous position, and before a filled prefix."
 pub record LastLt (body : List ℕ) (p : Place) (r : Row) : Type 0 where
-  pub is : getD body (beginOf body r) 0 ≡ 60
+  pub is : getD body (beginOf body r) 0 ≡ lessThan
   pub before : beginOf body r < r .localStart
   pub late : p .position ≤ beginOf body r
   pub prefix : 0 < r .prefixLen → beginOf body r < r .prefixStart
@@ -108,8 +113,8 @@ EndsIn body r back b = (back ≤ r .position) × (getD body (r .position - back)
 
 -- "Kinds 3 and 4 end in `>`, kind 5 in `/>`."
 pub record Ending (body : List ℕ) (r : Row) : Type 0 where
-  pub gt : among (3 ∷ 4 ∷ 5 ∷ []) (r .kind) ≡ true → EndsIn body r 1 62
-  pub slash : r .kind ≡ 5 → EndsIn body r 2 47
+  pub gt : among (3 ∷ 4 ∷ 5 ∷ []) (r .kind) ≡ true → EndsIn body r 1 greaterThan
+  pub slash : r .kind ≡ 5 → EndsIn body r 2 solidus
 
 -- "After a start only 2, then 3 or 5, or 8, or the table's end (a body cut inside a tag). Kinds 2, 3, 5 come nowhere else."
 pub record TagOrder (p : Place) (r : Row) : Type 0 where
@@ -118,11 +123,11 @@ pub record TagOrder (p : Place) (r : Row) : Type 0 where
 
 -- "Kinds 4 and 6 need an open element."
 abbrev pub NeedsOpen : Place → Row → Type 0
-NeedsOpen p r = among (4 ∷ 6 ∷ []) (r .kind) ≡ true → 0 < p .opened
+NeedsOpen p r = among (4 ∷ 6 ∷ []) (r .kind) ≡ true → 0 < p .nesting
 
 -- "Once the root has closed, only 7 and 8."
 abbrev pub AfterRoot : Place → Row → Type 0
-AfterRoot p r = p .rooted ≡ true → p .opened ≡ 0 → among (7 ∷ 8 ∷ []) (r .kind) ≡ true
+AfterRoot p r = p .rooted ≡ true → p .nesting ≡ 0 → among (7 ∷ 8 ∷ []) (r .kind) ≡ true
 
 -- "Kind 8 is last."
 abbrev pub ErrorLast : Row → List Row → Type 0
@@ -130,7 +135,7 @@ ErrorLast r rest = r .kind ≡ 8 → length rest ≡ 0
 
 -- "at most .. 256 open elements (each is open from its kind 1 row, one that ends in `/>` too)"
 abbrev pub OpenLimit : Place → Row → Type 0
-OpenLimit p r = r .kind ≡ 1 → p .opened < mostOpen
+OpenLimit p r = r .kind ≡ 1 → p .nesting < mostOpen
 
 pub record RowRules (body : List ℕ) (p : Place) (r : Row) (rest : List Row) : Type 0 where
   pub knownKind : KnownKind r

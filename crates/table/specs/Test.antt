@@ -3,6 +3,7 @@ use Prim.Native.Nat.{ℕ, _+_, _-_, _%_}
 use mathlib.Core.List.{List, [], _∷_}
 use native.Mathlib.Decide.{ℕ-discrete, decLe, decLt}
 use lib.ListN.{length, getD}
+use Rattle.lists.specs.Characters.{solidus, lessThan, greaterThan}
 use Rattle.lists.specs.Decide.{_and_, _implies_, same, isTrue, isFalse}
 use Rattle.utf8.specs.Table.{isUtf8, walk, inRange}
 use Rattle.utf8.specs.Table as utf8
@@ -48,7 +49,7 @@ decTag body p r =
     isTrue (among (1 ∷ 4 ∷ []) (r .kind)) implies
     same (λ t. record { is = t .0; before = t .1 .0; late = t .1 .1 .0; prefix = t .1 .1 .1 })
     (λ l. (l .is, (l .before, (l .late, l .prefix))))
-    (ℕ-discrete (getD body (beginOf body r) 0) 60
+    (ℕ-discrete (getD body (beginOf body r) 0) lessThan
     and decLt (beginOf body r) (r .localStart)
     and decLe (p .position) (beginOf body r)
     and (decLt 0 (r .prefixLen) implies decLt (beginOf body r) (r .prefixStart)))
@@ -61,7 +62,7 @@ unfoldable pub decEnding : (body : List ℕ) (r : Row) → Dec (Ending body r)
 unfolding ℕ-discrete decEnds
 decEnding body r =
     same (λ t. record { gt = t .0; slash = t .1 }) (λ e. (e .gt, e .slash))
-    ((isTrue (among (3 ∷ 4 ∷ 5 ∷ []) (r .kind)) implies decEnds body r 1 62) and (ℕ-discrete (r .kind) 5 implies decEnds body r 2 47))
+    ((isTrue (among (3 ∷ 4 ∷ 5 ∷ []) (r .kind)) implies decEnds body r 1 greaterThan) and (ℕ-discrete (r .kind) 5 implies decEnds body r 2 solidus))
 
 unfoldable pub decOrder : (p : Place) (r : Row) → Dec (TagOrder p r)
 decOrder p r =
@@ -71,11 +72,11 @@ decOrder p r =
 
 unfoldable pub decOpen : (p : Place) (r : Row) → Dec (NeedsOpen p r)
 unfolding decLt
-decOpen p r = isTrue (among (4 ∷ 6 ∷ []) (r .kind)) implies decLt 0 (p .opened)
+decOpen p r = isTrue (among (4 ∷ 6 ∷ []) (r .kind)) implies decLt 0 (p .nesting)
 
 unfoldable pub decRoot : (p : Place) (r : Row) → Dec (AfterRoot p r)
 unfolding ℕ-discrete
-decRoot p r = isTrue (p .rooted) implies ℕ-discrete (p .opened) 0 implies isTrue (among (7 ∷ 8 ∷ []) (r .kind))
+decRoot p r = isTrue (p .rooted) implies ℕ-discrete (p .nesting) 0 implies isTrue (among (7 ∷ 8 ∷ []) (r .kind))
 
 unfoldable pub decError : (r : Row) (rest : List Row) → Dec (ErrorLast r rest)
 unfolding ℕ-discrete
@@ -83,7 +84,7 @@ decError r rest = ℕ-discrete (r .kind) 8 implies ℕ-discrete (length rest) 0
 
 unfoldable pub decLimit : (p : Place) (r : Row) → Dec (OpenLimit p r)
 unfolding ℕ-discrete decLt
-decLimit p r = ℕ-discrete (r .kind) 1 implies decLt (p .opened) mostOpen
+decLimit p r = ℕ-discrete (r .kind) 1 implies decLt (p .nesting) mostOpen
 
 unfoldable pub decRow : (body : List ℕ) (p : Place) (r : Row) (rest : List Row) → Dec (RowRules body p r rest)
 unfolding decLe decKind decZero decSpans decLocal decTag decEnding decOrder decOpen decRoot decError decLimit

@@ -13,6 +13,29 @@ ghost use Rattle.table.specs.Bytes.{LastIn, Begins, Ends, BytesIn, Bytes
 ghost use Rattle.table.specs.Order.{InOrder, OpenOrder, Order, place, StepsTo};
 ghost use Rattle.table.specs.Pass.{RowIn, StepAt, Rest};
 
+pub mod kind;
+pub mod limit;
+pub mod number;
+
+use crate::kind::ATTRIBUTE;
+use crate::kind::CLOSE;
+use crate::kind::ERROR;
+use crate::kind::GT;
+use crate::kind::MISC;
+use crate::kind::SLASH;
+use crate::kind::START;
+use crate::kind::TEXT;
+use crate::limit::BYTES;
+use crate::limit::OPEN;
+use crate::limit::ROWS;
+use crate::number::KIND;
+use crate::number::LOCAL;
+use crate::number::LOCAL_LEN;
+use crate::number::POSITION;
+use crate::number::PREFIX;
+use crate::number::PREFIX_LEN;
+use crate::number::VALUE;
+
 fn wide(x: u32) -> usize
     ensures { λ r. ⌜ r ≡ x ⌝ }
 {
@@ -33,13 +56,13 @@ pub fn field(rows: &[u32], k: usize, j: usize) -> usize
 pub fn uses_name(kind: usize) -> bool
     ensures { λ r. ⌜ r ≡ usesName kind ⌝ }
 {
-    if kind == 1 {
+    if kind == START {
         return true;
     }
-    if kind == 2 {
+    if kind == ATTRIBUTE {
         return true;
     }
-    kind == 4
+    kind == CLOSE
 }
 
 // One of two kinds.
@@ -69,16 +92,16 @@ fn one_of_three(kind: usize, a: usize, b: usize, c: usize) -> bool
 fn comes_inside(kind: usize) -> bool
     ensures { λ r. ⌜ r ≡ among (2 ∷ 3 ∷ 5 ∷ 8 ∷ []) kind ⌝ }
 {
-    if kind == 2 {
+    if kind == ATTRIBUTE {
         return true;
     }
-    if kind == 3 {
+    if kind == GT {
         return true;
     }
-    if kind == 5 {
+    if kind == SLASH {
         return true;
     }
-    kind == 8
+    kind == ERROR
 }
 
 // ---- spans
@@ -141,10 +164,16 @@ fn names(rows: &[u32], k: usize, used: bool, previous: usize, own: usize) -> boo
     requires { ⌜ k * 8 + 8 ≤ length (now rows) ⌝ }
     ensures { λ r. ⌜ Says (NameSpans used previous own (now (rows .entry)) k) r ⌝ }
 {
-    if !local_span(used, previous, own, field(rows, k, 3), field(rows, k, 4)) {
+    if !local_span(
+        used,
+        previous,
+        own,
+        field(rows, k, LOCAL),
+        field(rows, k, LOCAL_LEN),
+    ) {
         return false;
     }
-    span_at(rows, k, 1, used, previous, own)
+    span_at(rows, k, PREFIX, used, previous, own)
 }
 
 // All spans of row k.
@@ -155,7 +184,7 @@ fn spans(rows: &[u32], k: usize, kind: usize, previous: usize, own: usize) -> bo
     if !names(rows, k, uses_name(kind), previous, own) {
         return false;
     }
-    span_at(rows, k, 5, one_of(kind, 2, 6), previous, own)
+    span_at(rows, k, VALUE, one_of(kind, ATTRIBUTE, TEXT), previous, own)
 }
 
 // ---- bytes of the body
@@ -181,15 +210,15 @@ fn tag_begins(body: &[u8], rows: &[u32], k: usize, previous: usize) -> bool
     requires { ⌜ (k * 8 + 8 ≤ length (now rows)) × (getD (now rows) (k * 8 + 3) 0 ≤ length (now body)) ⌝ }
     ensures { λ r. ⌜ Says (Begins (now (body .entry)) previous (now (rows .entry)) k) r ⌝ }
 {
-    let at = field(rows, k, 3);
+    let at = field(rows, k, LOCAL);
     let i = last_lt(body, previous, at);
     if i == at {
         return false;
     }
-    if field(rows, k, 2) == 0 {
+    if field(rows, k, PREFIX_LEN) == 0 {
         return true;
     }
-    i < field(rows, k, 1)
+    i < field(rows, k, PREFIX)
 }
 
 // Whether a row of this kind and position ends in `>` or `/>` where it has to.
@@ -197,7 +226,7 @@ fn ending(body: &[u8], kind: usize, own: usize) -> bool
     requires { ⌜ own ≤ length (now body) ⌝ }
     ensures { λ r. ⌜ Says (Ends (now (body .entry)) kind own) r ⌝ }
 {
-    if !one_of_three(kind, 3, 4, 5) {
+    if !one_of_three(kind, GT, CLOSE, SLASH) {
         return true;
     }
     if own < 1 {
@@ -206,7 +235,7 @@ fn ending(body: &[u8], kind: usize, own: usize) -> bool
     if body[own - 1] != b'>' {
         return false;
     }
-    if kind != 5 {
+    if kind != SLASH {
         return true;
     }
     if own < 2 {
@@ -220,7 +249,7 @@ fn bytes(body: &[u8], rows: &[u32], k: usize, kind: usize, previous: usize, own:
     requires { ⌜ BytesIn (now body) own (now rows) k ⌝ }
     ensures { λ r. ⌜ Says (Bytes (now (body .entry)) kind previous own (now (rows .entry)) k) r ⌝ }
 {
-    if one_of(kind, 1, 4) {
+    if one_of(kind, START, CLOSE) {
         if tag_begins(body, rows, k, previous) {
             return ending(body, kind, own);
         }
@@ -238,26 +267,26 @@ fn tag_order(kind: usize, in_tag: bool) -> bool
     if in_tag {
         return comes_inside(kind);
     }
-    !one_of_three(kind, 2, 3, 5)
+    !one_of_three(kind, ATTRIBUTE, GT, SLASH)
 }
 
 // Whether a kind may come where so many elements are open, and one more may be opened.
-fn open_order(kind: usize, opened: usize, rooted: bool) -> bool
-    ensures { λ r. ⌜ Says (OpenOrder opened rooted kind) r ⌝ }
+fn open_order(kind: usize, nesting: usize, rooted: bool) -> bool
+    ensures { λ r. ⌜ Says (OpenOrder nesting rooted kind) r ⌝ }
 {
-    if opened == 0 {
-        if one_of(kind, 4, 6) {
+    if nesting == 0 {
+        if one_of(kind, CLOSE, TEXT) {
             return false;
         }
         if rooted {
-            return one_of(kind, 7, 8);
+            return one_of(kind, MISC, ERROR);
         }
         return true;
     }
-    if kind != 1 {
+    if kind != START {
         return true;
     }
-    opened < 256
+    nesting < OPEN
 }
 
 // What the rows before have come to: the last position, whether a start tag is not ended, how many elements are open, whether the root has
@@ -265,13 +294,13 @@ fn open_order(kind: usize, opened: usize, rooted: bool) -> bool
 struct Place {
     position: usize,
     in_tag: bool,
-    opened: usize,
+    nesting: usize,
     rooted: bool,
 }
 
 // Whether a row of this kind may come here, with so many rows left after it.
 fn order(kind: usize, p: Place, left: usize) -> bool
-    ensures { λ r. ⌜ Says (Order (p .in_tag) (p .opened) (p .rooted) kind left) r ⌝ }
+    ensures { λ r. ⌜ Says (Order (p .in_tag) (p .nesting) (p .rooted) kind left) r ⌝ }
 {
     if kind < 1 {
         return false;
@@ -282,17 +311,17 @@ fn order(kind: usize, p: Place, left: usize) -> bool
     if !tag_order(kind, p.in_tag) {
         return false;
     }
-    if !open_order(kind, p.opened, p.rooted) {
+    if !open_order(kind, p.nesting, p.rooted) {
         return false;
     }
-    if kind == 8 {
+    if kind == ERROR {
         return left == 0;
     }
     true
 }
 
 // One less, or 0.
-fn less(n: usize) -> usize
+pub fn one_less(n: usize) -> usize
     ensures { λ r. ⌜ r ≡ n - 1 ⌝ }
 {
     if n == 0 {
@@ -303,29 +332,29 @@ fn less(n: usize) -> usize
 
 // The place after a row.
 fn place_after(p: Place, kind: usize, own: usize) -> Place
-    requires { ⌜ p .opened < 65536 ⌝ }
-    ensures { λ r. ⌜ StepsTo (place (p .position) (p .in_tag) (p .opened) (p .rooted)) kind own
-        (place (r .position) (r .in_tag) (r .opened) (r .rooted)) ⌝ }
+    requires { ⌜ p .nesting < 65536 ⌝ }
+    ensures { λ r. ⌜ StepsTo (place (p .position) (p .in_tag) (p .nesting) (p .rooted)) kind own
+        (place (r .position) (r .in_tag) (r .nesting) (r .rooted)) ⌝ }
 {
     let mut q = p;
     q.position = own;
-    if kind == 1 {
+    if kind == START {
         q.in_tag = true;
-        q.opened = p.opened + 1;
+        q.nesting = p.nesting + 1;
         q.rooted = true;
         return q;
     }
-    if kind == 3 {
+    if kind == GT {
         q.in_tag = false;
         return q;
     }
-    if kind == 4 {
-        q.opened = less(p.opened);
+    if kind == CLOSE {
+        q.nesting = one_less(p.nesting);
         return q;
     }
-    if kind == 5 {
+    if kind == SLASH {
         q.in_tag = false;
-        q.opened = less(p.opened);
+        q.nesting = one_less(p.nesting);
         return q;
     }
     q
@@ -335,11 +364,11 @@ fn place_after(p: Place, kind: usize, own: usize) -> Place
 
 // The place after row k.
 fn step(rows: &[u32], k: usize, p: Place) -> Place
-    requires { ⌜ (k * 8 + 8 ≤ length (now rows)) × (p .opened < 65536) ⌝ }
-    ensures { λ r. ⌜ StepAt (now (rows .entry)) k (place (p .position) (p .in_tag) (p .opened) (p .rooted))
-        (place (r .position) (r .in_tag) (r .opened) (r .rooted)) ⌝ }
+    requires { ⌜ (k * 8 + 8 ≤ length (now rows)) × (p .nesting < 65536) ⌝ }
+    ensures { λ r. ⌜ StepAt (now (rows .entry)) k (place (p .position) (p .in_tag) (p .nesting) (p .rooted))
+        (place (r .position) (r .in_tag) (r .nesting) (r .rooted)) ⌝ }
 {
-    place_after(p, field(rows, k, 0), field(rows, k, 7))
+    place_after(p, field(rows, k, KIND), field(rows, k, POSITION))
 }
 
 // Whether row k, of this kind, before so many more, obeys the rules and ends in time.
@@ -353,10 +382,10 @@ fn row_of(
     p: Place,
 ) -> bool
     requires { ⌜ (k * 8 + 8 ≤ length (now rows)) × (last ≤ length (now body)) × (kind ≡ getD (now rows) (k * 8 + 0) 0) ⌝ }
-    ensures { λ r. ⌜ Says (RowIn (now (body .entry)) last (place (p .position) (p .in_tag) (p .opened) (p .rooted))
+    ensures { λ r. ⌜ Says (RowIn (now (body .entry)) last (place (p .position) (p .in_tag) (p .nesting) (p .rooted))
         (now (rows .entry)) k left) r ⌝ }
 {
-    let own = field(rows, k, 7);
+    let own = field(rows, k, POSITION);
     if own < p.position {
         return false;
     }
@@ -376,21 +405,21 @@ fn row_of(
 // need.
 fn row(body: &[u8], rows: &[u32], k: usize, left: usize, last: usize, p: Place) -> bool
     requires { ⌜ (k * 8 + 8 ≤ length (now rows)) × (last ≤ length (now body)) ⌝ }
-    ensures { λ r. ⌜ Says (RowIn (now (body .entry)) last (place (p .position) (p .in_tag) (p .opened) (p .rooted))
+    ensures { λ r. ⌜ Says (RowIn (now (body .entry)) last (place (p .position) (p .in_tag) (p .nesting) (p .rooted))
         (now (rows .entry)) k left) r ⌝ }
 {
-    let kind = field(rows, k, 0);
-    if kind == 1 {
-        return row_of(body, rows, k, 1, left, last, p);
+    let kind = field(rows, k, KIND);
+    if kind == START {
+        return row_of(body, rows, k, START, left, last, p);
     }
-    if kind == 3 {
-        return row_of(body, rows, k, 3, left, last, p);
+    if kind == GT {
+        return row_of(body, rows, k, GT, left, last, p);
     }
-    if kind == 4 {
-        return row_of(body, rows, k, 4, left, last, p);
+    if kind == CLOSE {
+        return row_of(body, rows, k, CLOSE, left, last, p);
     }
-    if kind == 6 {
-        return row_of(body, rows, k, 6, left, last, p);
+    if kind == TEXT {
+        return row_of(body, rows, k, TEXT, left, last, p);
     }
     row_of(body, rows, k, kind, left, last, p)
 }
@@ -403,7 +432,7 @@ fn each_row(body: &[u8], rows: &[u32], n: usize, last: usize) -> bool
     let mut p = Place {
         position: 0,
         in_tag: false,
-        opened: 0,
+        nesting: 0,
         rooted: false,
     };
     let mut k = 0;
@@ -425,10 +454,10 @@ pub fn obeys(body: &[u8], rows: &[u32], end: u32) -> bool
         return false;
     }
     let n = rows.len() / 8;
-    if n > 8192 {
+    if n > ROWS {
         return false;
     }
-    if body.len() > 65536 {
+    if body.len() > BYTES {
         return false;
     }
     let last = wide(end);

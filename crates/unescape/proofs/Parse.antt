@@ -18,7 +18,8 @@ use Rattle.lists.proofs.Tests.{pick-same, pick-all, false-true}
 use Rattle.lists.specs.Bytes.{ascii, sameb}
 use Rattle.lists.proofs.Bytes.{same-is}
 use Rattle.lists.proofs.Parts.{getD-in}
-use Rattle.reference.specs.Number.{digit, number, limited, digits, plusDigits}
+use Rattle.reference.proofs.Grammar.{Clean, clean-none, clean-byte}
+use Rattle.reference.specs.Number.{digit, numeral, limited, digits, plusDigits}
 use Rattle.reference.specs.Entity.{named, numeric, only, first, reader, allowed, charOf}
 use Rattle.reference.specs.Text.{span, sized, reference}
 use Rattle.reference.specs.declared.Number.{Number}
@@ -70,11 +71,11 @@ module _ (f : List ℕ → Number) (n : ℕ) (t : List ℕ) (i : ℕ) where
 
 -- ---- a numeral
 -- a number that has passed 32 bits stays so
-number-big : (base acc : ℕ) (s : List ℕ) → 1 ≤ base → 2 ^ 32 ≤ acc → limited (number base acc s) ≡ No
-unfolding number limited
+number-big : (base acc : ℕ) (s : List ℕ) → 1 ≤ base → 2 ^ 32 ≤ acc → limited (numeral base acc s) ≡ No
+unfolding numeral limited
 number-big base acc [] hb h = rw (le-ltb acc (2 ^ 32) h)
 number-big base acc (b ∷ s) hb h =
-    either (ltb (digit b) base) (number base (acc * base + digit b) s)
+    either (ltb (digit b) base) (numeral base (acc * base + digit b) s)
     (number-big base (acc * base + digit b) s hb (omega (arith, mul-le-mul-left acc hb)))
   where
     either : (t : Bool) (x : Number) → limited x ≡ No → limited (pick t x No) ≡ No
@@ -83,15 +84,15 @@ number-big base acc (b ∷ s) hb h =
 
 -- the rest of a numeral of which k digits have come to acc
 unfoldable pub more : ℕ → ℕ → ℕ → List ℕ → Number
-more base acc k s = pick (leb 1 (k + length s)) (limited (number base acc s)) No
+more base acc k s = pick (leb 1 (k + length s)) (limited (numeral base acc s)) No
 
 more-digit : (base acc k b d : ℕ) (s : List ℕ) → d ≡ digit b → d < base → more base acc k (b ∷ s) ≡ more base (acc * base + d) (k + 1) s
-unfolding more number
+unfolding more numeral
 more-digit base acc k b d s e h =
     rw (← e, lt-ltb d base h, le-leb 1 (k + suc (length s)) (omega arith), le-leb 1 (k + 1 + length s) (omega arith))
 
 more-bad : (base acc k b d : ℕ) (s : List ℕ) → d ≡ digit b → base ≤ d → more base acc k (b ∷ s) ≡ No
-unfolding more number limited
+unfolding more numeral limited
 more-bad base acc k b d s e h = rw (← e, le-ltb d base h, pick-same)
 
 more-over : (base acc k : ℕ) (s : List ℕ) → 1 ≤ base → 2 ^ 32 ≤ acc → more base acc k s ≡ No
@@ -137,7 +138,7 @@ module _ {base : ℕ} {t : List ℕ} {from start acc i : ℕ} (at : DigitsAt bas
     digits-over b s = sym (digits-pass ∙ spelt-no (more base (acc * base + d) (i + 1 - start)) (i + 1 - from) (drop (i + 1) t) (more-over base _ _ _ b s))
 
   pub digits-value : i < length t → getD t i 0 ≡ 59 → (i ≡ start → ⊥) → Reference.Char acc (i - from + 1) ≡ spelt (digits base) (start - from) (drop start t)
-  unfolding more number limited sized
+  unfolding more numeral limited sized
   digits-value h e n =
       let k : 1 ≤ i - start + 0 = omega (arith, at .low) in
       sym (at .rest ∙ spelt-semi (more base acc (i - start)) (i - from) t i h e ∙ rw (le-leb 1 (i - start + 0) k, lt-ltb acc (2 ^ 32) (at .small)))
@@ -319,11 +320,6 @@ begins-short name t from h = sym (go name (drop from t) (omega (arith, length-dr
     go (x ∷ n) (b ∷ s) h = rw (go n s (omega arith), pick-same)
 
 pub ruleset begins-laws = (needs, begins-start, begins-turn, begins-differ, begins-end, begins-short)
-
--- bytes that end no entity
-data Clean : List ℕ → Type 0 where
-  clean-none : Clean []
-  clean-byte : {b : ℕ} {s : List ℕ} → (b ≡ 59 → ⊥) → (b ≡ 38 → ⊥) → Clean s → Clean (b ∷ s)
 
 cleanb : List ℕ → Bool
 cleanb [] = true

@@ -5,6 +5,7 @@ use mathlib.Core.Bool.{Bool, true, false}
 use mathlib.Core.List.{List, [], _∷_}
 use lib.Dec.{eqb}
 use lib.ListN.{length, getD, drop, take}
+use Rattle.lists.specs.Characters.{quote, ampersand, apostrophe, semicolon, lessThan, greaterThan}
 use Rattle.lists.specs.Tests.{pick}
 use Rattle.lists.specs.Bytes.{ascii}
 use Rattle.reference.specs.Number.{digits}
@@ -15,7 +16,7 @@ use Rattle.reference.specs.declared.Reference.{Reference}
 
 -- ---- an entity that is read by f, up to its `;`, where n bytes of the reference stand before it
 unfoldable pub spelt : (List ℕ → Number) → ℕ → List ℕ → Reference
-spelt f n s = pick (eqb (getD s (span s) 0) 59) (sized (n + span s + 1) (f (take (span s) s))) Reference.Bad
+spelt f n s = pick (eqb (getD s (span s) 0) semicolon) (sized (n + span s + 1) (f (take (span s) s))) Reference.Bad
 
 -- ---- past a sign
 -- the digits begin at r
@@ -39,11 +40,11 @@ begins (x ∷ n) (b ∷ s) = pick (eqb b x) (begins n s) false
 -- the references by name
 unfoldable pub namedRef : List ℕ → Reference
 namedRef s =
-    pick (begins (ascii "lt;") s) (Reference.Char 60 3)
-    (pick (begins (ascii "gt;") s) (Reference.Char 62 3)
-    (pick (begins (ascii "amp;") s) (Reference.Char 38 4)
-    (pick (begins (ascii "quot;") s) (Reference.Char 34 5)
-    (pick (begins (ascii "apos;") s) (Reference.Char 39 5)
+    pick (begins (ascii "lt;") s) (Reference.Char lessThan 3)
+    (pick (begins (ascii "gt;") s) (Reference.Char greaterThan 3)
+    (pick (begins (ascii "amp;") s) (Reference.Char ampersand 4)
+    (pick (begins (ascii "quot;") s) (Reference.Char quote 5)
+    (pick (begins (ascii "apos;") s) (Reference.Char apostrophe 5)
     Reference.Bad))))
 
 -- ---- names by their bytes: a character c and a length n as one number, or 0

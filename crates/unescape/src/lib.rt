@@ -9,11 +9,33 @@ ghost use lib.ListN.{length, getD, drop};
 ghost use Rattle.reference.specs.Number.{digit, digits};
 ghost use Rattle.reference.specs.Entity.{numeric, reader, xmlChar, allowed};
 ghost use Rattle.reference.specs.Text.{reference, unescaped, validated, filled, Unescape};
+ghost use Rattle.lists.specs.Characters.{ampersand, hash};
 ghost use Rattle.lists.specs.Tests.{pick, within};
 ghost use Rattle.lists.specs.Find.{NextAt};
 ghost use Rattle.unescape.specs.Parse.{spelt, PastSign, onlyRef, begins, namedRef, packed, nameValue, Byte, Three};
 ghost use Rattle.unescape.specs.Loops.{sizeOf};
 ghost use Rattle.unescape.specs.Fill.{Room};
+
+mod name;
+
+use crate::name::AMP;
+use crate::name::AMP_BYTES;
+use crate::name::AMP_VALUE;
+use crate::name::APO_BYTES;
+use crate::name::APOS;
+use crate::name::APOS_VALUE;
+use crate::name::END_BYTE;
+use crate::name::GT;
+use crate::name::GT_END_BYTES;
+use crate::name::GT_VALUE;
+use crate::name::LT;
+use crate::name::LT_END_BYTES;
+use crate::name::LT_VALUE;
+use crate::name::QUO_BYTES;
+use crate::name::QUOT;
+use crate::name::QUOT_VALUE;
+use crate::name::S_END_BYTES;
+use crate::name::T_END_BYTES;
 use reference::Reference;
 use reference::Unescaped;
 use reference::Validated;
@@ -91,7 +113,7 @@ fn past_sign(strict: bool, text: &[u8], start: usize) -> usize
 
 // The reference by number, from its `#` on.
 fn numeric_at(strict: bool, text: &[u8], from: usize) -> Reference
-    requires { ⌜ (from < length (now text)) × (getD (now text) from 0 ≡ 35) ⌝ }
+    requires { ⌜ (from < length (now text)) × (getD (now text) from 0 ≡ hash) ⌝ }
     ensures { λ r. ⌜ r ≡ spelt (numeric (reader strict)) 0 (drop from (now (text .entry))) ⌝ }
 {
     if from + 1 == text.len() {
@@ -186,19 +208,19 @@ fn named_last(text: &[u8], from: usize) -> Reference
     ensures { λ r. ⌜ r ≡ namedRef (drop from (now (text .entry))) ⌝ }
 {
     if begins_at(text, from, b"lt;") {
-        return Reference::Char { code: 60, len: 3 };
+        return Reference::Char { code: LT, len: 3 };
     }
     if begins_at(text, from, b"gt;") {
-        return Reference::Char { code: 62, len: 3 };
+        return Reference::Char { code: GT, len: 3 };
     }
     if begins_at(text, from, b"amp;") {
-        return Reference::Char { code: 38, len: 4 };
+        return Reference::Char { code: AMP, len: 4 };
     }
     if begins_at(text, from, b"quot;") {
-        return Reference::Char { code: 34, len: 5 };
+        return Reference::Char { code: QUOT, len: 5 };
     }
     if begins_at(text, from, b"apos;") {
-        return Reference::Char { code: 39, len: 5 };
+        return Reference::Char { code: APOS, len: 5 };
     }
     Reference::Bad
 }
@@ -232,12 +254,11 @@ fn when_both(w: u64, name: u64, v: u64, end: u64, value: u64, other: u64) -> u64
 fn name_value(w: u64, b: u64, v: u64) -> u64
     ensures { λ r. ⌜ r ≡ nameValue w b v ⌝ }
 {
-    // In this order: `apo` and `s;`, `quo` and `t;`, `amp` and `;`, `gt;`, `lt;`.
-    let apos = when_both(w, 7303265, v, 15219, 1319, 0);
-    let quot = when_both(w, 7304561, v, 15220, 1314, apos);
-    let amp = when_both(w, 7368033, b, 59, 1062, quot);
-    let gt = when(w, 3896423, 830, amp);
-    when(w, 3896428, 828, gt)
+    let apos = when_both(w, APO_BYTES, v, S_END_BYTES, APOS_VALUE, 0);
+    let quot = when_both(w, QUO_BYTES, v, T_END_BYTES, QUOT_VALUE, apos);
+    let amp = when_both(w, AMP_BYTES, b, END_BYTE, AMP_VALUE, quot);
+    let gt = when(w, GT_END_BYTES, GT_VALUE, amp);
+    when(w, LT_END_BYTES, LT_VALUE, gt)
 }
 
 // Three bytes as a number.
@@ -377,7 +398,7 @@ pub fn fill(text: &[u8], out: &mut [u8])
 
 // Copies a text in which no `&` stands.
 fn copy_plain(text: &[u8], out: &mut [u8]) -> Unescaped
-    requires { ⌜ NextAt (now text) 38 0 (length (now text)) ⌝ }
+    requires { ⌜ NextAt (now text) ampersand 0 (length (now text)) ⌝ }
     ensures { λ r. ⌜ Unescape (now (text .entry)) (now (out .entry)) (now (out .exit)) r ⌝ }
 {
     if text.len() <= out.len() {

@@ -4,8 +4,8 @@ use mathlib.Core.Path.{_≡_, refl}
 use mathlib.Core.List.{List, _∷_, _++_}
 use native.Mathlib.Omega.{arith}
 use lib.ListN.{length}
-use Rattle.table.specs.Row.{Name, Tok, start, attr, gt, close, slash, text, misc}
-use Rattle.xml.specs.Grammar.{Attributes, no-attribute, attribute, Element, empty-element, full-element, Content, no-content, chars, other, child}
+use Rattle.table.specs.Row.{Name, Tok, start, attr, gt, close, slash, matter}
+use Rattle.xml.specs.Grammar.{Attributes, no-attribute, attribute, Element, empty-element, full-element, Content, no-content, between-tags, child}
 use Rattle.xml.proofs.Past.{pastAttributes, pastElement, pastContent}
 
 -- the tokens of the part, and then q
@@ -22,8 +22,7 @@ unfoldable mutual
 
   pub againContent : {l r : List Tok} → Content l r → List Tok → List Tok
   againContent no-content q = q
-  againContent (chars {v = v} e c) q = text v ∷ againContent c q
-  againContent (other c) q = misc ∷ againContent c q
+  againContent (between-tags {b = b} e c) q = matter b ∷ againContent c q
   againContent (child e c) q = againElement e (againContent c q)
 
 -- with its own rest it is the list that it was
@@ -41,8 +40,7 @@ mutual
 
   pub same-content : {l r : List Tok} (c : Content l r) → againContent c r ≡ l
   same-content no-content = refl
-  same-content (chars e c) = rw (same-content c)
-  same-content (other c) = rw (same-content c)
+  same-content (between-tags e c) = rw (same-content c)
   same-content (child e c) = rw (same-content c, same-element e)
 
 -- with another rest it is the same part
@@ -60,8 +58,7 @@ mutual
 
   pub is-content : {l r : List Tok} (c : Content l r) (q : List Tok) → Content (againContent c q) q
   is-content no-content q = no-content
-  is-content (chars e c) q = chars e (is-content c q)
-  is-content (other c) q = other (is-content c q)
+  is-content (between-tags e c) q = between-tags e (is-content c q)
   is-content (child e c) q = child (is-element e (againContent c q)) (is-content c q)
 
 -- the rest stands after its tokens
@@ -79,8 +76,7 @@ mutual
 
   pub append-content : {l r : List Tok} (c : Content l r) (p q : List Tok) → againContent c (p ++ q) ≡ againContent c p ++ q
   append-content no-content p q = refl
-  append-content (chars e c) p q = rw (append-content c p q)
-  append-content (other c) p q = rw (append-content c p q)
+  append-content (between-tags e c) p q = rw (append-content c p q)
   append-content (child e c) p q = rw (append-content c p q, append-element e (againContent c p) q)
 
 -- how many they are
@@ -99,6 +95,5 @@ mutual
 
   pub length-content : {l r : List Tok} (c : Content l r) (k : ℕ) (q : List Tok) → pastContent c k + length q ≡ k + length (againContent c q)
   length-content no-content k q = refl
-  length-content (chars e c) k q = omega (arith, length-content c (suc k) q)
-  length-content (other c) k q = omega (arith, length-content c (suc k) q)
+  length-content (between-tags e c) k q = omega (arith, length-content c (suc k) q)
   length-content (child e c) k q = omega (arith, length-element e k (againContent c q), length-content c (pastElement e k) q)

@@ -8,13 +8,13 @@ use borrow.Author.Tests.{ne-eqb}
 use lib.Dec.{eqb}
 use lib.ListN.{take, drop}
 use lib.Seq.{take-add, take-at}
-use Rattle.lists.specs.Tests.{pick}
-use Rattle.lists.proofs.Tests.{false-true}
-use Rattle.table.specs.Row.{Row, Name, Tok, start, attr, gt, close, slash, text, misc, bad, nameOf, valueOf, tokAs, tokOf, toksOf}
-use Rattle.table.specs.Rules.{among, lastPosition}
+use Rattle.lists.specs.Tests.{pick, less}
+use Rattle.lists.proofs.Tests.{false-true, less-is}
+use Rattle.table.specs.Row.{Row, Name, Tok, start, attr, gt, close, slash, matter, bad, Move, enters, leaves, stays, moveOf, nameOf, valueOf, tokAs, tokOf, toksOf}
+use Rattle.table.specs.Rules.{openCount, lastPosition}
 use Rattle.table.specs.Piece.{closing, isClosed, elementRows, pieceStart, ElementAt}
 use Rattle.table.proofs.Element.{element-is}
-use Rattle.xml.specs.Grammar.{Attributes, no-attribute, attribute, Element, empty-element, full-element, Content, no-content, chars, other, child}
+use Rattle.xml.specs.Grammar.{Attributes, no-attribute, attribute, Element, empty-element, full-element, Content, no-content, between-tags, child}
 use Rattle.xml.proofs.Past.{pastAttributes, pastElement, pastContent}
 use Rattle.xml.proofs.Again.{againElement, same-element, append-element, length-element}
 
@@ -28,24 +28,14 @@ pick-around : {A : Type 0} (n : ℕ) (a b : A) → pick (eqb n 0) a b ≡ around
 pick-around zero a b = refl
 pick-around (suc n) a b = rw (ne-eqb (suc n) 0 (λ q. omega arith))
 
-abbrev less : ℕ → ℕ
-less zero = zero
-less (suc n) = n
-
-less-is : (n : ℕ) → n - 1 ≡ less n
-less-is zero = refl
-less-is (suc n) = omega arith
-
 -- how many elements are open after a token
+abbrev openedBy : ℕ → Move → ℕ
+openedBy n (enters m) = suc n
+openedBy n leaves = less n
+openedBy n stays = n
+
 abbrev openedAfter : ℕ → Tok → ℕ
-openedAfter n (start m) = suc n
-openedAfter n (attr m v) = n
-openedAfter n gt = n
-openedAfter n (close m) = less n
-openedAfter n slash = less n
-openedAfter n (text v) = n
-openedAfter n misc = n
-openedAfter n bad = n
+openedAfter n t = openedBy n (moveOf t)
 
 unfoldable closingAt : ℕ → List Tok → ℕ
 closingAt n [] = zero
@@ -56,14 +46,14 @@ closedAt n [] = false
 closedAt n (t ∷ l) = around (openedAfter n t) true (closedAt (openedAfter n t) l)
 
 -- by the number of a row's kind and by its token
-opened-same : (n k : ℕ) (m : Name) (v : List ℕ) → pick (eqb k 1) (suc n) (pick (among (4 ∷ 5 ∷ []) k) (n - 1) n) ≡ openedAfter n (tokAs k m v)
+opened-same : (n k : ℕ) (m : Name) (v : List ℕ) → openCount n k ≡ openedAfter n (tokAs k m v)
 unfolding tokAs
 opened-same n zero m v = refl
 opened-same n (suc zero) m v = refl
 opened-same n (suc (suc zero)) m v = refl
 opened-same n (suc (suc (suc zero))) m v = refl
-opened-same n (suc (suc (suc (suc zero)))) m v = less-is n
-opened-same n (suc (suc (suc (suc (suc zero))))) m v = less-is n
+opened-same n (suc (suc (suc (suc zero)))) m v = sym (less-is n)
+opened-same n (suc (suc (suc (suc (suc zero))))) m v = sym (less-is n)
 opened-same n (suc (suc (suc (suc (suc (suc zero)))))) m v = refl
 opened-same n (suc (suc (suc (suc (suc (suc (suc zero))))))) m v = refl
 opened-same n (suc (suc (suc (suc (suc (suc (suc (suc k)))))))) m v =
@@ -103,8 +93,7 @@ mutual
 
   closing-content : {l r : List Tok} (c : Content l r) (n k : ℕ) → k + closingAt (suc n) l ≡ pastContent c k + closingAt (suc n) r
   closing-content no-content n k = refl
-  closing-content (chars v c) n k = omega (arith, closing-content c n (suc k))
-  closing-content (other c) n k = omega (arith, closing-content c n (suc k))
+  closing-content (between-tags v c) n k = omega (arith, closing-content c n (suc k))
   closing-content (child e c) n k = closing-element e (suc n) k ∙ closing-content c n (pastElement e k)
 
 mutual
@@ -116,8 +105,7 @@ mutual
 
   closed-content : {l r : List Tok} → Content l r → (n : ℕ) → closedAt (suc n) l ≡ closedAt (suc n) r
   closed-content no-content n = refl
-  closed-content (chars v c) n = closed-content c n
-  closed-content (other c) n = closed-content c n
+  closed-content (between-tags v c) n = closed-content c n
   closed-content (child e c) n = closed-element e (suc n) ∙ closed-content c n
 
 -- ---- an element in row k

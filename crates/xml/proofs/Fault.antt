@@ -8,10 +8,11 @@ use lib.ListN.{length, length-append}
 use Rattle.lists.specs.Tests.{pick}
 use Rattle.reference.specs.Text.{validated}
 use Rattle.reference.specs.declared.Validated.{Validated}
-use Rattle.table.specs.Row.{Name, Tok, start, attr, gt, close, slash, text, misc, bad}
+use Rattle.reference.proofs.Grammar.{validated-none}
+use Rattle.table.specs.Row.{Name, Tok, start, attr, gt, close, slash, Matter, text, misc, matter, bad}
 use Rattle.xml.specs.declared.Cause.{Cause}
 use Rattle.xml.specs.Passed.{opens, openAfter, attributes, namesAfter, Fault, token-error, mismatched-end, repeated-attribute, bad-attribute, bad-text, Faultless}
-use Rattle.xml.specs.Drain.{State, going, failed, sameName, seen, step, closed, popped, withAttribute, withValue}
+use Rattle.xml.specs.Drain.{State, going, failed, sameName, hasName, step, closed, withAttribute, withValue}
 use Rattle.xml.proofs.Tests.{same-name, seen-member, not-member, not-named, not-both}
 
 -- ---- two cuts of one list are the same cut, or one lies before the other
@@ -65,7 +66,7 @@ pub data Stepped (b : List Tok) (t : Tok) (k : ℕ) : State → Type 0 where
   stops : {c : Cause} → Fault b t c → Stepped b t k (failed k c)
 
 module _ (b : List Tok) (k : ℕ) where
-  attr-step : (m : Name) (v : List ℕ) (x : Bool) (y : Validated) → seen m (attributes [] b) ≡ x → validated v ≡ y
+  attr-step : (m : Name) (v : List ℕ) (x : Bool) (y : Validated) → hasName m (attributes [] b) ≡ x → validated v ≡ y
       → Stepped b (attr m v) k (withAttribute x k (withValue y k (going (opens [] b) (m ∷ attributes [] b))))
   attr-step m v true y p q = stops (repeated-attribute (seen-member m (attributes [] b) p))
   attr-step m v false Validated.Valid p q = goes-on refl refl none
@@ -75,10 +76,10 @@ module _ (b : List Tok) (k : ℕ) where
       none c (bad-attribute f r) = not-both q r
   attr-step m v false Validated.BadReference p q = stops (bad-attribute (not-member m (attributes [] b) p) q)
 
-  text-step : (v : List ℕ) (y : Validated) → validated v ≡ y → Stepped b (text v) k (withValue y k (going (opens [] b) (attributes [] b)))
+  text-step : (v : List ℕ) (y : Validated) → validated v ≡ y → Stepped b (matter (text v)) k (withValue y k (going (opens [] b) (attributes [] b)))
   text-step v Validated.Valid q = goes-on refl refl none
     where
-      none : (c : Cause) → Fault b (text v) c → ⊥
+      none : (c : Cause) → Fault b (matter (text v)) c → ⊥
       none c (bad-text r) = not-both q r
   text-step v Validated.BadReference q = stops (bad-text q)
 
@@ -93,16 +94,12 @@ module _ (b : List Tok) (k : ℕ) where
           none c (mismatched-end f) = f s (e ∙ ap (λ (x : Name). x ∷ s) (sym (same-name m n q)))
       go false q = stops (mismatched-end (λ s p. not-named m n q (head-eq-of-cons-eq (sym p ∙ e))))
 
-  slash-step : (s : List Name) → opens [] b ≡ s → Stepped b slash k (going (popped s) (attributes [] b))
-  slash-step [] e = goes-on (ap (λ (x : List Name). openAfter x slash) e) refl (λ c f. elim f [ ])
-  slash-step (n ∷ s) e = goes-on (ap (λ (x : List Name). openAfter x slash) e) refl (λ c f. elim f [ ])
-
   pub stepped : (t : Tok) → Stepped b t k (step k (opens [] b) (attributes [] b) t)
   stepped (start n) = goes-on refl refl (λ c f. elim f [ ])
-  stepped (attr m v) = attr-step m v (seen m (attributes [] b)) (validated v) refl refl
+  stepped (attr m v) = attr-step m v (hasName m (attributes [] b)) (validated v) refl refl
   stepped gt = goes-on refl refl (λ c f. elim f [ ])
   stepped (close m) = close-step m (opens [] b) refl
-  stepped slash = slash-step (opens [] b) refl
-  stepped (text v) = text-step v (validated v) refl
-  stepped misc = goes-on refl refl (λ c f. elim f [ ])
+  stepped slash = goes-on refl refl (λ c f. elim f [ ])
+  stepped (matter (text v)) = text-step v (validated v) refl
+  stepped (matter misc) = rw validated-none (goes-on refl refl (λ c f. elim f [ ]))
   stepped bad = stops token-error

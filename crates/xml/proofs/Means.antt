@@ -6,13 +6,13 @@ use mathlib.Core.Logic.{_↔_}
 use mathlib.Core.List.{List, [], _∷_, _++_, cons≢nil, head-eq-of-cons-eq}
 use Rattle.reference.specs.Text.{validated}
 use Rattle.reference.specs.declared.Validated.{Validated}
-use Rattle.table.specs.Row.{Name, Tok, attr, close, text, bad, rowsOf, toksOf}
+use Rattle.table.specs.Row.{Name, Tok, attr, close, text, matter, bad, rowsOf, toksOf}
 use Rattle.table.specs.Rules.{TableRules}
 use Rattle.xml.specs.declared.Cause.{Cause}
 use Rattle.xml.specs.declared.Drained.{Drained}
 use Rattle.xml.specs.Passed.{opens, attributes, WellFormed, Passed, Fault, token-error, mismatched-end, repeated-attribute, bad-attribute, bad-text, Faultless, at-row, at-end}
 use Rattle.table.specs.Test.{decTable}
-use Rattle.xml.specs.Drain.{sameName, seen, walked, drainedBy, drained}
+use Rattle.xml.specs.Drain.{sameName, hasName, walked, drainedBy, drained}
 use Rattle.xml.proofs.Tests.{same-name, seen-member, not-member, not-named, not-both}
 use Rattle.xml.proofs.First.{Answer, clean, faulty, answer, not-ill, passes-not-table}
 
@@ -41,19 +41,19 @@ module _ {toks : List Tok} (h : Faultless toks) where
       go (n ∷ s) p = same n s (sameName m n) refl p
 
   attribute-value : (a : List Tok) (m : Name) (v : List ℕ) (b : List Tok) → toks ≡ a ++ (attr m v ∷ b) → validated v ≡ Validated.Valid
-  attribute-value a m v b e = go (validated v) (seen m (attributes [] a)) refl refl
+  attribute-value a m v b e = go (validated v) (hasName m (attributes [] a)) refl refl
     where
-      go : (y : Validated) (x : Bool) → validated v ≡ y → seen m (attributes [] a) ≡ x → validated v ≡ Validated.Valid
+      go : (y : Validated) (x : Bool) → validated v ≡ y → hasName m (attributes [] a) ≡ x → validated v ≡ Validated.Valid
       go Validated.Valid x p q = p
       go Validated.BadReference true p q = absurd (h .none a (attr m v) b Cause.RepeatedAttribute e (repeated-attribute (seen-member m (attributes [] a) q)))
       go Validated.BadReference false p q = absurd (h .none a (attr m v) b Cause.BadReference e (bad-attribute (not-member m (attributes [] a) q) p))
 
-  text-value : (a : List Tok) (v : List ℕ) (b : List Tok) → toks ≡ a ++ (text v ∷ b) → validated v ≡ Validated.Valid
+  text-value : (a : List Tok) (v : List ℕ) (b : List Tok) → toks ≡ a ++ (matter (text v) ∷ b) → validated v ≡ Validated.Valid
   text-value a v b e = go (validated v) refl
     where
       go : (y : Validated) → validated v ≡ y → validated v ≡ Validated.Valid
       go Validated.Valid p = p
-      go Validated.BadReference p = absurd (h .none a (text v) b Cause.BadReference e (bad-text p))
+      go Validated.BadReference p = absurd (h .none a (matter (text v)) b Cause.BadReference e (bad-text p))
 
   faultless-well-formed : opens [] toks ≡ [] → WellFormed toks
   faultless-well-formed n =

@@ -8,8 +8,8 @@ use lib.Dec.{eqb}
 use lib.ListN.{length}
 use Rattle.lists.specs.Tests.{pick}
 use Rattle.lists.proofs.Tests.{false-true}
-use Rattle.table.specs.Row.{Row, rowsOf, Name, Tok, start, attr, gt, close, slash, text, misc, bad, tokAs, toksOf}
-use Rattle.table.specs.Rules.{among, Place, RowRules, EachRow, none, row, TableRules}
+use Rattle.table.specs.Row.{Row, rowsOf, Name, Tok, start, attr, gt, close, slash, Matter, text, misc, matter, bad, tokAs, toksOf}
+use Rattle.table.specs.Rules.{among, openCount, Place, RowRules, EachRow, none, row, TableRules}
 
 -- where a token stands: before the root; in a start tag, or in content, with d elements open around the innermost; after the root;
 -- after a token error; or out of order
@@ -26,38 +26,39 @@ abbrev pub back : ℕ → Phase
 back zero = behind
 back (suc d) = within d
 
+-- outside of the root: a text needs an open element, all others do not
+abbrev outer : Phase → Matter → Phase
+outer p (text v) = broken
+outer p misc = p
+
 abbrev pub rule : Phase → Tok → Phase
 rule before (start n) = inTag zero
 rule before (attr m v) = broken
 rule before gt = broken
 rule before (close n) = broken
 rule before slash = broken
-rule before (text v) = broken
-rule before misc = before
+rule before (matter b) = outer before b
 rule before bad = ended
 rule (inTag d) (start n) = broken
 rule (inTag d) (attr m v) = inTag d
 rule (inTag d) gt = within d
 rule (inTag d) (close n) = broken
 rule (inTag d) slash = back d
-rule (inTag d) (text v) = broken
-rule (inTag d) misc = broken
+rule (inTag d) (matter b) = broken
 rule (inTag d) bad = ended
 rule (within d) (start n) = inTag (suc d)
 rule (within d) (attr m v) = broken
 rule (within d) gt = broken
 rule (within d) (close n) = back d
 rule (within d) slash = broken
-rule (within d) (text v) = within d
-rule (within d) misc = within d
+rule (within d) (matter b) = within d
 rule (within d) bad = ended
 rule behind (start n) = broken
 rule behind (attr m v) = broken
 rule behind gt = broken
 rule behind (close n) = broken
 rule behind slash = broken
-rule behind (text v) = broken
-rule behind misc = behind
+rule behind (matter b) = outer behind b
 rule behind bad = ended
 rule ended t = broken
 rule broken t = broken
@@ -87,12 +88,12 @@ not-broken l h = false-true (sym (never l) ∙ h)
 -- ---- from the rules of a row to a step of the machine
 -- what a place of the rules is to the machine
 data Stands (p : Place) : Phase → Type 0 where
-  at-before : p .inTag ≡ false → p .opened ≡ 0 → p .rooted ≡ false → Stands p before
-  at-tag : {d : ℕ} → p .inTag ≡ true → p .opened ≡ suc d → p .rooted ≡ true → Stands p (inTag d)
-  at-within : {d : ℕ} → p .inTag ≡ false → p .opened ≡ suc d → p .rooted ≡ true → Stands p (within d)
-  at-behind : p .inTag ≡ false → p .opened ≡ 0 → p .rooted ≡ true → Stands p behind
+  at-before : p .inTag ≡ false → p .nesting ≡ 0 → p .rooted ≡ false → Stands p before
+  at-tag : {d : ℕ} → p .inTag ≡ true → p .nesting ≡ suc d → p .rooted ≡ true → Stands p (inTag d)
+  at-within : {d : ℕ} → p .inTag ≡ false → p .nesting ≡ suc d → p .rooted ≡ true → Stands p (within d)
+  at-behind : p .inTag ≡ false → p .nesting ≡ 0 → p .rooted ≡ true → Stands p behind
 
-at-back : {p : Place} (d : ℕ) → p .inTag ≡ false → p .opened ≡ d → p .rooted ≡ true → Stands p (back d)
+at-back : {p : Place} (d : ℕ) → p .inTag ≡ false → p .nesting ≡ d → p .rooted ≡ true → Stands p (back d)
 at-back zero i o r = at-behind i o r
 at-back (suc d) i o r = at-within i o r
 
@@ -102,8 +103,8 @@ record Ordered (p : Place) (k more : ℕ) : Type 0 where
   most : k ≤ 8
   inside : p .inTag ≡ true → among (2 ∷ 3 ∷ 5 ∷ 8 ∷ []) k ≡ true
   outside : p .inTag ≡ false → among (2 ∷ 3 ∷ 5 ∷ []) k ≡ false
-  needsOpen : among (4 ∷ 6 ∷ []) k ≡ true → 0 < p .opened
-  afterRoot : p .rooted ≡ true → p .opened ≡ 0 → among (7 ∷ 8 ∷ []) k ≡ true
+  needsOpen : among (4 ∷ 6 ∷ []) k ≡ true → 0 < p .nesting
+  afterRoot : p .rooted ≡ true → p .nesting ≡ 0 → among (7 ∷ 8 ∷ []) k ≡ true
   last : k ≡ 8 → more ≡ 0
 
 -- `after`, by the kind alone
@@ -112,7 +113,7 @@ next p k at =
     record {
       position = at;
       inTag = pick (eqb k 1) true (pick (among (3 ∷ 5 ∷ []) k) false (p .inTag));
-      opened = pick (eqb k 1) (suc (p .opened)) (pick (among (4 ∷ 5 ∷ []) k) (p .opened - 1) (p .opened));
+      nesting = openCount (p .nesting) k;
       rooted = pick (eqb k 1) true (p .rooted);
     }
 
@@ -129,7 +130,7 @@ module _ (p : Place) (at : ℕ) (n : Name) (v : List ℕ) (l : List Tok) where
   error-step : (k : ℕ) → Ordered p (suc (suc (suc (suc (suc (suc (suc (suc k)))))))) (length l) → ruled ended l ≡ true
   error-step k o = ended-last l (o .last (omega (arith, o .most)))
 
-  before-step : (k : ℕ) → p .inTag ≡ false → p .opened ≡ 0 → p .rooted ≡ false → Ordered p k (length l) → Goes k → ruled (rule before (tokAs k n v)) l ≡ true
+  before-step : (k : ℕ) → p .inTag ≡ false → p .nesting ≡ 0 → p .rooted ≡ false → Ordered p k (length l) → Goes k → ruled (rule before (tokAs k n v)) l ≡ true
   unfolding tokAs Goes
   before-step zero i c r o g = absurd (omega (arith, o .least))
   before-step (suc zero) i c r o g = g (inTag zero) (at-tag refl (ap suc c) refl)
@@ -141,7 +142,7 @@ module _ (p : Place) (at : ℕ) (n : Name) (v : List ℕ) (l : List Tok) where
   before-step (suc (suc (suc (suc (suc (suc (suc zero))))))) i c r o g = g before (at-before i c r)
   before-step (suc (suc (suc (suc (suc (suc (suc (suc k)))))))) i c r o g = error-step k o
 
-  tag-step : (k d : ℕ) → p .inTag ≡ true → p .opened ≡ suc d → p .rooted ≡ true → Ordered p k (length l) → Goes k → ruled (rule (inTag d) (tokAs k n v)) l ≡ true
+  tag-step : (k d : ℕ) → p .inTag ≡ true → p .nesting ≡ suc d → p .rooted ≡ true → Ordered p k (length l) → Goes k → ruled (rule (inTag d) (tokAs k n v)) l ≡ true
   unfolding tokAs Goes
   tag-step zero d i c r o g = absurd (omega (arith, o .least))
   tag-step (suc zero) d i c r o g = false-true (o .inside i)
@@ -153,7 +154,7 @@ module _ (p : Place) (at : ℕ) (n : Name) (v : List ℕ) (l : List Tok) where
   tag-step (suc (suc (suc (suc (suc (suc (suc zero))))))) d i c r o g = false-true (o .inside i)
   tag-step (suc (suc (suc (suc (suc (suc (suc (suc k)))))))) d i c r o g = error-step k o
 
-  within-step : (k d : ℕ) → p .inTag ≡ false → p .opened ≡ suc d → p .rooted ≡ true → Ordered p k (length l) → Goes k → ruled (rule (within d) (tokAs k n v)) l ≡ true
+  within-step : (k d : ℕ) → p .inTag ≡ false → p .nesting ≡ suc d → p .rooted ≡ true → Ordered p k (length l) → Goes k → ruled (rule (within d) (tokAs k n v)) l ≡ true
   unfolding tokAs Goes
   within-step zero d i c r o g = absurd (omega (arith, o .least))
   within-step (suc zero) d i c r o g = g (inTag (suc d)) (at-tag refl (ap suc c) refl)
@@ -165,7 +166,7 @@ module _ (p : Place) (at : ℕ) (n : Name) (v : List ℕ) (l : List Tok) where
   within-step (suc (suc (suc (suc (suc (suc (suc zero))))))) d i c r o g = g (within d) (at-within i c r)
   within-step (suc (suc (suc (suc (suc (suc (suc (suc k)))))))) d i c r o g = error-step k o
 
-  behind-step : (k : ℕ) → p .inTag ≡ false → p .opened ≡ 0 → p .rooted ≡ true → Ordered p k (length l) → Goes k → ruled (rule behind (tokAs k n v)) l ≡ true
+  behind-step : (k : ℕ) → p .inTag ≡ false → p .nesting ≡ 0 → p .rooted ≡ true → Ordered p k (length l) → Goes k → ruled (rule behind (tokAs k n v)) l ≡ true
   unfolding tokAs Goes
   behind-step zero i c r o g = absurd (omega (arith, o .least))
   behind-step (suc zero) i c r o g = false-true (o .afterRoot r c)

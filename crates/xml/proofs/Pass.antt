@@ -7,16 +7,16 @@ use mathlib.Core.List.{List, [], _∷_, List·Memᴰ}
 use lib.ListN.{length}
 use Rattle.lists.specs.Tests.{pick}
 use Rattle.reference.specs.Xml.{EachReference}
-use Rattle.reference.proofs.Grammar.{validate-sound, validate-complete}
+use Rattle.reference.proofs.Grammar.{validate-sound, validate-complete, validated-none}
 use Rattle.reference.specs.Text.{validated}
 use Rattle.reference.specs.declared.Validated.{Validated}
-use Rattle.table.specs.Row.{Name, Tok, start, attr, gt, close, slash, text, misc, bad, rowsOf, toksOf}
+use Rattle.table.specs.Row.{Name, Tok, start, attr, gt, close, slash, Matter, text, misc, referencesIn, matter, bad, rowsOf, toksOf}
 use Rattle.table.specs.Rules.{TableRules}
 use Rattle.xml.specs.declared.Cause.{Cause}
 use Rattle.xml.specs.declared.Drained.{Drained}
-use Rattle.xml.specs.Grammar.{Attributes, no-attribute, attribute, Element, empty-element, full-element, Content, no-content, chars, other, child, Miscs, no-misc, one-misc, Document, document}
+use Rattle.xml.specs.Grammar.{Attributes, no-attribute, attribute, Element, empty-element, full-element, Content, no-content, between-tags, child, Miscs, no-misc, one-misc, Document, document}
 use Rattle.table.specs.Test.{decTable}
-use Rattle.xml.specs.Drain.{sameName, seen, State, going, failed, withValue, withAttribute, step, walk, verdict, walked, drainedBy, drained}
+use Rattle.xml.specs.Drain.{sameName, hasName, State, going, failed, withValue, withAttribute, step, walk, verdict, walked, drainedBy, drained}
 use Rattle.xml.proofs.Tests.{same-name, name-same, not-seen, not-member}
 use Rattle.xml.proofs.Order.{Phase, before, inTag, within, behind, back, ruled, not-broken, table-ruled}
 use Rattle.xml.proofs.First.{not-ill, passes-not-table}
@@ -58,14 +58,13 @@ mutual
 
   good-content : {l r : List Tok} → Content l r → (s : List Name) → ((a : List Name) → Good s a r) → (a : List Name) → Good s a l
   good-content no-content s g a = g a
-  good-content (chars {v = v} e c) s g a = record { at = λ k. rw (validate-complete v e) (good-content c s g a .at (suc k)) }
-  good-content (other c) s g a = record { at = λ k. good-content c s g a .at (suc k) }
+  good-content (between-tags {b = b} e c) s g a = record { at = λ k. rw (validate-complete (referencesIn b) e) (good-content c s g a .at (suc k)) }
   good-content (child e c) s g a = good-element e s (good-content c s g) a
 
 good-miscs : {l r : List Tok} → Miscs l r → (a : List Name) → Good [] a r → Good [] a l
 unfolding walk
 good-miscs no-misc a g = g
-good-miscs (one-misc m) a g = record { at = λ k. good-miscs m a g .at (suc k) }
+good-miscs (one-misc m) a g = record { at = λ k. rw validated-none (good-miscs m a g .at (suc k)) }
 
 good-end : (a : List Name) → Good [] a []
 unfolding walk
@@ -122,7 +121,7 @@ unfolding walk
 failed-ends j k c [] h = absurd h
 failed-ends j k c (t ∷ l) h = absurd h
 
-more-misc : {l : List Tok} → Document l ⊎ Miscs l [] → Document (misc ∷ l) ⊎ Miscs (misc ∷ l) []
+more-misc : {l : List Tok} → Document l ⊎ Miscs l [] → Document (matter misc ∷ l) ⊎ Miscs (matter misc ∷ l) []
 more-misc (inl (document m e q)) = inl (document (one-misc m) e q)
 more-misc (inr m) = inr (one-misc m)
 
@@ -151,11 +150,11 @@ module _ (k : ℕ) (l : List Tok) (rest : (x : Spot) (a : List Name) → ruled (
   prolog-back a gt h e = not-broken l h
   prolog-back a (close n) h e = not-broken l h
   prolog-back a slash h e = not-broken l h
-  prolog-back a (text v) h e = not-broken l h
-  prolog-back a misc h e = more-misc (rest prolog a h e)
+  prolog-back a (matter (text v)) h e = not-broken l h
+  prolog-back a (matter misc) h e = more-misc (rest prolog a h (rw validated-none at e))
   prolog-back a bad h e = failed-ends (suc k) k Cause.TokenError l e
 
-  attribute-back : (n : Name) (s a : List Name) (m : Name) (v : List ℕ) (x : Bool) (y : Validated) → seen m a ≡ x → validated v ≡ y → ruled (inTag (length s)) l ≡ true
+  attribute-back : (n : Name) (s a : List Name) (m : Name) (v : List ℕ) (x : Bool) (y : Validated) → hasName m a ≡ x → validated v ≡ y → ruled (inTag (length s)) l ≡ true
       → Ends (walk (suc k) (withAttribute x k (withValue y k (going (n ∷ s) (m ∷ a)))) l) → InTag n s a (attr m v ∷ l)
   attribute-back n s a m v true y p q h e = failed-ends (suc k) k Cause.RepeatedAttribute l e
   attribute-back n s a m v false Validated.Valid p q h e = more-attribute (not-member m a p) (validate-sound v q) (rest (tag n s) (m ∷ a) h e)
@@ -164,18 +163,18 @@ module _ (k : ℕ) (l : List Tok) (rest : (x : Spot) (a : List Name) → ruled (
   tag-back : (n : Name) (s a : List Name) (t : Tok) → ruled (inTag (length s)) (t ∷ l) ≡ true → Ends (walk (suc k) (step k (n ∷ s) a t) l) → InTag n s a (t ∷ l)
   unfolding ruled
   tag-back n s a (start m) h e = not-broken l h
-  tag-back n s a (attr m v) h e = attribute-back n s a m v (seen m a) (validated v) refl refl h e
+  tag-back n s a (attr m v) h e = attribute-back n s a m v (hasName m a) (validated v) refl refl h e
   tag-back n s a gt h e = goes no-attribute (rest (content n s) a h e)
   tag-back n s a (close m) h e = not-broken l h
   tag-back n s a slash h e = ends no-attribute (after-end s a h e)
-  tag-back n s a (text v) h e = not-broken l h
-  tag-back n s a misc h e = not-broken l h
+  tag-back n s a (matter b) h e = not-broken l h
   tag-back n s a bad h e = failed-ends (suc k) k Cause.TokenError l e
 
-  text-back : (n : Name) (s a : List Name) (v : List ℕ) (y : Validated) → validated v ≡ y → ruled (within (length s)) l ≡ true
-      → Ends (walk (suc k) (withValue y k (going (n ∷ s) a)) l) → Closes (n ∷ s) (text v ∷ l)
-  text-back n s a v Validated.Valid q h e = let c : Closes (n ∷ s) l = rest (content n s) a h e in (c .0, chars (validate-sound v q) (c .1), c .2)
-  text-back n s a v Validated.BadReference q h e = failed-ends (suc k) k Cause.BadReference l e
+  matter-back : (n : Name) (s a : List Name) (b : Matter) (y : Validated) → validated (referencesIn b) ≡ y → ruled (within (length s)) l ≡ true
+      → Ends (walk (suc k) (withValue y k (going (n ∷ s) a)) l) → Closes (n ∷ s) (matter b ∷ l)
+  matter-back n s a b Validated.Valid q h e =
+      let c : Closes (n ∷ s) l = rest (content n s) a h e in (c .0, between-tags (validate-sound (referencesIn b) q) (c .1), c .2)
+  matter-back n s a b Validated.BadReference q h e = failed-ends (suc k) k Cause.BadReference l e
 
   close-back : (n : Name) (s a : List Name) (m : Name) (x : Bool) → sameName m n ≡ x → ruled (back (length s)) l ≡ true
       → Ends (walk (suc k) (pick x (going s a) (failed k Cause.MismatchedEnd)) l) → Closes (n ∷ s) (close m ∷ l)
@@ -189,8 +188,7 @@ module _ (k : ℕ) (l : List Tok) (rest : (x : Spot) (a : List Name) → ruled (
   content-back n s a gt h e = not-broken l h
   content-back n s a (close m) h e = close-back n s a m (sameName m n) refl h e
   content-back n s a slash h e = not-broken l h
-  content-back n s a (text v) h e = text-back n s a v (validated v) refl h e
-  content-back n s a misc h e = let c : Closes (n ∷ s) l = rest (content n s) a h e in (c .0, other (c .1), c .2)
+  content-back n s a (matter b) h e = matter-back n s a b (validated (referencesIn b)) refl h e
   content-back n s a bad h e = failed-ends (suc k) k Cause.TokenError l e
 
   epilog-back : (a : List Name) (t : Tok) → ruled behind (t ∷ l) ≡ true → Ends (walk (suc k) (step k [] a t) l) → Miscs (t ∷ l) []
@@ -200,8 +198,8 @@ module _ (k : ℕ) (l : List Tok) (rest : (x : Spot) (a : List Name) → ruled (
   epilog-back a gt h e = not-broken l h
   epilog-back a (close n) h e = not-broken l h
   epilog-back a slash h e = not-broken l h
-  epilog-back a (text v) h e = not-broken l h
-  epilog-back a misc h e = one-misc (rest epilog a h e)
+  epilog-back a (matter (text v)) h e = not-broken l h
+  epilog-back a (matter misc) h e = one-misc (rest epilog a h (rw validated-none at e))
   epilog-back a bad h e = failed-ends (suc k) k Cause.TokenError l e
 
   spot-back : (x : Spot) (a : List Name) (t : Tok) → ruled (phaseOf x) (t ∷ l) ≡ true → Ends (walk (suc k) (step k (stackOf x) a t) l) → Lang x a (t ∷ l)
@@ -251,8 +249,7 @@ mutual
 
   ruled-content : {l r : List Tok} → Content l r → (d : ℕ) → ruled (within d) r ≡ true → ruled (within d) l ≡ true
   ruled-content no-content d h = h
-  ruled-content (chars e c) d h = ruled-content c d h
-  ruled-content (other c) d h = ruled-content c d h
+  ruled-content (between-tags e c) d h = ruled-content c d h
   ruled-content (child e c) d h = ruled-element e (suc d) (ruled-content c d h)
 
 ruled-before : {l r : List Tok} → Miscs l r → ruled before r ≡ true → ruled before l ≡ true

@@ -7,7 +7,7 @@ use native.Mathlib.Omega.{arith}
 use lib.ListN.{length, drop}
 use lib.Seq.{drop-drop}
 use Rattle.table.specs.Row.{Name, Tok, start, gt}
-use Rattle.xml.specs.Grammar.{Attributes, no-attribute, attribute, Element, empty-element, full-element, Content, no-content, chars, other, child, Miscs, no-misc, one-misc}
+use Rattle.xml.specs.Grammar.{Attributes, no-attribute, attribute, Element, empty-element, full-element, Content, no-content, between-tags, child, Miscs, no-misc, one-misc}
 
 unfoldable pub pastAttributes : {s : List Name} {l r : List Tok} → Attributes s l r → ℕ → ℕ
 pastAttributes no-attribute k = k
@@ -22,8 +22,7 @@ unfoldable mutual
 
   pub pastContent : {l r : List Tok} → Content l r → ℕ → ℕ
   pastContent no-content k = k
-  pastContent (chars v c) k = pastContent c (suc k)
-  pastContent (other c) k = pastContent c (suc k)
+  pastContent (between-tags v c) k = pastContent c (suc k)
   pastContent (child e c) k = pastContent c (pastElement e k)
 
 unfoldable pub pastMiscs : {l r : List Tok} → Miscs l r → ℕ → ℕ
@@ -54,8 +53,7 @@ module _ (all : List Tok) where
 
     pub past-content : {l r : List Tok} (c : Content l r) (k : ℕ) → drop k all ≡ l → drop (pastContent c k) all ≡ r
     past-content no-content k h = h
-    past-content (chars v c) k h = past-content c (suc k) (at-next all k h)
-    past-content (other c) k h = past-content c (suc k) (at-next all k h)
+    past-content (between-tags v c) k h = past-content c (suc k) (at-next all k h)
     past-content (child e c) k h = past-content c (pastElement e k) (past-element e k h)
 
   pub past-miscs : {l r : List Tok} (m : Miscs l r) (k : ℕ) → drop k all ≡ l → drop (pastMiscs m k) all ≡ r
@@ -67,8 +65,7 @@ module _ (all : List Tok) where
 -- the number of direct child elements
 unfoldable pub count : {l r : List Tok} → Content l r → ℕ
 count no-content = zero
-count (chars v c) = count c
-count (other c) = count c
+count (between-tags v c) = count c
 count (child e c) = suc (count c)
 
 pub grow-attributes : {s : List Name} {l r : List Tok} → Attributes s l r → length r ≤ length l
@@ -85,8 +82,7 @@ mutual
   -- each child takes a row at least
   pub grow-content : {l r : List Tok} (c : Content l r) → length r + count c ≤ length l
   grow-content no-content = omega arith
-  grow-content (chars v c) = omega (arith, grow-content c)
-  grow-content (other c) = omega (arith, grow-content c)
+  grow-content (between-tags v c) = omega (arith, grow-content c)
   grow-content (child e c) = omega (arith, grow-element e, grow-content c)
 
 pub grow-miscs : {l r : List Tok} → Miscs l r → length r ≤ length l

@@ -10,7 +10,7 @@ use Rattle.lists.specs.Bytes.{sameb}
 use Rattle.lists.proofs.Bytes.{same-is, same-self}
 use Rattle.table.specs.Row.{Name}
 use Rattle.reference.specs.declared.Validated.{Validated}
-use Rattle.xml.specs.Drain.{sameName, seen}
+use Rattle.xml.specs.Drain.{sameName, hasName}
 
 -- `sameName` is equality of names
 pub same-name : (m n : Name) → sameName m n ≡ true → m ≡ n
@@ -28,18 +28,18 @@ pub name-same : (m : Name) → sameName m m ≡ true
 unfolding sameName
 name-same m = rw (same-self (m .prefix), same-self (m .local))
 
--- `seen` is membership
-pub seen-member : (m : Name) (l : List Name) → seen m l ≡ true → List·Memᴰ m l
-unfolding seen
+-- `hasName` is membership
+pub seen-member : (m : Name) (l : List Name) → hasName m l ≡ true → List·Memᴰ m l
+unfolding hasName
 seen-member m [] e = false-true e
 seen-member m (n ∷ l) e = go (sameName m n) refl e (seen-member m l)
   where
-    go : (t : Bool) → sameName m n ≡ t → pick t true (seen m l) ≡ true → (seen m l ≡ true → List·Memᴰ m l) → List·Memᴰ m (n ∷ l)
+    go : (t : Bool) → sameName m n ≡ t → pick t true (hasName m l) ≡ true → (hasName m l ≡ true → List·Memᴰ m l) → List·Memᴰ m (n ∷ l)
     go true q e ih = List·Memᴰ·head (same-name m n q)
     go false q e ih = List·Memᴰ·tail (ih e)
 
-pub member-seen : {m : Name} {l : List Name} → List·Memᴰ m l → seen m l ≡ true
-unfolding seen
+pub member-seen : {m : Name} {l : List Name} → List·Memᴰ m l → hasName m l ≡ true
+unfolding hasName
 member-seen {m} (List·Memᴰ·head e) = rw (← e, name-same m)
 member-seen {m} (List·Memᴰ·tail {x = n} i) = go (sameName m n) (member-seen i)
   where
@@ -48,13 +48,13 @@ member-seen {m} (List·Memᴰ·tail {x = n} i) = go (sameName m n) (member-seen 
     go false e = e
 
 -- a test that has failed
-pub not-member : (m : Name) (l : List Name) → seen m l ≡ false → List·Memᴰ m l → ⊥
+pub not-member : (m : Name) (l : List Name) → hasName m l ≡ false → List·Memᴰ m l → ⊥
 not-member m l e i = false-true (sym e ∙ member-seen i)
 
-pub not-seen : (m : Name) (l : List Name) → (List·Memᴰ m l → ⊥) → seen m l ≡ false
-not-seen m l f = go (seen m l) refl
+pub not-seen : (m : Name) (l : List Name) → (List·Memᴰ m l → ⊥) → hasName m l ≡ false
+not-seen m l f = go (hasName m l) refl
   where
-    go : (t : Bool) → seen m l ≡ t → t ≡ false
+    go : (t : Bool) → hasName m l ≡ t → t ≡ false
     go true e = absurd (f (seen-member m l e))
     go false e = refl
 

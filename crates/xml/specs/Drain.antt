@@ -8,7 +8,7 @@ use Rattle.lists.specs.Tests.{pick}
 use Rattle.lists.specs.Bytes.{sameb}
 use Rattle.reference.specs.Text.{validated}
 use Rattle.reference.specs.declared.Validated.{Validated}
-use Rattle.table.specs.Row.{Name, Tok, start, attr, gt, close, slash, text, misc, bad, rowsOf, toksOf}
+use Rattle.table.specs.Row.{Name, Tok, start, attr, gt, close, slash, matter, referencesIn, bad, rowsOf, toksOf}
 use Rattle.table.specs.Test.{decTable}
 use Rattle.xml.specs.declared.Cause.{Cause}
 use Rattle.xml.specs.declared.Drained.{Drained}
@@ -18,9 +18,9 @@ unfoldable pub sameName : Name → Name → Bool
 sameName m n = pick (sameb (m .prefix) (n .prefix)) (sameb (m .local) (n .local)) false
 
 -- a name is among those seen
-unfoldable pub seen : Name → List Name → Bool
-seen m [] = false
-seen m (n ∷ l) = pick (sameName m n) true (seen m l)
+unfoldable pub hasName : Name → List Name → Bool
+hasName m [] = false
+hasName m (n ∷ l) = pick (sameName m n) true (hasName m l)
 
 -- the names of the open elements, innermost first, with the attribute names of the last start tag; or the row that failed, and why
 pub data State : Type 0 where
@@ -42,6 +42,7 @@ abbrev pub closed : Name → List Name → List Name → ℕ → State
 closed m [] a k = failed k Cause.MismatchedEnd
 closed m (n ∷ s) a k = pick (sameName m n) (going s a) (failed k Cause.MismatchedEnd)
 
+-- the open elements without the innermost
 abbrev pub popped : List Name → List Name
 popped [] = []
 popped (n ∷ s) = s
@@ -49,12 +50,11 @@ popped (n ∷ s) = s
 -- what the token of row k does
 abbrev pub step : ℕ → List Name → List Name → Tok → State
 step k s a (start n) = going (n ∷ s) []
-step k s a (attr m v) = withAttribute (seen m a) k (withValue (validated v) k (going s (m ∷ a)))
+step k s a (attr m v) = withAttribute (hasName m a) k (withValue (validated v) k (going s (m ∷ a)))
 step k s a gt = going s a
 step k s a (close m) = closed m s a k
 step k s a slash = going (popped s) a
-step k s a (text v) = withValue (validated v) k (going s a)
-step k s a misc = going s a
+step k s a (matter b) = withValue (validated (referencesIn b)) k (going s a)
 step k s a bad = failed k Cause.TokenError
 
 unfoldable pub walk : ℕ → State → List Tok → State

@@ -7,7 +7,7 @@
 use Prim.Native.Nat.{ℕ}
 use mathlib.Core.List.{List, [], _∷_, List·Memᴰ}
 use Rattle.reference.specs.Xml.{EachReference}
-use Rattle.table.specs.Row.{Name, Tok, start, attr, gt, close, slash, text, misc}
+use Rattle.table.specs.Row.{Name, Matter, misc, referencesIn, Tok, start, attr, gt, close, slash, matter}
 
 -- (S Attribute)* of [40] and [44], with [41] Attribute ::= Name Eq AttValue: seen are the names before, and none comes twice (WFC: Unique
 -- Att Spec); each `&` of the value begins a Reference ([10] AttValue)
@@ -22,17 +22,17 @@ mutual
     empty-element : (n : Name) {l r : List Tok} → Attributes [] l (slash ∷ r) → Element (start n ∷ l) r
     full-element : (n : Name) {l m r : List Tok} → Attributes [] l (gt ∷ m) → Content m (close n ∷ r) → Element (start n ∷ l) r
 
-  -- [43] content ::= CharData? ((element | Reference | CDSect | PI | Comment) CharData?)*; text is CharData and Reference together
+  -- [43] content ::= CharData? ((element | Reference | CDSect | PI | Comment) CharData?)*; a text is CharData and Reference together,
+  -- and each `&` in it begins a Reference
   pub data Content : List Tok → List Tok → Type 0 where
     no-content : {r : List Tok} → Content r r
-    chars : {v : List ℕ} {l r : List Tok} → EachReference v → Content l r → Content (text v ∷ l) r
-    other : {l r : List Tok} → Content l r → Content (misc ∷ l) r
+    between-tags : {b : Matter} {l r : List Tok} → EachReference (referencesIn b) → Content l r → Content (matter b ∷ l) r
     child : {l m r : List Tok} → Element l m → Content m r → Content l r
 
 -- [27] Misc*, and in the prolog [22] the declarations too: kind 7 rows
 pub data Miscs : List Tok → List Tok → Type 0 where
   no-misc : {r : List Tok} → Miscs r r
-  one-misc : {l r : List Tok} → Miscs l r → Miscs (misc ∷ l) r
+  one-misc : {l r : List Tok} → Miscs l r → Miscs (matter misc ∷ l) r
 
 -- [1] document ::= prolog element Misc*
 pub data Document : List Tok → Type 0 where

@@ -5,22 +5,19 @@ use mathlib.Core.List.{List, [], _∷_, _++_, List·Memᴰ}
 use lib.ListN.{length}
 use Rattle.reference.specs.Text.{validated}
 use Rattle.reference.specs.declared.Validated.{Validated}
-use Rattle.table.specs.Row.{Name, Tok, start, attr, gt, close, slash, text, misc, bad, rowsOf, toksOf}
+use Rattle.table.specs.Row.{Name, Matter, text, Tok, start, attr, gt, close, slash, matter, bad, Move, enters, leaves, stays, moveOf, rowsOf, toksOf}
 use Rattle.table.specs.Rules.{TableRules}
 use Rattle.xml.specs.declared.Cause.{Cause}
+use Rattle.xml.specs.Drain.{popped}
 
 -- the names of the elements that are open after some tokens, innermost first
+abbrev pub openBy : List Name → Move → List Name
+openBy s (enters n) = n ∷ s
+openBy s leaves = popped s
+openBy s stays = s
+
 abbrev pub openAfter : List Name → Tok → List Name
-openAfter s (start n) = n ∷ s
-openAfter s (attr m v) = s
-openAfter s gt = s
-openAfter [] (close m) = []
-openAfter (n ∷ s) (close m) = s
-openAfter [] slash = []
-openAfter (n ∷ s) slash = s
-openAfter s (text v) = s
-openAfter s misc = s
-openAfter s bad = s
+openAfter s t = openBy s (moveOf t)
 
 unfoldable pub opens : List Name → List Tok → List Name
 opens s [] = s
@@ -33,8 +30,7 @@ namesAfter a (attr m v) = m ∷ a
 namesAfter a gt = a
 namesAfter a (close m) = a
 namesAfter a slash = a
-namesAfter a (text v) = a
-namesAfter a misc = a
+namesAfter a (matter b) = a
 namesAfter a bad = a
 
 unfoldable pub attributes : List Name → List Tok → List Name
@@ -49,7 +45,7 @@ pub record WellFormed (toks : List Tok) : Type 0 where
   pub noneOpen : opens [] toks ≡ []
   pub single : (a : List Tok) (m : Name) (v : List ℕ) (b : List Tok) → toks ≡ a ++ (attr m v ∷ b) → List·Memᴰ m (attributes [] a) → ⊥
   pub attributeValues : (a : List Tok) (m : Name) (v : List ℕ) (b : List Tok) → toks ≡ a ++ (attr m v ∷ b) → validated v ≡ Validated.Valid
-  pub textValues : (a : List Tok) (v : List ℕ) (b : List Tok) → toks ≡ a ++ (text v ∷ b) → validated v ≡ Validated.Valid
+  pub textValues : (a : List Tok) (v : List ℕ) (b : List Tok) → toks ≡ a ++ (matter (text v) ∷ b) → validated v ≡ Validated.Valid
 
 pub record Passed (body table : List ℕ) (final : ℕ) : Type 0 where
   pub rules : TableRules body table final
@@ -62,7 +58,7 @@ pub data Fault (before : List Tok) : Tok → Cause → Type 0 where
   repeated-attribute : {m : Name} {v : List ℕ} → List·Memᴰ m (attributes [] before) → Fault before (attr m v) Cause.RepeatedAttribute
   bad-attribute : {m : Name} {v : List ℕ} → (List·Memᴰ m (attributes [] before) → ⊥) → validated v ≡ Validated.BadReference
       → Fault before (attr m v) Cause.BadReference
-  bad-text : {v : List ℕ} → validated v ≡ Validated.BadReference → Fault before (text v) Cause.BadReference
+  bad-text : {v : List ℕ} → validated v ≡ Validated.BadReference → Fault before (matter (text v)) Cause.BadReference
 
 pub record Faultless (toks : List Tok) : Type 0 where
   pub none : (a : List Tok) (t : Tok) (b : List Tok) (c : Cause) → toks ≡ a ++ (t ∷ b) → Fault a t c → ⊥

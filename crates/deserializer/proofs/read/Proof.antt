@@ -1,3 +1,4 @@
+-- Two numbers of its own are room for what is told, so the promise of the call holds; demand 3 follows from it.
 use Rattle.deserializer.proofs.Entered.{two-laws}
 use borrow.Author.Needs.{needs}
 use Rattle.deserializer.proofs.read.Statement.{statement}

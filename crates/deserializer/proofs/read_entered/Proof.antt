@@ -1,3 +1,4 @@
+-- By the shape's number; the flags stand for the settings, and what is told is the count, bytes and number of the step.
 use Rattle.deserializer.proofs.Entered.{told-laws}
 use borrow.Author.Needs.{needs}
 use Rattle.deserializer.proofs.read_entered.Statement.{statement}

@@ -1,3 +1,4 @@
+-- The opening refuses as the definition does, with nothing written; past it the sheet was read, and no text is touched.
 use Rattle.deserializer.proofs.Entered.{list-laws}
 use borrow.Author.Needs.{needs}
 use Rattle.deserializer.proofs.read_list.Statement.{statement}

@@ -1,3 +1,4 @@
+-- Not to have entered is to be too deep, so the opening asks what the definition asks; past it the map is the definition's.
 use Rattle.deserializer.proofs.Entered.{map-laws}
 use borrow.Author.Needs.{needs}
 use Rattle.deserializer.proofs.read_map.Statement.{statement}

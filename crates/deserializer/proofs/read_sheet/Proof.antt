@@ -47,7 +47,7 @@ use denote.Triple.Clauses.{ensured, lasts}
 use denote.Exit.{yes}
 use denote.Signature.{plain}
 use Rattle.codec.specs.declared.guard.Guard.{Guard}
-use Rattle.codec.specs.Guard.{refuses, left, entered as enteredGuard}
+use Rattle.codec.specs.Guard.{atMaximum, left, entered as enteredGuard}
 use Rattle.codec.proofs.Lent.{lies, back}
 use Rattle.codec.proofs.guard.Guard as T
 use Rattle.codec.proofs.guard.Guard.Laws as T′
@@ -208,8 +208,8 @@ module _ {M : Type 1} (𝓤 : URA M) (H : Heap 𝓤) (A : Atoms 𝓤) (W : Given
         split ! $ move ! (2 ∷ 0 ∷ []) $ use2 W (raw (Into 𝓤 H A at-mem run .pre (to-into 𝓤 H A W l₁₂ at-mem run α δ g))) (goes-into 𝓤 H A W l₁₂ at-mem run α δ g) $
         calls-at ! fm (Into 𝓤 H A at-mem run) known-into (to-into 𝓤 H A W l₁₂ at-mem run α δ g) (and-then ! (load ! (from ! (stop !)) (look ! 20 refl)) (no-more !)) (λ v.
         use1 W (later (some (λ (t : Bool). ((‵ (flft (α ∷ []) fullShare) ⊛ ‵ ftrue) ⊛ ‵ (bool .own t (v ∷ []))) ⊛ raw (ensured 𝓤 H A into.ended (into.clauses 𝓤 H A at-mem run) (α ∷ [], tt) (ref 𝓤 H A W l₁₂ δ g, tt) tt t)))) (id⊢ 𝓤 _) $ await ! tt $ pick ! (λ t.
-        split ! $ move ! (1 ∷ []) $ use1 W (some (λ (zs : Guard × Unit {0}). ‵ (lasts into.ended (α ∷ [], tt) (ref 𝓤 H A W l₁₂ δ g, tt) zs) ⊛ raw (fact 𝓤 ((t ≡ not (refuses g)) × (zs .0 ≡ enteredGuard g))))) (id⊢ 𝓤 _) $ pick ! (λ gs.
-        split ! $ move ! (1 ∷ []) $ heard ! ((t ≡ not (refuses g)) × (gs .0 ≡ enteredGuard g)) (λ e₁. fsplit ! $ move ! (2 ∷ []) $ split ! $ move ! (1 ∷ []) $
+        split ! $ move ! (1 ∷ []) $ use1 W (some (λ (zs : Guard × Unit {0}). ‵ (lasts into.ended (α ∷ [], tt) (ref 𝓤 H A W l₁₂ δ g, tt) zs) ⊛ raw (fact 𝓤 ((t ≡ not (atMaximum g)) × (zs .0 ≡ enteredGuard g))))) (id⊢ 𝓤 _) $ pick ! (λ gs.
+        split ! $ move ! (1 ∷ []) $ heard ! ((t ≡ not (atMaximum g)) × (gs .0 ≡ enteredGuard g)) (λ e₁. fsplit ! $ move ! (2 ∷ []) $ split ! $ move ! (1 ∷ []) $
         peeks ! bool (Is bool) (shows 𝓤 H A bool) t (v ∷ []) (λ is₁.
         land ! (from ! (stop !)) (init ! 27 refl (bool-lawful 𝓤 H A W .typed t _ is₁ .0)) $ rewrite ! 27 (λ (w : Val). ‵ (fat fullShare tyBool l₁₃ 0 w)) (ap only is₁) refl $
         move ! (1 ∷ []) $ split ! $ lft-end ! tt $ move ! (0 ∷ 5 ∷ 3 ∷ []) $ use3 W (later (‵ (partAt T.the-row fullShare (gs .0) l₁₂ 0))) (ref-back 𝓤 H A W T.the-row (α ∷ []) δ (gs .0) l₁₂ 0) $ await ! tt $

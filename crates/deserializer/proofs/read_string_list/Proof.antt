@@ -1,3 +1,4 @@
+-- What the opening refuses the definition refuses first; past it the sheet was read, and the texts are those it asks for.
 use Rattle.deserializer.proofs.Entered.{string-list-laws}
 use borrow.Author.Needs.{needs}
 use Rattle.deserializer.proofs.read_string_list.Statement.{statement}

@@ -1,3 +1,4 @@
+-- Past the opening the groups come by rising member index, which is an order, and the answer is the definition's at it.
 use Rattle.deserializer.proofs.Entered.{struct-laws}
 use borrow.Author.Needs.{needs}
 use Rattle.deserializer.proofs.read_struct.Statement.{statement}

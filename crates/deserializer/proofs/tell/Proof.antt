@@ -1,3 +1,4 @@
+-- Of fewer than two numbers nothing is promised; otherwise both are stored, and 0 or the refusal's number is the step's.
 use Rattle.deserializer.proofs.Entered.{tells-laws}
 use borrow.Author.Needs.{needs}
 use Rattle.deserializer.proofs.tell.Statement.{statement}

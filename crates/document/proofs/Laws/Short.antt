@@ -14,11 +14,11 @@ use Rattle.refusal.specs.Answer.{Answer, gives, refuses}
 use Rattle.reference.specs.Text.{Out, bytes, unescaped}
 use Rattle.reference.specs.Text as text
 use Rattle.reference.proofs.Result.{unescaped-shorter}
-use Rattle.table.specs.Row.{Row, Name, Tok, start, attr, gt, close, slash, text, misc, bad, cut, tokAs, toksOf}
+use Rattle.table.specs.Row.{Row, Name, Tok, start, attr, gt, close, slash, Matter, text, misc, referencesIn, matter, bad, cut, tokAs, toksOf}
 use Rattle.document.specs.declared.Depth.{Depth}
 use Rattle.document.specs.Reader.{Reader, reader, fresh, shallower, depthAfter, Scope, document, isEnd, Past, Attribute, StartEl, blank, addAttribute, onAttribute, onClose, Next, found, gone, takeTurn, next}
 use Rattle.document.specs.Scope.{Child, scopeOf, shut, done, onNext, level, levelIn, children, onRoot, rootOf}
-use Rattle.document.specs.Text.{unescapedText, atEnd, textTurn, firstText, textOf}
+use Rattle.document.specs.Text.{unescapedText, atEnd, textTurn, takeFirst, firstText, textOf}
 use Rattle.document.proofs.Laws.Onward.{Leaves, leaves-found, leaves-none, next-leaves}
 use Rattle.document.proofs.Laws.Fuel.{Shortens}
 
@@ -30,8 +30,7 @@ valueIn (attr m v) = v
 valueIn gt = []
 valueIn (close m) = []
 valueIn slash = []
-valueIn (text v) = v
-valueIn misc = []
+valueIn (matter b) = referencesIn b
 valueIn bad = []
 
 abbrev pub ShortValue : ℕ → Tok → Type 0
@@ -85,8 +84,7 @@ module _ (most : ℕ) (s : Scope) where
       go true ih = no-start
       go false ih = ih
   next-short o d k (slash ∷ l) (and h e) a = short-start a
-  next-short o d k (text v ∷ l) (and h e) a = next-short o d (suc k) l e a
-  next-short o d k (misc ∷ l) (and h e) a = next-short o d (suc k) l e a
+  next-short o d k (matter b ∷ l) (and h e) a = next-short o d (suc k) l e a
   next-short o d k (bad ∷ l) (and h e) a = next-short o d (suc k) l e a
 
 pub root-attributes-short : (most : ℕ) (toks : List Tok) → Every (ShortValue most) toks → (c : Child) → rootOf toks ≡ some c → Every (ShortAttribute most) (c .start .attributes)
@@ -114,14 +112,14 @@ module _ (most : ℕ) where
       go (bytes x) q = short-text {b = x} (omega (arith, unescaped-shorter v x q, h))
       go (text.bad at) q = no-text
 
-  turn-short : (s : Scope) (d : Depth) (t : Tok) → ShortValue most t → (more : Answer (List ℕ)) → ShortText most more → ShortText most (textTurn s d t more)
+  turn-short : (s : Scope) (d : Depth) (t : Tok) → ShortValue most t → (more : Answer (List ℕ)) → ShortText most more → ShortText most (textTurn takeFirst s d t more)
   turn-short s d (start n) h more m = no-text
   turn-short s d (attr n v) h more m = m
   turn-short s d gt h more m = m
   turn-short s d (close n) h more m = pick-all (ShortText most) (isEnd s d n) (gives []) more (short-text {b = []} (omega arith)) m
   turn-short s d slash h more m = m
-  turn-short s d (text v) h more m = unescaped-short v h
-  turn-short s d misc h more m = m
+  turn-short s d (matter (text v)) h more m = unescaped-short v h
+  turn-short s d (matter misc) h more m = m
   turn-short s d bad h more m = m
 
   first-text-short : (failure : Option Refusal) (s : Scope) (d : Depth) {l : List Tok} → Every (ShortValue most) l → ShortText most (firstText failure s d l)

@@ -11,7 +11,7 @@ use Rattle.table.specs.Row.{Tok}
 use Rattle.document.specs.declared.Depth.{Depth}
 use Rattle.document.specs.Reader.{reader, depthAfter, Scope, endsAt, skip, StartEl, turn, gone, takeTurn, next}
 use Rattle.document.specs.Scope.{shut}
-use Rattle.document.specs.Text.{atEnd, textTurn, firstText, joinTurn, joined}
+use Rattle.document.specs.Text.{atEnd, textTurn, takeFirst, firstText, takeEach, joined}
 
 -- ---- the skip to a scope's end
 pub skip-end : (s : Scope) (d : Depth) (k : ℕ) → skip s d k [] ≡ record { ended = false; reader = reader d k [] }
@@ -39,7 +39,7 @@ unfolding firstText
 first-text-end failure s d = refl
 
 pub first-text-token : (failure : Option Refusal) (s : Scope) (d : Depth) (t : Tok) (l : List Tok)
-    → firstText failure s d (t ∷ l) ≡ textTurn s (depthAfter t d) t (firstText failure s (depthAfter t d) l)
+    → firstText failure s d (t ∷ l) ≡ textTurn takeFirst s (depthAfter t d) t (firstText failure s (depthAfter t d) l)
 unfolding firstText
 first-text-token failure s d t l = refl
 
@@ -48,6 +48,6 @@ pub joined-end : (s : Scope) (d : Depth) → joined s d [] ≡ gives []
 unfolding joined
 joined-end s d = refl
 
-pub joined-token : (s : Scope) (d : Depth) (t : Tok) (l : List Tok) → joined s d (t ∷ l) ≡ joinTurn s (depthAfter t d) t (joined s (depthAfter t d) l)
+pub joined-token : (s : Scope) (d : Depth) (t : Tok) (l : List Tok) → joined s d (t ∷ l) ≡ textTurn takeEach s (depthAfter t d) t (joined s (depthAfter t d) l)
 unfolding joined
 joined-token s d t l = refl

@@ -13,7 +13,7 @@ use Rattle.lists.specs.Tests.{pick}
 use Rattle.lists.proofs.Tests.{pick-cases, false-true}
 use Rattle.reference.specs.Text.{Out, bytes, unescaped}
 use Rattle.reference.specs.Text as text
-use Rattle.table.specs.Row.{Row, Name, Tok, start, attr, gt, close, slash, text, misc, bad, tokAs, tokOf, toksOf}
+use Rattle.table.specs.Row.{Row, Name, Tok, start, attr, gt, close, slash, matter, bad, tokAs, tokOf, toksOf}
 use Rattle.table.specs.Rules.{among, Place, EachRow, none, row}
 use Rattle.xml.proofs.Past.{at-next}
 use Rattle.document.specs.declared.Depth.{Depth}
@@ -75,8 +75,7 @@ after-end s d (attr n v) b e m g = false-true e
 after-end s d gt b e m g = false-true e
 after-end s d (close n) b e m g = rw (not-inside b m) at g
 after-end s d slash b e m g = false-true e
-after-end s d (text v) b e m g = false-true e
-after-end s d misc b e m g = false-true e
+after-end s d (matter x) b e m g = false-true e
 after-end s d bad b e m g = false-true e
 
 pub skip-outside : (s : Scope) (d : Depth) (k : ℕ) {b : Bool} {l : List Tok} → Tags b l → Tags false (skip s d k l .reader .rest)
@@ -136,6 +135,5 @@ module _ (all : List Tok) (from : ℕ) where
       go true ih = at-none g (λ e. not-inside b m)
       go false ih = ih
   next-ends s o d k (slash ∷ l) low h (token m g) f = at-start (more-closed (f m)) g
-  next-ends s o d k (text v ∷ l) low h (token m g) f = next-ends s o d (suc k) l (omega (arith, low)) (at-next all k h) g (λ e. more (f e))
-  next-ends s o d k (misc ∷ l) low h (token m g) f = next-ends s o d (suc k) l (omega (arith, low)) (at-next all k h) g (λ e. more (f e))
+  next-ends s o d k (matter x ∷ l) low h (token m g) f = next-ends s o d (suc k) l (omega (arith, low)) (at-next all k h) g (λ e. more (f e))
   next-ends s o d k (bad ∷ l) low h (token m g) f = next-ends s o d (suc k) l (omega (arith, low)) (at-next all k h) g (λ e. more (f e))

@@ -9,9 +9,9 @@ use borrow.Author.Tests.{eq-eqb}
 use lib.ListN.{drop}
 use Rattle.refusal.specs.declared.Refusal.{Refusal}
 use Rattle.refusal.specs.Answer.{Answer, gives, refuses}
-use Rattle.table.specs.Row.{Name, Tok, close, rowsOf, toksOf}
+use Rattle.table.specs.Row.{Name, text, misc, Tok, close, rowsOf, toksOf}
 use Rattle.xml.specs.declared.Drained.{Drained}
-use Rattle.xml.specs.Grammar.{Element, empty-element, full-element, Content, no-content, chars, other, child, Miscs, no-misc, one-misc, Document}
+use Rattle.xml.specs.Grammar.{Element, empty-element, full-element, Content, no-content, between-tags, child, Miscs, no-misc, one-misc, Document}
 use Rattle.xml.specs.Grammar as grammar
 use Rattle.xml.specs.Drain.{drained}
 use Rattle.xml.proofs.Tests.{name-same}
@@ -33,8 +33,7 @@ module _ (all : List Tok) where
   contents-met : {l r : List Tok} (c : Content l r) (d : Depth) (k : ℕ) → drop k all ≡ l → (x : Child) → List·Memᴰ x (contents c d k) → Met all x
   unfolding contents
   contents-met no-content d k h x i = absurd (List·Memᴰ·not-nil i)
-  contents-met (chars e c) d k h x i = contents-met c d (suc k) (at-next all k h) x i
-  contents-met (other c) d k h x i = contents-met c d (suc k) (at-next all k h) x i
+  contents-met (between-tags e c) d k h x i = contents-met c d (suc k) (at-next all k h) x i
   contents-met (child e c) d k h x i =
       ⊎-elim (λ q. rw q (met e d k h)) (λ j. contents-met c d (pastElement e k) (past-element all e k h) x j) (List·Memᴰ·cases-cons i)
 
@@ -80,8 +79,8 @@ module _ (own : Depth) (n : Name) where
   first-content : {l r : List Tok} → Content l (close n ∷ r) → TextOrElement (firstText none (element own n) (deeper own) l)
   unfolding firstText
   first-content no-content = rw (eq-eqb (own .0) (own .0) refl, name-same n) (is-text [])
-  first-content (chars {v = v} e c) = rw (unescapes v e) (is-text _)
-  first-content (other c) = first-content c
+  first-content (between-tags {b = text v} e c) = rw (unescapes v e) (is-text _)
+  first-content (between-tags {b = misc} e c) = first-content c
   first-content (child e c) = rw (first-element e (deeper own)) is-element
 
 pub text-met : {all : List Tok} (c : Child) → Met all c → TextOrElement (textOf none c)

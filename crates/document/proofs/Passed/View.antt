@@ -7,7 +7,7 @@ use mathlib.Core.List.{List, []}
 use mathlib.Core.Option.{none}
 use Rattle.table.specs.Row.{Name, Tok, rowsOf}
 use Rattle.xml.specs.declared.Drained.{Drained}
-use Rattle.xml.specs.Grammar.{Attributes, no-attribute, attribute, Element, empty-element, full-element, Content, no-content, chars, other, child, Miscs, no-misc, one-misc, Document, document}
+use Rattle.xml.specs.Grammar.{Attributes, no-attribute, attribute, Element, empty-element, full-element, Content, no-content, between-tags, child, Miscs, no-misc, one-misc, Document, document}
 use Rattle.xml.specs.Drain.{drained}
 use Rattle.xml.proofs.Pass.{document-passes, drained-document-is}
 use Rattle.document.specs.View.{whole, errorAt, view}
@@ -27,8 +27,7 @@ mutual
 
   right-content : {l r : List Tok} → Content l r → errorAt r ≡ none → errorAt l ≡ none
   right-content no-content h = h
-  right-content (chars v c) h = rw (right-content c h)
-  right-content (other c) h = rw (right-content c h)
+  right-content (between-tags v c) h = rw (right-content c h)
   right-content (child e c) h = right-element e (right-content c h)
 
 right-miscs : {l r : List Tok} → Miscs l r → errorAt r ≡ none → errorAt l ≡ none

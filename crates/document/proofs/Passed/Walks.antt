@@ -12,8 +12,8 @@ use Rattle.reference.specs.Text.{Out, bytes, unescaped}
 use Rattle.reference.specs.Text as text
 use Rattle.reference.proofs.Lenient.{valid-unescapes}
 use Rattle.reference.proofs.Grammar.{validate-complete}
-use Rattle.table.specs.Row.{Name, Tok, start, close, text}
-use Rattle.xml.specs.Grammar.{Attributes, no-attribute, attribute, Element, empty-element, full-element, Content, no-content, chars, other, child}
+use Rattle.table.specs.Row.{Name, Tok, start, close}
+use Rattle.xml.specs.Grammar.{Attributes, no-attribute, attribute, Element, empty-element, full-element, Content, no-content, between-tags, child}
 use Rattle.xml.proofs.Tests.{name-same}
 use Rattle.xml.proofs.Past.{pastAttributes, pastElement, pastContent, count, grow-content}
 use Rattle.document.specs.declared.Depth.{Depth}
@@ -44,8 +44,7 @@ asChild (full-element n {m = m} a c) d k =
 unfoldable pub asLevel : {l r : List Tok} → Content l r → Depth → ℕ → Past → Level
 unfolding asChild pastElement
 asLevel no-content d k p = done p
-asLevel (chars e c) d k p = asLevel c d (suc k) p
-asLevel (other c) d k p = asLevel c d (suc k) p
+asLevel (between-tags e c) d k p = asLevel c d (suc k) p
 asLevel (child x c) d k p = meets (asChild x d k) (asLevel c d (pastElement x k) p)
 
 -- attributes change neither name nor depth nor row, and do not close a tag
@@ -97,8 +96,7 @@ module _ (own : Depth) (n : Name) where
 
     skip-content : {l r : List Tok} (c : Content l r) (d : Depth) (k : ℕ) → own .0 < d .0 → skip (element own n) d k l ≡ skip (element own n) d (pastContent c k) r
     skip-content no-content d k h = refl
-    skip-content (chars e c) d k h = skip-content c d (suc k) h
-    skip-content (other c) d k h = skip-content c d (suc k) h
+    skip-content (between-tags e c) d k h = skip-content c d (suc k) h
     skip-content (child x c) d k h = skip-element x d k h ∙ skip-content c d (pastElement x k) h
 
   -- from the content of an element to right after its own end tag
@@ -151,8 +149,7 @@ module _ (past : Child → Reader) (goes : PastElements past) (own : Depth) (n :
   unfolding level asLevel count pastElement
   level-content c zero k h = absurd (omega (arith, h))
   level-content {r = r} no-content (suc f) k h = level-done f k r
-  level-content (chars e c) (suc f) k h = level-content c (suc f) (suc k) h
-  level-content (other c) (suc f) k h = level-content c (suc f) (suc k) h
+  level-content (between-tags e c) (suc f) k h = level-content c (suc f) (suc k) h
   level-content {r = r} (child x c) (suc f) k h =
       level-child x f k
       ∙ ap {B = Level} (λ t. meets (asChild x (deeper own) k) t) (level-content c f (pastElement x k) (omega (arith, h)))
@@ -161,8 +158,7 @@ module _ (past : Child → Reader) (goes : PastElements past) (own : Depth) (n :
 unfoldable pub contents : {l r : List Tok} → Content l r → Depth → ℕ → List Child
 unfolding asChild pastElement
 contents no-content d k = []
-contents (chars e c) d k = contents c d (suc k)
-contents (other c) d k = contents c d (suc k)
+contents (between-tags e c) d k = contents c d (suc k)
 contents (child x c) d k = asChild x d k ∷ contents c d (pastElement x k)
 
 unfoldable pub inside : {l r : List Tok} → Element l r → Depth → ℕ → List Child
@@ -173,15 +169,13 @@ inside (full-element n a c) d k = contents c (deeper d) (suc (pastAttributes a (
 contents-are : {l r : List Tok} (c : Content l r) (d : Depth) (k : ℕ) (p : Past) → children (asLevel c d k p) ≡ contents c d k
 unfolding children asLevel contents
 contents-are no-content d k p = refl
-contents-are (chars e c) d k p = contents-are c d (suc k) p
-contents-are (other c) d k p = contents-are c d (suc k) p
+contents-are (between-tags e c) d k p = contents-are c d (suc k) p
 contents-are (child x c) d k p = rw (contents-are c d (pastElement x k) p)
 
 contents-end : {l r : List Tok} (c : Content l r) (d : Depth) (k : ℕ) (p : Past) → endOf (asLevel c d k p) ≡ p
 unfolding endOf asLevel
 contents-end no-content d k p = refl
-contents-end (chars e c) d k p = contents-end c d (suc k) p
-contents-end (other c) d k p = contents-end c d (suc k) p
+contents-end (between-tags e c) d k p = contents-end c d (suc k) p
 contents-end (child x c) d k p = contents-end c d (pastElement x k) p
 
 -- a loop over the children of an element meets those of the grammar, and reads to the element's end

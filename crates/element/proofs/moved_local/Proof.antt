@@ -4,8 +4,8 @@ use borrow.Author.Needs.{needs}
 use Rattle.element.proofs.moved_local.Statement.{statement}
 use Rattle.element.proofs.moved_local.Tie as tie
 
-less-requires : tie.Need-less-requires
-less-requires c κs = search needs
+minus-requires : tie.Need-minus-requires
+minus-requires c κs = search needs
 
 returns : tie.Need-returns
 returns c = search number-laws
@@ -14,4 +14,4 @@ returns-2 : tie.Need-returns-2
 returns-2 c = search needs
 
 pub moved-local-spec : {M : Type 1} → statement M
-moved-local-spec = tie.close (tie.spec less-requires returns returns-2)
+moved-local-spec = tie.close (tie.spec minus-requires returns returns-2)

@@ -76,17 +76,17 @@ moved-span-requires-2 c κs = search needs
 returns-3 : tie.Need-returns-3
 returns-3 c = search moved-laws
 
-add-less : tie.Need-add-less
-add-less c = search needs
+add-minus : tie.Need-add-minus
+add-minus c = search needs
 
-mul-less : tie.Need-mul-less
-mul-less c = search needs
+mul-minus : tie.Need-mul-minus
+mul-minus c = search needs
 
-shared-slice-read-less : tie.Need-shared-slice-read-less
-shared-slice-read-less c = search needs
+shared-slice-read-minus : tie.Need-shared-slice-read-minus
+shared-slice-read-minus c = search needs
 
-less-requires : tie.Need-less-requires
-less-requires c κs = search needs
+minus-requires : tie.Need-minus-requires
+minus-requires c κs = search needs
 
 returns-4 : tie.Need-returns-4
 returns-4 c = search moved-laws
@@ -131,10 +131,10 @@ moved-number-spec =
     shared-slice-read-moved-span-4
     moved-span-requires-2
     returns-3
-    add-less
-    mul-less
-    shared-slice-read-less
-    less-requires
+    add-minus
+    mul-minus
+    shared-slice-read-minus
+    minus-requires
     returns-4
     add-result
     mul-result

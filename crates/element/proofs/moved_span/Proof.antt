@@ -7,11 +7,11 @@ use Rattle.element.proofs.moved_span.Tie as tie
 returns : tie.Need-returns
 returns c = search needs
 
-less-requires : tie.Need-less-requires
-less-requires c κs = search needs
+minus-requires : tie.Need-minus-requires
+minus-requires c κs = search needs
 
 returns-2 : tie.Need-returns-2
 returns-2 c = search number-laws
 
 pub moved-span-spec : {M : Type 1} → statement M
-moved-span-spec = tie.close (tie.spec returns less-requires returns-2)
+moved-span-spec = tie.close (tie.spec returns minus-requires returns-2)

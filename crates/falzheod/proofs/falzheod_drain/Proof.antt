@@ -1,3 +1,4 @@
+-- The drain's three verdicts, each told by its number; row and cause are 0 except for 9, where they are the drain's.
 use Rattle.falzheod.proofs.Numbers.{call-laws}
 use borrow.Author.Needs.{needs}
 use Rattle.falzheod.proofs.falzheod_drain.Statement.{statement}

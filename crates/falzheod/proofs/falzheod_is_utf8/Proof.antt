@@ -1,3 +1,4 @@
+-- A yes is told by 1, a no by 0.
 use Rattle.falzheod.proofs.Numbers.{call-laws}
 use borrow.Author.Needs.{needs}
 use Rattle.falzheod.proofs.falzheod_is_utf8.Statement.{statement}

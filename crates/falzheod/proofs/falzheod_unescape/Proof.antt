@@ -1,3 +1,4 @@
+-- The three answers, each told by its number; only the first has a length, and the buffer is as unescaping left it.
 use Rattle.falzheod.proofs.Numbers.{call-laws}
 use borrow.Author.Needs.{needs}
 use Rattle.falzheod.proofs.falzheod_unescape.Statement.{statement}

@@ -1,3 +1,4 @@
+-- Two verdicts: right is told by 0, a bad reference by 7.
 use Rattle.falzheod.proofs.Numbers.{call-laws}
 use borrow.Author.Needs.{needs}
 use Rattle.falzheod.proofs.falzheod_validate_references.Statement.{statement}

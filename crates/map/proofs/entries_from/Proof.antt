@@ -1,3 +1,4 @@
+-- The entries before the place are written, each at most 131072 bytes; those from the place on are still planned.
 use Prim.Native.Nat.{_-_}
 use Rattle.map.proofs.Entries.{entries-laws}
 use Rattle.codec.specs.Collection.{mapSaid}

@@ -1,3 +1,4 @@
+-- Whether entries are named is what settings and sheet ask, and 9 is tested after the last of them.
 use Rattle.map.proofs.Entries.{map-laws}
 use borrow.Author.Needs.{needs}
 use Rattle.map.proofs.map_at.Statement.{statement}

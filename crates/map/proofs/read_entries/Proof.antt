@@ -1,3 +1,4 @@
+-- One that ended in `/>` has no entries; those of any other are the children of its own scope.
 use Rattle.opening.proofs.Children.{element-laws}
 use borrow.Author.Needs.{needs}
 use Rattle.map.proofs.read_entries.Statement.{statement}

@@ -1,3 +1,4 @@
+-- 1, 2 and 3 are asked in the definition's order; what passes them has a table that obeys the rules, and a root or 4.
 use Rattle.opening.proofs.Asked.{opening-laws}
 use borrow.Author.Needs.{needs}
 use Rattle.opening.proofs.ask.Statement.{statement}

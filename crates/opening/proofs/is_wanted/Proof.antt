@@ -1,3 +1,4 @@
+-- Where a name is asked for the row must match it; where none is, every row is wanted.
 use Rattle.opening.proofs.Wanted.{wanted-laws}
 use borrow.Author.Needs.{needs}
 use Rattle.opening.proofs.is_wanted.Statement.{statement}

@@ -1,3 +1,4 @@
+-- A table that breaks the rules is refused with 1; of any other the root decides.
 use Rattle.opening.proofs.Asked.{opening-laws}
 use borrow.Author.Needs.{needs}
 use Rattle.opening.proofs.open.Statement.{statement}

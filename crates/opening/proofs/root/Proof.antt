@@ -1,3 +1,4 @@
+-- The view is the definition's, so the first start element in it is the root, and without one it is 4.
 use Rattle.opening.proofs.Asked.{root-laws}
 use Rattle.opening.proofs.root.Statement.{statement}
 use Rattle.opening.proofs.root.Tie as tie

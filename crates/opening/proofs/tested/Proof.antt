@@ -1,3 +1,4 @@
+-- A refusal stays as it is; what is done is refused with 9 only where the body is ill-formed.
 use Rattle.opening.proofs.Last.{last-laws}
 use borrow.Author.Needs.{needs}
 use Rattle.opening.proofs.tested.Statement.{statement}

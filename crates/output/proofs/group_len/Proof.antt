@@ -1,3 +1,4 @@
+-- The member's pieces before k have `n` bytes; fewer than 2^32 of them with 32-bit lengths keep the sum in 64 bits.
 use Prim.Native.Nat.{_-_, _/_}
 use lib.ListN.{length}
 use Rattle.output.proofs.Kept.{len-laws, LenAt}

@@ -1,3 +1,4 @@
+-- No piece before k is the member's, so whether one is kept is up to the rest.
 use mathlib.Core.List.{[]}
 use Prim.Native.Nat.{_-_, _/_}
 use lib.ListN.{length}

@@ -1,3 +1,4 @@
+-- Room for an entry, then for the bytes: the definition's two tests, in its order.
 use Rattle.output.proofs.Room.{room-laws}
 use borrow.Author.Needs.{needs}
 use Rattle.output.proofs.has_room.Statement.{statement}

@@ -1,3 +1,4 @@
+-- Three stores, one after another.
 use native.Mathlib.Omega.{arith}
 use lib.ListN.{length-set}
 use Rattle.output.proofs.Kept.{keep-laws}

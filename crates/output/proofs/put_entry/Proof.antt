@@ -1,3 +1,4 @@
+-- Six stores, one after another.
 use native.Mathlib.Omega.{arith}
 use lib.ListN.{length-set}
 use Rattle.output.proofs.Room.{store-laws}

@@ -1,3 +1,4 @@
+-- The tag, the pieces and the other tag stand end to end, each where the one before ends, and all have room.
 use Rattle.output.proofs.Kept.{flat-laws}
 use Rattle.output.proofs.put_flat.Statement.{statement}
 use Rattle.output.proofs.put_flat.Tie as tie

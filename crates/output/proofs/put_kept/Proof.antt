@@ -1,3 +1,4 @@
+-- The member's pieces before k stand end to end from the start; all of them have room, so the next has.
 use Prim.Native.Nat.{_-_, _/_}
 use lib.ListN.{length}
 use Rattle.output.proofs.Kept.{copied-laws, CopiedAt}

@@ -1,3 +1,4 @@
+-- Without text only the six numbers need room; where there is none, nothing is stored.
 use Rattle.output.proofs.Room.{enter-laws}
 use borrow.Author.Needs.{needs}
 use Rattle.output.proofs.write_entry.Statement.{statement}

@@ -1,3 +1,4 @@
+-- Its six numbers are those of the definition's failed entry, with the refusal's number in it.
 use Rattle.output.proofs.Room.{enter-laws}
 use borrow.Author.Needs.{needs}
 use Rattle.output.proofs.write_failed.Statement.{statement}

@@ -1,3 +1,4 @@
+-- The counted bytes and 17 for the tags are the group's length, so room is tested for just what is stored.
 use Rattle.output.proofs.Kept.{group-laws}
 use Rattle.output.proofs.write_group.Statement.{statement}
 use Rattle.output.proofs.write_group.Tie as tie

@@ -1,3 +1,4 @@
+-- The key begins where the texts end so far, so the numbers are the definition's; the empty text after it adds nothing.
 use Rattle.output.proofs.Texts.{kind-laws}
 use borrow.Author.Needs.{needs}
 use Rattle.output.proofs.write_key_piece.Statement.{statement}

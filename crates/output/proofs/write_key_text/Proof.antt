@@ -1,3 +1,4 @@
+-- The key begins where the texts end so far and the value after the key, as the definition's numbers say.
 use Rattle.output.proofs.Texts.{kind-laws}
 use borrow.Author.Needs.{needs}
 use Rattle.output.proofs.write_key_text.Statement.{statement}

@@ -1,3 +1,4 @@
+-- The text begins where the texts end so far, as the definition says; the empty text after it adds nothing.
 use Rattle.output.proofs.Texts.{kind-laws}
 use borrow.Author.Needs.{needs}
 use Rattle.output.proofs.write_measured.Statement.{statement}

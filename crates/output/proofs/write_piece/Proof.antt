@@ -1,3 +1,4 @@
+-- Its six numbers are those of the definition's piece, which has no text.
 use Rattle.output.proofs.Room.{enter-laws}
 use borrow.Author.Needs.{needs}
 use Rattle.output.proofs.write_piece.Statement.{statement}

@@ -1,3 +1,4 @@
+-- A text that measures is written, a bad reference is refused before room is tested, and measuring never lacks room.
 use Rattle.output.proofs.Texts.{measured-laws}
 use borrow.Author.Needs.{needs}
 use Rattle.output.proofs.write_text.Statement.{statement}

@@ -1,3 +1,4 @@
+-- Room is tested for all at once; the second text fills in where the first ends, so both stand end to end.
 use Rattle.output.proofs.Texts.{texts-laws}
 use borrow.Author.Needs.{needs}
 use Rattle.output.proofs.write_texts.Statement.{statement}

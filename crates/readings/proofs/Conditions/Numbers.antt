@@ -104,40 +104,43 @@ module _ (u : Upload) (call : Call) (room : Room) where
       go (groups-full t u f) = full-among shape
 
 -- ---- scalars: 1, 4, 6 to 9, and then one of their own
+abbrev scalarNumbers : ℕ → List ℕ
+scalarNumbers own = 1 ∷ 4 ∷ 6 ∷ 7 ∷ 8 ∷ 9 ∷ own ∷ []
+
 module _ (u : Upload) (settings : Settings) (depth : ShapeDepth) where
-  unread-among : (last : ℕ) {Wrong : List ℕ → Refusal → Type 0} → ((t : List ℕ) (q : Refusal) → Wrong t q → Only (1 ∷ 4 ∷ 6 ∷ 7 ∷ 8 ∷ 9 ∷ last ∷ []) q)
-      → (r : Refusal) → Unread u settings depth Wrong r → Only (1 ∷ 4 ∷ 6 ∷ 7 ∷ 8 ∷ 9 ∷ last ∷ []) r
+  unread-among : (last : ℕ) {Wrong : List ℕ → Refusal → Type 0} → ((t : List ℕ) (q : Refusal) → Wrong t q → Only (scalarNumbers last) q)
+      → (r : Refusal) → Unread u settings depth Wrong r → Only (scalarNumbers last) r
   unread-among last {Wrong} f r w = go w
     where
-      ofText : {q : Refusal} → OfText q → Only (1 ∷ 4 ∷ 6 ∷ 7 ∷ 8 ∷ 9 ∷ last ∷ []) q
+      ofText : {q : Refusal} → OfText q → Only (scalarNumbers last) q
       ofText six = refl
       ofText seven = refl
       ofText eight = refl
       ofText nine = refl
 
-      go : {q : Refusal} → Unread u settings depth Wrong q → Only (1 ∷ 4 ∷ 6 ∷ 7 ∷ 8 ∷ 9 ∷ last ∷ []) q
+      go : {q : Refusal} → Unread u settings depth Wrong q → Only (scalarNumbers last) q
       go (not-read (not-opened (broken-table n))) = refl
       go (not-read (not-opened (no-root t n))) = refl
       go (not-read (no-text w n)) = ofText (text-number (n .inside))
       go (not-read (after-the-rest w t f)) = refl
       go (wrong {text = t} {r = q} p w) = f t q w
 
-  boolean-among : (t : List ℕ) (q : Refusal) → NotABoolean t q → Only (1 ∷ 4 ∷ 6 ∷ 7 ∷ 8 ∷ 9 ∷ 11 ∷ []) q
+  boolean-among : (t : List ℕ) (q : Refusal) → NotABoolean t q → Only (scalarNumbers 11) q
   boolean-among t q (not-boolean m n) = refl
 
-  integer-among : (t : List ℕ) (q : Refusal) → NotAnInteger t q → Only (1 ∷ 4 ∷ 6 ∷ 7 ∷ 8 ∷ 9 ∷ 12 ∷ []) q
+  integer-among : (t : List ℕ) (q : Refusal) → NotAnInteger t q → Only (scalarNumbers 12) q
   integer-among t q (not-integer n) = refl
 
-  string-among : (room : ℕ) (t : List ℕ) (q : Refusal) → StringTooLong room t q → Only (1 ∷ 4 ∷ 6 ∷ 7 ∷ 8 ∷ 9 ∷ 10 ∷ []) q
+  string-among : (room : ℕ) (t : List ℕ) (q : Refusal) → StringTooLong room t q → Only (scalarNumbers 10) q
   string-among room t q (too-long h) = refl
 
-  pub boolean-numbers : (r : Refusal) → booleanReading u settings depth ≡ refuses r → Only (1 ∷ 4 ∷ 6 ∷ 7 ∷ 8 ∷ 9 ∷ 11 ∷ []) r
+  pub boolean-numbers : (r : Refusal) → booleanReading u settings depth ≡ refuses r → Only (scalarNumbers 11) r
   boolean-numbers r e = unread-among 11 boolean-among r (boolean-refusal u settings depth r .0 e)
 
-  pub integer-numbers : (r : Refusal) → integerReading u settings depth ≡ refuses r → Only (1 ∷ 4 ∷ 6 ∷ 7 ∷ 8 ∷ 9 ∷ 12 ∷ []) r
+  pub integer-numbers : (r : Refusal) → integerReading u settings depth ≡ refuses r → Only (scalarNumbers 12) r
   integer-numbers r e = unread-among 12 integer-among r (integer-refusal u settings depth r .0 e)
 
-  pub string-numbers : (room : ℕ) (r : Refusal) → stringReading u settings depth room ≡ refuses r → Only (1 ∷ 4 ∷ 6 ∷ 7 ∷ 8 ∷ 9 ∷ 10 ∷ []) r
+  pub string-numbers : (room : ℕ) (r : Refusal) → stringReading u settings depth room ≡ refuses r → Only (scalarNumbers 10) r
   string-numbers room r e = unread-among 10 (string-among room) r (string-refusal u settings depth room r .0 e)
 
 -- ---- find, and whole text

@@ -12,7 +12,7 @@ use Rattle.document.specs.Text.{textOf}
 use Rattle.sheet.specs.declared.ShapeDepth.{ShapeDepth}
 use Rattle.sheet.specs.Settings.{Settings}
 use Rattle.readings.specs.Call.{Upload, Call}
-use Rattle.readings.specs.Output.{Entry, Room, Output, nothing, refused, written}
+use Rattle.readings.specs.Output.{Entry, Room, Output, nothing, refused, appended}
 use Rattle.readings.specs.Plan.{Plan, put, end, stop, Whole}
 use Rattle.readings.specs.Opening.{Opened, Asked}
 use Rattle.readings.specs.Shape.{Shape, structure, list, map, strings, SheetOf, sheetOf, planOf, read}
@@ -60,9 +60,9 @@ module _ (u : Upload) (call : Call) (room : Room) (shape : Shape) where
     stops : {a : Asked (SheetOf shape)} {r : Refusal} {out : Output} → AskedAs u (sheetOf shape (call .sheet)) (call .settings) (call .depth) a
         → Stops (call .settings) (call .depth) shape a r → Refused r out
     full : {entry : ℕ → Entry} {bytes : List ℕ} {more : Plan} {out : Output} → Reaches (planOf shape u call .asMet) nothing (put entry bytes more) out
-        → Exceeds room (written entry bytes out) → Refused Refusal.NoRoom out
+        → Exceeds room (appended entry bytes out) → Refused Refusal.NoRoom out
     groups-full : {entry : ℕ → Entry} {bytes : List ℕ} {more : Plan} {out last : Output} → Reaches (planOf shape u call .asMet) nothing end out
-        → Reaches (planOf shape u call .groups) out (put entry bytes more) last → Exceeds room (written entry bytes last) → Refused Refusal.NoRoom out
+        → Reaches (planOf shape u call .groups) out (put entry bytes more) last → Exceeds room (appended entry bytes last) → Refused Refusal.NoRoom out
 
   -- where the plan stops
   met : {w : Whole} → PlanIs u call shape w → {r : Refusal} {out : Output} → Reaches (w .asMet) nothing (stop r) out → Refused r out

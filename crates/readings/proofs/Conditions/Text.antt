@@ -12,11 +12,11 @@ use Rattle.refusal.specs.declared.Refusal.{Refusal}
 use Rattle.refusal.specs.Answer.{Answer, gives, refuses}
 use Rattle.reference.specs.Text.{Out, unescaped}
 use Rattle.reference.specs.Text as text
-use Rattle.table.specs.Row.{Name, Tok, start, attr, gt, close, slash, text, misc, bad}
+use Rattle.table.specs.Row.{Name, Tok, start, attr, gt, close, slash, text, misc, matter, bad}
 use Rattle.document.specs.declared.Depth.{Depth}
 use Rattle.document.specs.Reader.{depthAfter, Scope, isEnd}
 use Rattle.document.specs.Scope.{Child, scopeOf}
-use Rattle.document.specs.Text.{unescapedText, atEnd, textTurn, firstText, textOf}
+use Rattle.document.specs.Text.{unescapedText, atEnd, textTurn, takeFirst, firstText, textOf}
 use Rattle.readings.specs.Call.{Upload}
 use Rattle.readings.specs.Opening.{Opened}
 use Rattle.readings.proofs.Conditions.Answers.{given-refused, refuses-same}
@@ -30,15 +30,15 @@ isPassed s d (attr m v) = true
 isPassed s d gt = true
 isPassed s d (close m) = not (isEnd s d m)
 isPassed s d slash = true
-isPassed s d (text v) = false
-isPassed s d misc = true
+isPassed s d (matter (text v)) = false
+isPassed s d (matter misc) = true
 isPassed s d bad = true
 
 -- from these tokens on there is no text: tokens are passed up to a start tag (6), up to a text that does not unescape (7), or to the end of the
 -- rows, where the reader is stopped
 pub data NoText (Stop : Refusal → Type 0) (s : Scope) : Depth → List Tok → Refusal → Type 0 where
   element-inside : {d : Depth} {n : Name} {l : List Tok} → NoText Stop s d (start n ∷ l) Refusal.ElementInText
-  bad-reference : {d : Depth} {v : List ℕ} {at : ℕ} {l : List Tok} → unescaped v ≡ text.bad at → NoText Stop s d (text v ∷ l) Refusal.BadReference
+  bad-reference : {d : Depth} {v : List ℕ} {at : ℕ} {l : List Tok} → unescaped v ≡ text.bad at → NoText Stop s d (matter (text v) ∷ l) Refusal.BadReference
   rows-end : {d : Depth} {r : Refusal} → Stop r → NoText Stop s d [] r
   passed : {d : Depth} {t : Tok} {l : List Tok} {r : Refusal} → isPassed s (depthAfter t d) t ≡ true → NoText Stop s (depthAfter t d) l r → NoText Stop s d (t ∷ l) r
 
@@ -66,15 +66,15 @@ module _ (Stop : Refusal → Type 0) (failure : Option Refusal) (stops : (r : Re
       go true p e ih = given-refused e
       go false p e ih = passed (ap not p) (ih e)
   first-text-refused s d (slash ∷ l) e = passed refl (first-text-refused s (depthAfter slash d) l e)
-  first-text-refused s d (text v ∷ l) {r} e = go (unescaped v) refl e
+  first-text-refused s d (matter (text v) ∷ l) {r} e = go (unescaped v) refl e
     where
-      go : (o : Out) → unescaped v ≡ o → unescapedText o ≡ refuses r → NoText Stop s d (text v ∷ l) r
+      go : (o : Out) → unescaped v ≡ o → unescapedText o ≡ refuses r → NoText Stop s d (matter (text v) ∷ l) r
       go (text.bytes b) p e = given-refused e
-      go (text.bad at) p e = subst (NoText Stop s d (text v ∷ l)) (refuses-same e) (bad-reference p)
-  first-text-refused s d (misc ∷ l) e = passed refl (first-text-refused s d l e)
+      go (text.bad at) p e = subst (NoText Stop s d (matter (text v) ∷ l)) (refuses-same e) (bad-reference p)
+  first-text-refused s d (matter misc ∷ l) e = passed refl (first-text-refused s d l e)
   first-text-refused s d (bad ∷ l) e = passed refl (first-text-refused s d l e)
 
-  passes-on : (s : Scope) (d : Depth) (t : Tok) (more : Answer (List ℕ)) → isPassed s d t ≡ true → textTurn s d t more ≡ more
+  passes-on : (s : Scope) (d : Depth) (t : Tok) (more : Answer (List ℕ)) → isPassed s d t ≡ true → textTurn takeFirst s d t more ≡ more
   passes-on s d (start n) more e = false-true e
   passes-on s d (attr m v) more e = refl
   passes-on s d gt more e = refl
@@ -84,8 +84,8 @@ module _ (Stop : Refusal → Type 0) (failure : Option Refusal) (stops : (r : Re
       go true e = false-true e
       go false e = refl
   passes-on s d slash more e = refl
-  passes-on s d (text v) more e = false-true e
-  passes-on s d misc more e = refl
+  passes-on s d (matter (text v)) more e = false-true e
+  passes-on s d (matter misc) more e = refl
   passes-on s d bad more e = refl
 
   refused-first-text : {s : Scope} {d : Depth} {l : List Tok} {r : Refusal} → NoText Stop s d l r → firstText failure s d l ≡ refuses r

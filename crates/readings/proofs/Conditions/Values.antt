@@ -15,7 +15,7 @@ use Rattle.lists.specs.Bytes.{ascii, sameb}
 use Rattle.lists.proofs.Bytes.{same-is, same-self}
 use Rattle.refusal.specs.declared.Refusal.{Refusal}
 use Rattle.refusal.specs.Answer.{Answer, gives, refuses}
-use Rattle.reference.specs.Number.{digit, number}
+use Rattle.reference.specs.Number.{digit, numeral}
 use Rattle.reference.specs.declared.Number.{Number}
 use Rattle.reference.specs.declared.Number.the-variants.{Value, No}
 use Rattle.readings.specs.Scalar.{booleanOf, digitsOf, minus, positive, negative, integerOf, stringIn}
@@ -60,7 +60,7 @@ no-value e = false-true (ap isValue e)
 
 -- a sign is no digit
 sign : (b : ℕ) (s : List ℕ) {A : Type 0} {n : ℕ} → digit b ≡ 16 → digitsOf (b ∷ s) ≡ Value n → A
-unfolding number
+unfolding numeral
 sign b s p e = no-value (sym (rw p) ∙ e)
 
 digit-plus : (b : ℕ) → b ≡ 43 → digit b ≡ 16

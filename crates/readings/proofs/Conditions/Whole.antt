@@ -14,7 +14,7 @@ use Rattle.refusal.specs.Answer.{Answer, gives, refuses, onward}
 use Rattle.reference.specs.Text.{Out, unescaped}
 use Rattle.reference.specs.Text as text
 use Rattle.reference.proofs.Lenient.{valid-unescapes}
-use Rattle.table.specs.Row.{Name, Tok, start, attr, gt, close, slash, text, misc, bad, rowsOf, toksOf}
+use Rattle.table.specs.Row.{Name, Tok, start, attr, gt, close, slash, text, misc, matter, bad, rowsOf, toksOf}
 use Rattle.xml.specs.declared.Cause.{Cause}
 use Rattle.xml.specs.declared.Drained.{Drained}
 use Rattle.xml.specs.Drain.{drained}
@@ -23,7 +23,7 @@ use Rattle.xml.proofs.Means.{drained-passes-is}
 use Rattle.document.specs.declared.Depth.{Depth}
 use Rattle.document.specs.Reader.{Reader, reader, fresh, depthAfter, Scope, document, isEnd, endsAt, StartEl, blank, Turn, goes, complete, over, turn, Next, found, gone, takeTurn, next}
 use Rattle.document.specs.Scope.{Child, scopeOf, rootOf, onRoot, nextFrom}
-use Rattle.document.specs.Text.{unescapedText, joinTurn, joined, wholeOf}
+use Rattle.document.specs.Text.{unescapedText, textTurn, takeEach, joined, wholeOf}
 use Rattle.readings.specs.Call.{Upload}
 use Rattle.readings.specs.Opening.{present}
 use Rattle.readings.specs.Scalar.{stringIn, passing, wholeText}
@@ -68,7 +68,7 @@ root-rest toks c e t i = go (nextFrom document (fresh toks)) refl e
 
 -- ---- what passes the drain unescapes
 abbrev pub Unescapes : List Tok → Type 0
-Unescapes l = (v : List ℕ) → List·Memᴰ (text v) l → (b : List ℕ) × (unescaped v ≡ text.bytes b)
+Unescapes l = (v : List ℕ) → List·Memᴰ (matter (text v)) l → (b : List ℕ) × (unescaped v ≡ text.bytes b)
 
 member-parts : {t : Tok} {l : List Tok} → List·Memᴰ t l → (a : List Tok) × (b : List Tok) × (l ≡ a ++ (t ∷ b))
 member-parts {t} (List·Memᴰ·head {xs = l} e) = ([], l, ap (λ (x : Tok). x ∷ l) (sym e))
@@ -98,7 +98,7 @@ joined-refused s d (close m ∷ l) u {r} e = go (isEnd s (depthAfter (close m) d
     go true p e ih = given-refused e
     go false p e ih = let w = ih e in (w .0, element-later p (w .1))
 joined-refused s d (slash ∷ l) u e = let w = joined-refused s (depthAfter slash d) l (λ x i. u x (List·Memᴰ·tail i)) e in (w .0, element-later refl (w .1))
-joined-refused s d (text v ∷ l) u {r} e = go (unescaped v) (u v (List·Memᴰ·head refl)) e (λ q. joined-refused s d l (λ x i. u x (List·Memᴰ·tail i)) q)
+joined-refused s d (matter (text v) ∷ l) u {r} e = go (unescaped v) (u v (List·Memᴰ·head refl)) e (λ q. joined-refused s d l (λ x i. u x (List·Memᴰ·tail i)) q)
   where
     more : (a : Answer (List ℕ)) (front : List ℕ) → onward a (λ (rest : List ℕ). gives (front ++ rest)) ≡ refuses r → a ≡ refuses r
     more (gives rest) front e = given-refused e
@@ -106,22 +106,22 @@ joined-refused s d (text v ∷ l) u {r} e = go (unescaped v) (u v (List·Memᴰ�
 
     go : (o : Out) → (b : List ℕ) × (o ≡ text.bytes b) →
         onward (unescapedText o) (λ (front : List ℕ). onward (joined s d l) (λ (rest : List ℕ). gives (front ++ rest))) ≡ refuses r →
-        (joined s d l ≡ refuses r → (r ≡ Refusal.ElementInText) × ElementAhead s d l) → (r ≡ Refusal.ElementInText) × ElementAhead s d (text v ∷ l)
+        (joined s d l ≡ refuses r → (r ≡ Refusal.ElementInText) × ElementAhead s d l) → (r ≡ Refusal.ElementInText) × ElementAhead s d (matter (text v) ∷ l)
     go (text.bytes b) p e ih = let w = ih (more (joined s d l) b e) in (w .0, element-later refl (w .1))
     go (text.bad at) p e ih = not-bytes (p .1)
-joined-refused s d (misc ∷ l) u e = let w = joined-refused s d l (λ x i. u x (List·Memᴰ·tail i)) e in (w .0, element-later refl (w .1))
+joined-refused s d (matter misc ∷ l) u e = let w = joined-refused s d l (λ x i. u x (List·Memᴰ·tail i)) e in (w .0, element-later refl (w .1))
 joined-refused s d (bad ∷ l) u e = let w = joined-refused s d l (λ x i. u x (List·Memᴰ·tail i)) e in (w .0, element-later refl (w .1))
 
 -- a token that is no end hands on the refusal of those after it
-hands-on : (s : Scope) (d : Depth) (t : Tok) (more : Answer (List ℕ)) → ((v : List ℕ) → t ≡ text v → (b : List ℕ) × (unescaped v ≡ text.bytes b)) → endsAt s d t ≡ false →
-    more ≡ refuses Refusal.ElementInText → joinTurn s d t more ≡ refuses Refusal.ElementInText
+hands-on : (s : Scope) (d : Depth) (t : Tok) (more : Answer (List ℕ)) → ((v : List ℕ) → t ≡ matter (text v) → (b : List ℕ) × (unescaped v ≡ text.bytes b)) → endsAt s d t ≡ false →
+    more ≡ refuses Refusal.ElementInText → textTurn takeEach s d t more ≡ refuses Refusal.ElementInText
 hands-on s d (start n) more u e q = refl
 hands-on s d (attr m v) more u e q = q
 hands-on s d gt more u e q = q
 hands-on s d (close m) more u e q = rw e q
 hands-on s d slash more u e q = q
-hands-on s d (text v) more u e q = rw (u v refl .1, q)
-hands-on s d misc more u e q = q
+hands-on s d (matter (text v)) more u e q = rw (u v refl .1, q)
+hands-on s d (matter misc) more u e q = q
 hands-on s d bad more u e q = q
 
 refused-joined : {s : Scope} {d : Depth} {l : List Tok} → Unescapes l → ElementAhead s d l → joined s d l ≡ refuses Refusal.ElementInText
@@ -169,7 +169,7 @@ module _ (u : Upload) (room : ℕ) where
   whole-text-refusal r = (onDrain (drained (u .body) (u .rows) (u .end)) refl, back)
     where
       inner : drained (u .body) (u .rows) (u .end) ≡ Drained.Passes → {c : Child} → root ≡ some c → Unescapes (c .inner .rest)
-      inner p {c} q v i = passed-unescapes u p v (root-rest (toksOf (u .body) (rowsOf (u .rows))) c q (text v) i)
+      inner p {c} q v i = passed-unescapes u p v (root-rest (toksOf (u .body) (rowsOf (u .rows))) c q (matter (text v)) i)
 
       long : {c : Child} {t : List ℕ} → drained (u .body) (u .rows) (u .end) ≡ Drained.Passes → root ≡ some c → wholeOf c ≡ gives t → {q : Refusal} → StringTooLong room t q → WholeRefused q
       long p c w (too-long h) = whole-no-room p c w h

@@ -12,7 +12,7 @@ use Rattle.refusal.specs.Numbers.{number}
 use Rattle.table.specs.Rules.{mostBytes}
 use Rattle.document.specs.Scope.{Piece}
 use Rattle.sheet.specs.Sheet.{mostMembers}
-use Rattle.readings.specs.Output.{Entry, textKind, pieceKind, groupKind, failedKind, Room, Output, written}
+use Rattle.readings.specs.Output.{Entry, textKind, pieceKind, groupKind, failedKind, Room, Output, appended}
 use Rattle.readings.proofs.Plans.Made.{Keeps}
 use Rattle.readings.proofs.Plans.Sources.{Source, of-text, of-failed, of-piece, of-group, of-key-text, of-key-piece, Anything}
 
@@ -100,7 +100,7 @@ module _ (body : List ℕ) where
   abbrev pub FitSource : (ℕ → Entry) → List ℕ → Type 0
   FitSource = Source (λ (i : ℕ). i < mostMembers) (FewBytes mostBytes) Anything (λ (i : ℕ). FewBytes (mostBytes + 17)) (PieceFits body)
 
-  write-fits : (n : ℕ) (out : Output) {entry : ℕ → Entry} {bytes : List ℕ} → FitSource entry bytes → Fits body n out → Fits body (suc n) (written entry bytes out)
+  write-fits : (n : ℕ) (out : Output) {entry : ℕ → Entry} {bytes : List ℕ} → FitSource entry bytes → Fits body n out → Fits body (suc n) (appended entry bytes out)
   write-fits n out (of-text {b = b} m t) w = more n out b _ w (omega (arith, t)) (text-fits _ refl m (omega arith) (omega arith))
   write-fits n out (of-piece m h) w = more n out [] _ w (omega arith) (piece-fits _ refl m (omega arith) h)
   write-fits n out (of-group {b = b} m t) w = more n out b _ w (omega (arith, t)) (group-fits _ refl m (omega arith) (omega arith))

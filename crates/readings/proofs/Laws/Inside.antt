@@ -12,8 +12,8 @@ use Rattle.lists.proofs.Every.{every-snoc}
 use Rattle.lists.specs.Tests.{pick}
 use Rattle.lists.proofs.Tests.{pick-all}
 use Rattle.table.specs.Row.{Row, toksOf}
-use Rattle.table.specs.Rules.{lastPosition}
-use Rattle.table.specs.Piece.{openCount, closing, isClosed}
+use Rattle.table.specs.Rules.{openCount, lastPosition}
+use Rattle.table.specs.Piece.{closing, isClosed}
 use Rattle.table.proofs.Moved.{last-taken}
 use Rattle.table.proofs.Element.{each-take, last-drop}
 use Rattle.document.proofs.Laws.Placed.{Placed}
@@ -41,7 +41,7 @@ root-piece-inside {u} {o = o} w = piece-to-in (w .view) (o .root) (w .root) _ (e
 
     closes : (at .first .position ≤ lastPosition 0 (take (closing 0 (rootRows o)) (rootRows o))) × (lastPosition 0 (take (closing 0 (rootRows o)) (rootRows o)) ≤ length (u .body))
     closes =
-        let k = pick (eqb (openCount 0 (at .first)) 0) 0 (closing (openCount 0 (at .first)) (at .later)) in
+        let k = pick (eqb (openCount 0 (at .first .kind)) 0) 0 (closing (openCount 0 (at .first .kind)) (at .later)) in
         let far = last-drop (o .root .start .row) (w .view .each) 0 (omega arith) in
         let far' : lastPosition (at .first .position) (at .later) ≤ lastPosition 0 (o .seen .rows) = rw (at .at) at far in
         rw (at .at) (last-taken (at .each) k, omega (arith, each-take k (at .each), far', w .view .last, w .view .ends, w .view .within))

@@ -7,7 +7,7 @@ use native.Mathlib.Omega.{arith}
 use lib.ListN.{length}
 use Rattle.lists.proofs.Tests.{pick-cases}
 use Rattle.refusal.specs.declared.Refusal.{Refusal}
-use Rattle.readings.specs.Output.{Entry, Room, Output, nothing, Reading, finished, refused, output, fits, written}
+use Rattle.readings.specs.Output.{Entry, Room, Output, nothing, Reading, finished, refused, output, fits, appended}
 use Rattle.readings.specs.Plan.{Plan, put, end, stop, perform, followedBy, oneByOne, endTest, Whole, allOrNone, thenGroups, performed}
 use Rattle.readings.specs.Demand.{Reaches, here, later}
 
@@ -51,14 +51,14 @@ pub record MadeWhole (W : (ℕ → Entry) → List ℕ → Type 0) (S : Refusal 
 pub record Keeps (room : Room) (W : (ℕ → Entry) → List ℕ → Type 0) (Q : ℕ → Output → Type 0) : Type 0 where
   pub start : Q 0 nothing
   pub idle : (n m : ℕ) (out : Output) → n ≤ m → Q n out → Q m out
-  pub write : (n : ℕ) (out : Output) (entry : ℕ → Entry) (bytes : List ℕ) → W entry bytes → fits room bytes out ≡ true → Q n out → Q (suc n) (written entry bytes out)
+  pub write : (n : ℕ) (out : Output) (entry : ℕ → Entry) (bytes : List ℕ) → W entry bytes → fits room bytes out ≡ true → Q n out → Q (suc n) (appended entry bytes out)
 
 module _ {room : Room} {W : (ℕ → Entry) → List ℕ → Type 0} {S : Refusal → Type 0} {Q : ℕ → Output → Type 0} (k : Keeps room W Q) where
   keeps-on : {n : ℕ} {p : Plan} → Made W S n p → (m : ℕ) (out : Output) → Q m out → Q (m + n) (output (perform room p out))
   unfolding perform
   keeps-on (made-put {n = n} {entry = entry} {bytes = bytes} w t) m out q =
       pick-cases (λ (x : Reading). Q (m + suc n) (output x)) (fits room bytes out) _ _
-      (λ e. k .idle (suc m + n) (m + suc n) _ (omega arith) (keeps-on t (suc m) (written entry bytes out) (k .write m out entry bytes w e q)))
+      (λ e. k .idle (suc m + n) (m + suc n) _ (omega arith) (keeps-on t (suc m) (appended entry bytes out) (k .write m out entry bytes w e q)))
       (λ e. k .idle m (m + suc n) out (omega arith) q)
   keeps-on {n} made-end m out q = k .idle m (m + n) out (omega arith) q
   keeps-on {n} (made-stop s) m out q = k .idle m (m + n) out (omega arith) q

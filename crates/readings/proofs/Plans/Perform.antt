@@ -11,7 +11,7 @@ use lib.ListN.{length, length-append}
 use Rattle.lists.specs.Tests.{pick}
 use Rattle.lists.proofs.Tests.{pick-cases, false-true}
 use Rattle.refusal.specs.declared.Refusal.{Refusal}
-use Rattle.readings.specs.Output.{Entry, Room, Output, nothing, Reading, finished, refused, output, fits, written}
+use Rattle.readings.specs.Output.{Entry, Room, Output, nothing, Reading, finished, refused, output, fits, appended}
 use Rattle.readings.specs.Plan.{Plan, put, end, stop, perform, followedBy, Whole, allOrNone, thenGroups, performed}
 use Rattle.readings.specs.Demand.{Reaches, here, later, Exceeds, too-many, too-long}
 
@@ -28,29 +28,29 @@ pub nothing-within : (room : Room) → Within room nothing
 nothing-within room = record { entries = omega arith; texts = omega arith }
 
 module _ (room : Room) (entry : ℕ → Entry) (bytes : List ℕ) (out : Output) where
-  abbrev more : length (written entry bytes out .entries) ≡ length (out .entries) + 1
+  abbrev more : length (appended entry bytes out .entries) ≡ length (out .entries) + 1
   more = length-append (out .entries) (entry (length (out .texts)) ∷ [])
 
-  abbrev longer : length (written entry bytes out .texts) ≡ length (out .texts) + length bytes
+  abbrev longer : length (appended entry bytes out .texts) ≡ length (out .texts) + length bytes
   longer = length-append (out .texts) bytes
 
-  pub written-within : fits room bytes out ≡ true → Within room (written entry bytes out)
+  pub written-within : fits room bytes out ≡ true → Within room (appended entry bytes out)
   written-within e = go (ltb (length (out .entries)) (room .entries)) refl e
     where
       go : (t : Bool) → ltb (length (out .entries)) (room .entries) ≡ t → pick t (leb (length (out .texts) + length bytes) (room .bytes)) false ≡ true
-          → Within room (written entry bytes out)
+          → Within room (appended entry bytes out)
       go true p e = record { entries = omega (arith, more, ltb-true (length (out .entries)) (room .entries) p); texts = omega (arith, longer, leb-true (length (out .texts) + length bytes) (room .bytes) e) }
       go false p e = false-true e
 
-  pub written-exceeds : fits room bytes out ≡ false → Exceeds room (written entry bytes out)
+  pub written-exceeds : fits room bytes out ≡ false → Exceeds room (appended entry bytes out)
   written-exceeds e = go (ltb (length (out .entries)) (room .entries)) refl e
     where
       go : (t : Bool) → ltb (length (out .entries)) (room .entries) ≡ t → pick t (leb (length (out .texts) + length bytes) (room .bytes)) false ≡ false
-          → Exceeds room (written entry bytes out)
+          → Exceeds room (appended entry bytes out)
       go true p e = too-long (omega (arith, longer, leb-false (length (out .texts) + length bytes) (room .bytes) e))
       go false p e = too-many (omega (arith, more, ltb-false (length (out .entries)) (room .entries) p))
 
-  pub within-fits : Within room (written entry bytes out) → fits room bytes out ≡ true
+  pub within-fits : Within room (appended entry bytes out) → fits room bytes out ≡ true
   within-fits w = go (fits room bytes out) refl
     where
       go : (t : Bool) → fits room bytes out ≡ t → t ≡ true
@@ -64,7 +64,7 @@ andThen (refused r out) f = refused r out
 
 pub perform-followed : (room : Room) (p q : Plan) (out : Output) → perform room (followedBy p q) out ≡ andThen (perform room p out) (perform room q)
 unfolding perform followedBy
-perform-followed room (put entry bytes p) q out = go (fits room bytes out) _ (perform-followed room p q (written entry bytes out))
+perform-followed room (put entry bytes p) q out = go (fits room bytes out) _ (perform-followed room p q (appended entry bytes out))
   where
     go : (t : Bool) {x : Reading} (y : Reading) → x ≡ andThen y (perform room q) → pick t x (refused Refusal.NoRoom out) ≡ andThen (pick t y (refused Refusal.NoRoom out)) (perform room q)
     go true y e = e
@@ -77,15 +77,15 @@ pub data Ended (room : Room) (p : Plan) (out : Output) : Reading → Type 0 wher
   all-done : {last : Output} → Reaches p out end last → Within room last → Ended room p out (finished last)
   at-stop : {r : Refusal} {last : Output} → Reaches p out (stop r) last → Within room last → Ended room p out (refused r last)
   no-room : {entry : ℕ → Entry} {bytes : List ℕ} {q : Plan} {last : Output} → Reaches p out (put entry bytes q) last → Within room last
-      → Exceeds room (written entry bytes last) → Ended room p out (refused Refusal.NoRoom last)
+      → Exceeds room (appended entry bytes last) → Ended room p out (refused Refusal.NoRoom last)
 
 pub perform-ended : (room : Room) (p : Plan) (out : Output) → Within room out → Ended room p out (perform room p out)
 unfolding perform
 perform-ended room (put entry bytes p) out w =
     pick-cases (Ended room (put entry bytes p) out) (fits room bytes out) _ _
-    (λ e. go (perform-ended room p (written entry bytes out) (written-within room entry bytes out e))) (λ e. no-room here w (written-exceeds room entry bytes out e))
+    (λ e. go (perform-ended room p (appended entry bytes out) (written-within room entry bytes out e))) (λ e. no-room here w (written-exceeds room entry bytes out e))
   where
-    go : {x : Reading} → Ended room p (written entry bytes out) x → Ended room (put entry bytes p) out x
+    go : {x : Reading} → Ended room p (appended entry bytes out) x → Ended room (put entry bytes p) out x
     go (all-done t h) = all-done (later t) h
     go (at-stop t h) = at-stop (later t) h
     go (no-room t h f) = no-room (later t) h f

@@ -1,3 +1,4 @@
+-- `n` counts the hits among the first k bytes, so it stays below 256, and while it is 0 none of them is the byte.
 use Prim.Native.Nat.{_-_}
 use lib.ListN.{length}
 use Rattle.slices.proofs.Scan.{BlockAt, scan-laws}

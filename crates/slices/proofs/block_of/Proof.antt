@@ -1,3 +1,4 @@
+-- The first k bytes of the array are those of the slice.
 use Rattle.slices.proofs.Copy.{LoadAt, load-laws}
 use Prim.Native.Nat.{_-_}
 use Rattle.slices.proofs.block_of.Statement.{statement}

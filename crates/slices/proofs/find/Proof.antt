@@ -1,3 +1,4 @@
+-- Either the first block has the byte and its first hit is the answer, or the answer is that of what follows it.
 use Rattle.slices.proofs.Scan.{later-laws}
 use borrow.Author.Needs.{needs}
 use Rattle.slices.proofs.find.Statement.{statement}

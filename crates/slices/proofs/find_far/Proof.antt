@@ -1,3 +1,4 @@
+-- The byte does not stand before the block come to; a hit in it is the first, and without one the search goes on from there.
 use Rattle.slices.proofs.Scan.{later-laws}
 use borrow.Author.Needs.{needs}
 use Rattle.slices.proofs.find_far.Statement.{statement}

@@ -1,3 +1,4 @@
+-- From the start up to i the byte does not stand, so the place where it is met is the first.
 use Rattle.slices.proofs.Scan.{scan-laws}
 use Rattle.lists.specs.Find.{Clear}
 use Prim.Native.Nat.{_-_}

@@ -1,3 +1,4 @@
+-- The blocks before i do not have the byte, so a hit in the next is the first; the last bytes are searched singly.
 use Rattle.slices.proofs.Scan.{later-laws}
 use Rattle.lists.specs.Find.{Clear}
 use Prim.Native.Nat.{_-_}

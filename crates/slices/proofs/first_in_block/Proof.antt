@@ -1,3 +1,4 @@
+-- `first` is the first hit among the first k bytes, or 255, which is no place of so short a block.
 use Prim.Native.Nat.{_-_}
 use lib.ListN.{length}
 use Rattle.slices.proofs.Scan.{FirstAt, first-laws}

@@ -1,3 +1,4 @@
+-- By whether the byte is the one looked for.
 use Rattle.lists.proofs.Tests.{tests}
 use Rattle.slices.proofs.hit.Statement.{statement}
 use Rattle.slices.proofs.hit.Tie as tie

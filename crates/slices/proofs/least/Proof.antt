@@ -1,3 +1,4 @@
+-- By which of the two is smaller.
 use Rattle.lists.proofs.Tests.{tests}
 use Rattle.slices.proofs.least.Statement.{statement}
 use Rattle.slices.proofs.least.Tie as tie

@@ -1,3 +1,4 @@
+-- The blocks before i do not have the byte, and no more than that is promised.
 use Prim.Native.Nat.{_-_}
 use lib.ListN.{length}
 use Rattle.lists.specs.Find.{Clear}

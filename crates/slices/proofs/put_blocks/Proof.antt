@@ -1,3 +1,4 @@
+-- The first k bytes are stored; the last block stores some of them again, with the same bytes.
 use borrow.Author.Needs.{needs}
 use Rattle.slices.proofs.Copy.{CopyAt, copy-block, copy-laws}
 use Prim.Native.Nat.{_-_}

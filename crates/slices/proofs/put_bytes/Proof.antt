@@ -1,3 +1,4 @@
+-- The first k bytes are stored from the place on, and all else is as it was.
 use Prim.Native.Nat.{_-_}
 use lib.ListN.{length}
 use Rattle.slices.proofs.Copy.{CopyAt, copy-laws}

@@ -1,3 +1,4 @@
+-- What was compared so far is the same, so the slices are the same exactly where the rests are.
 use Prim.Native.Nat.{_-_}
 use lib.ListN.{length}
 use Rattle.slices.proofs.Comparing.{SameAt, same-laws}

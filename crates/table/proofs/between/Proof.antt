@@ -1,3 +1,4 @@
+-- Too early, too late, or in time; then its length must fit into what is left up to the end.
 use Rattle.table.proofs.SpanLaws.{between-laws}
 use Rattle.table.proofs.between.Statement.{statement}
 use Rattle.table.proofs.between.Tie as tie

@@ -1,3 +1,4 @@
+-- A start and a close tag must begin in time and then end rightly; of all other kinds only the end is asked.
 use Rattle.table.proofs.ByteLaws.{bytes-laws}
 use borrow.Author.Needs.{needs}
 use Rattle.table.proofs.bytes.Statement.{statement}

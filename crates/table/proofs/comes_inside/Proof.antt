@@ -1,3 +1,4 @@
+-- The four kinds that may follow a start, in the order of the list.
 use Rattle.table.proofs.SpanLaws.{kinds}
 use Rattle.table.proofs.comes_inside.Statement.{statement}
 use Rattle.table.proofs.comes_inside.Tie as tie

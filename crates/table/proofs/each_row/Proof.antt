@@ -1,3 +1,4 @@
+-- The rows before k obey the rules, so all do exactly where those from k on do, from the place come to so far.
 use Prim.Native.Nat.{_-_}
 use Rattle.table.specs.Order.{place}
 use Rattle.table.proofs.Pass.{Walking, walk-laws}
@@ -5,7 +6,7 @@ use Rattle.table.proofs.each_row.Statement.{statement}
 use Rattle.table.proofs.each_row.Tie as tie
 
 abbrev Inv-loop : tie.InvT-loop
-Inv-loop body rows n last p₀ k₀ p k = Walking body last rows n k (place (p .position) (p .in_tag) (p .opened) (p .rooted))
+Inv-loop body rows n last p₀ k₀ p k = Walking body last rows n k (place (p .position) (p .in_tag) (p .nesting) (p .rooted))
 
 abbrev μ-loop : tie.MeasureT-loop
 μ-loop body rows n last p₀ k₀ p k = n - k

@@ -1,3 +1,4 @@
+-- Only `>`, a close tag and `/>` have an end to obey; where the bytes for it do not stand before the position it is no.
 use Rattle.table.proofs.ByteLaws.{ends-laws}
 use borrow.Author.Needs.{needs}
 use Rattle.table.proofs.ending.Statement.{statement}

@@ -1,3 +1,4 @@
+-- From i up to the place no `<` stands, so the first one met on the way back is the last.
 use Rattle.table.proofs.ByteLaws.{BackAt, back-laws}
 use Rattle.table.proofs.last_lt.Statement.{statement}
 use Rattle.table.proofs.last_lt.Tie as tie

@@ -1,3 +1,4 @@
+-- Unused it must be 0 and 0; used it must lie between, which an empty one obeys by its start.
 use Rattle.table.proofs.SpanLaws.{local-laws}
 use borrow.Author.Needs.{needs}
 use Rattle.table.proofs.local_span.Statement.{statement}

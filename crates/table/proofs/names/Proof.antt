@@ -1,3 +1,4 @@
+-- The rule is two, on the local name and on the prefix; where the first holds the second decides.
 use Rattle.table.proofs.SpanLaws.{spans-laws}
 use borrow.Author.Needs.{needs}
 use Rattle.table.proofs.names.Statement.{statement}

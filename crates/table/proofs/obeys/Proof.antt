@@ -1,3 +1,4 @@
+-- Each no is a rule that is broken; within the limits an empty table obeys, and of any other UTF-8 and the rows decide.
 use Rattle.table.proofs.Pass.{obeys-laws}
 use borrow.Author.Needs.{needs}
 use Rattle.table.proofs.obeys.Statement.{statement}

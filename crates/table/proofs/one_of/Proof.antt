@@ -1,3 +1,4 @@
+-- One test for each of the two kinds.
 use Rattle.table.proofs.SpanLaws.{kinds}
 use Rattle.table.proofs.one_of.Statement.{statement}
 use Rattle.table.proofs.one_of.Tie as tie

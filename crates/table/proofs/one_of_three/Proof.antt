@@ -1,3 +1,4 @@
+-- One test for each of the three kinds.
 use Rattle.table.proofs.SpanLaws.{kinds}
 use Rattle.table.proofs.one_of_three.Statement.{statement}
 use Rattle.table.proofs.one_of_three.Tie as tie

@@ -1,3 +1,4 @@
+-- With none open close tags and texts are out, and after the root all but two kinds; with one open only a start is limited.
 use Rattle.table.proofs.OrderLaws.{order-laws}
 use borrow.Author.Needs.{needs}
 use Rattle.table.proofs.open_order.Statement.{statement}

@@ -1,3 +1,4 @@
+-- A no breaks one rule of order; past all of them only a token error has one more, that no row is left.
 use Rattle.table.proofs.OrderLaws.{order-laws}
 use borrow.Author.Needs.{needs}
 use Rattle.table.proofs.order.Statement.{statement}

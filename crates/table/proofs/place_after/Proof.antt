@@ -1,3 +1,4 @@
+-- A start, `>`, a close tag and `/>` change what is open, each in its way; any other kind changes the position alone.
 use Rattle.table.proofs.OrderLaws.{step-laws}
 use borrow.Author.Needs.{needs}
 use Rattle.table.proofs.place_after.Statement.{statement}
@@ -12,14 +13,14 @@ returns c = search step-laws
 returns-2 : tie.Need-returns-2
 returns-2 c = search step-laws
 
-less-requires : tie.Need-less-requires
-less-requires c κs = search needs
+one-less-requires : tie.Need-one-less-requires
+one-less-requires c κs = search needs
 
 returns-3 : tie.Need-returns-3
 returns-3 c = search step-laws
 
-less-requires-2 : tie.Need-less-requires-2
-less-requires-2 c κs = search needs
+one-less-requires-2 : tie.Need-one-less-requires-2
+one-less-requires-2 c κs = search needs
 
 returns-4 : tie.Need-returns-4
 returns-4 c = search step-laws
@@ -30,4 +31,4 @@ returns-5 c = search step-laws
 pub place-after-spec : {M : Type 1} → statement M
 place-after-spec =
     tie.close
-    (tie.spec add-q returns returns-2 less-requires returns-3 less-requires-2 returns-4 returns-5)
+    (tie.spec add-q returns returns-2 one-less-requires returns-3 one-less-requires-2 returns-4 returns-5)

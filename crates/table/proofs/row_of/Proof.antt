@@ -1,3 +1,4 @@
+-- Position, spans, bytes and order are all the rules of a row; once the spans hold, what is read lies in the body.
 use Rattle.table.proofs.Pass.{row-laws}
 use borrow.Author.Needs.{needs}
 use Rattle.table.proofs.row_of.Statement.{statement}

@@ -1,3 +1,4 @@
+-- An empty one must start at 0; a filled one must be used and lie between the two positions.
 use Rattle.table.proofs.SpanLaws.{span-laws}
 use borrow.Author.Needs.{needs}
 use Rattle.table.proofs.span.Statement.{statement}

@@ -1,3 +1,4 @@
+-- Its start and length are the two numbers of the row, so the rule on them is the rule on the row.
 use Rattle.table.proofs.SpanLaws.{spans-laws}
 use borrow.Author.Needs.{needs}
 use Rattle.table.proofs.span_at.Statement.{statement}

@@ -1,3 +1,4 @@
+-- Names where the kind has them and a value where it has one are all the spans of a row.
 use Rattle.table.proofs.SpanLaws.{spans-laws}
 use borrow.Author.Needs.{needs}
 use Rattle.table.proofs.spans.Statement.{statement}

@@ -1,3 +1,4 @@
+-- The kind and the position are numbers of the row, so the place after them is the place after the row.
 use Rattle.table.proofs.Pass.{at-laws}
 use borrow.Author.Needs.{needs}
 use Rattle.table.proofs.step.Statement.{statement}

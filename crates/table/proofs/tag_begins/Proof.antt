@@ -1,3 +1,4 @@
+-- Where the search finds no `<` there is none in time; one it finds is the last, and a filled prefix must follow it.
 use Rattle.table.proofs.ByteLaws.{begins-laws}
 use borrow.Author.Needs.{needs}
 use Rattle.table.proofs.tag_begins.Statement.{statement}

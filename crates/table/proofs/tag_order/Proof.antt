@@ -1,3 +1,4 @@
+-- In a start tag only its four kinds may come; outside all but the three that need one.
 use Rattle.table.proofs.OrderLaws.{order-laws}
 use borrow.Author.Needs.{needs}
 use Rattle.table.proofs.tag_order.Statement.{statement}

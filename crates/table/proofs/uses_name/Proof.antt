@@ -1,3 +1,4 @@
+-- The three kinds that have a name: start, attribute and close tag.
 use Rattle.table.proofs.SpanLaws.{kinds}
 use Rattle.table.proofs.uses_name.Statement.{statement}
 use Rattle.table.proofs.uses_name.Tie as tie

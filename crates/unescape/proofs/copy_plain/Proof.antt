@@ -1,3 +1,4 @@
+-- A text without `&` unescapes to itself, so it is copied where it fits; where it does not, nothing is written.
 use Rattle.unescape.proofs.Filling.{plain-laws}
 use borrow.Author.Needs.{needs}
 use Rattle.unescape.proofs.copy_plain.Statement.{statement}

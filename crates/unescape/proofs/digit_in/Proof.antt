@@ -1,3 +1,4 @@
+-- Below the range, in it, and above it.
 use Rattle.lists.proofs.Tests.{tests}
 use borrow.Author.Needs.{needs}
 use Rattle.unescape.proofs.digit_in.Statement.{statement}

@@ -1,3 +1,4 @@
+-- The three ranges of the definition from the innermost outwards: each is the other value of the next.
 use Rattle.reference.specs.Number.{digit}
 use borrow.Author.Needs.{needs}
 use Rattle.unescape.proofs.digit_of.Statement.{statement}

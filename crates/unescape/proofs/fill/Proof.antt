@@ -1,3 +1,4 @@
+-- The text before i stands unescaped at the front; the whole has room, so each front of it has.
 use Rattle.lists.specs.Find.{Clear}
 use Prim.Native.Nat.{_-_}
 use lib.ListN.{length}

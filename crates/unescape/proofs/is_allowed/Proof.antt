@@ -1,3 +1,4 @@
+-- By strictness: what XML allows, or every scalar value.
 use borrow.Author.Needs.{needs}
 use Rattle.reference.specs.Entity.{allowed}
 use Rattle.lists.proofs.Tests.{tests}

@@ -1,3 +1,4 @@
+-- The text before i comes to `size` bytes, at most i; from `seek` up to i no `&` stands, so none is missed.
 use Rattle.lists.specs.Find.{Clear}
 use Prim.Native.Nat.{_-_}
 use lib.ListN.{length}

@@ -1,3 +1,4 @@
+-- Bytes are below 256, so two numbers made of them are equal just where the bytes are; no name needs a sixth.
 use Rattle.unescape.proofs.Parse.{name-laws}
 use borrow.Author.Needs.{needs}
 use Rattle.unescape.proofs.name_at.Statement.{statement}

@@ -1,3 +1,4 @@
+-- Codes are below 256, so the number gives back code and length, and only a bad reference is 0.
 use Rattle.unescape.proofs.Parse.{packed-laws}
 use borrow.Author.Needs.{needs}
 use Rattle.unescape.proofs.named_at.Statement.{statement}

@@ -1,3 +1,4 @@
+-- Five names in the definition's order; what begins with none of them is bad.
 use Rattle.lists.proofs.Tests.{flags}
 use Rattle.unescape.specs.Parse.{namedRef}
 use borrow.Author.Needs.{needs}

@@ -1,3 +1,4 @@
+-- Neither `#` nor `x` nor `+` ends a reference, so the digits after them end where the whole does.
 use Rattle.unescape.proofs.Parse.{numeric-laws}
 use borrow.Author.Needs.{needs}
 use Rattle.unescape.proofs.numeric_at.Statement.{statement}

@@ -1,3 +1,4 @@
+-- A character that is allowed stays; one that is not is bad, as what was bad before.
 use Rattle.unescape.proofs.Parse.{only-laws}
 use borrow.Author.Needs.{needs}
 use Rattle.unescape.proofs.only_allowed.Statement.{statement}

@@ -1,3 +1,4 @@
+-- A `+` is passed only where it may stand; otherwise the digits begin right here, also at the end of the text.
 use Rattle.unescape.proofs.Parse.{sign-laws}
 use borrow.Author.Needs.{needs}
 use Rattle.unescape.proofs.past_sign.Statement.{statement}

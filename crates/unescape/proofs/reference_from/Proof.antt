@@ -1,3 +1,4 @@
+-- At the end there is none; behind `#` stands no name, and without it no number.
 use Rattle.unescape.proofs.Parse.{reference-laws}
 use borrow.Author.Needs.{needs}
 use Rattle.unescape.proofs.reference_from.Statement.{statement}

@@ -1,3 +1,4 @@
+-- What was measured is the length of the whole, so whether it fits is known before a byte is written.
 use Rattle.unescape.proofs.Filling.{answer-laws}
 use borrow.Author.Needs.{needs}
 use Rattle.unescape.proofs.replace.Statement.{statement}

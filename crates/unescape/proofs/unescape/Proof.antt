@@ -1,3 +1,4 @@
+-- Both ways promise the same; the copy asks that no `&` stands in the text, and the search has found that.
 use Rattle.unescape.proofs.Filling.{plain-laws}
 use borrow.Author.Needs.{needs}
 use Rattle.unescape.proofs.unescape.Statement.{statement}

@@ -1,3 +1,4 @@
+-- Every reference before i is right, and from `seek` up to i no `&` stands, so the next found is the next to test.
 use Rattle.lists.specs.Find.{Clear}
 use Prim.Native.Nat.{_-_}
 use lib.ListN.{length}

@@ -1,3 +1,4 @@
+-- By whether the two numbers are equal.
 use Rattle.lists.proofs.Tests.{tests}
 use Rattle.unescape.proofs.when.Statement.{statement}
 use Rattle.unescape.proofs.when.Tie as tie

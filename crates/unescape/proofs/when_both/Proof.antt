@@ -1,3 +1,4 @@
+-- Where the first two agree the second two decide; else it is the other value.
 use Rattle.lists.proofs.Tests.{flags}
 use borrow.Author.Needs.{needs}
 use Rattle.unescape.proofs.when_both.Statement.{statement}

@@ -1,3 +1,4 @@
+-- Of the first k bytes none is above `most`, so where that is ASCII all are.
 use Prim.Native.Nat.{_-_}
 use mathlib.Core.Logic.{⊎-elim}
 use Rattle.utf8.proofs.Scan.{BlockAt, block-laws}

@@ -1,3 +1,4 @@
+-- Each first byte stands in one row of the table or in none; what that row asks of the bytes after it decides.
 use Rattle.utf8.proofs.Scan.{char-laws}
 use Rattle.utf8.proofs.char_len.Statement.{statement}
 use Rattle.utf8.proofs.char_len.Tie as tie

@@ -1,3 +1,4 @@
+-- The four rows of the table of encodings, by their bounds.
 use Rattle.utf8.specs.Encode.{encode}
 use Rattle.lists.proofs.Tests.{tests}
 use Rattle.utf8.proofs.encoded_len.Statement.{statement}

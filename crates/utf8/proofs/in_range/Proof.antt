@@ -1,3 +1,4 @@
+-- The text ends before the byte, or it is below or above, and then the walk fails; else it is in the range.
 use Rattle.utf8.proofs.Scan.{byte-laws}
 use Rattle.utf8.proofs.in_range.Statement.{statement}
 use Rattle.utf8.proofs.in_range.Tie as tie

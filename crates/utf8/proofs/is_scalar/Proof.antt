@@ -1,3 +1,4 @@
+-- Up to D7FF, the surrogates, and what follows them up to 10FFFF.
 use Rattle.utf8.specs.Encode.{scalar}
 use Rattle.lists.proofs.Tests.{tests}
 use Rattle.utf8.proofs.is_scalar.Statement.{statement}

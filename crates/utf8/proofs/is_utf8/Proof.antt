@@ -1,3 +1,4 @@
+-- The bytes before i are whole characters, so the walk from i on decides for all of them.
 use Prim.Native.Nat.{_-_}
 use lib.ListN.{length}
 use Rattle.utf8.proofs.Scan.{TextAt, text-laws}

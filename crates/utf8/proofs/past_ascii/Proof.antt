@@ -1,3 +1,4 @@
+-- After each ASCII byte the walk begins anew, so from i on it ends as it does from the start.
 use Prim.Native.Nat.{_-_}
 use lib.ListN.{length}
 use Rattle.utf8.specs.Scan.{Run}

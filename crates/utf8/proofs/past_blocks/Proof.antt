@@ -1,3 +1,4 @@
+-- All 32 bytes of each block before i are ASCII, and after such a byte the walk begins anew.
 use Prim.Native.Nat.{_-_}
 use lib.ListN.{length}
 use Rattle.utf8.specs.Scan.{Run}

@@ -1,3 +1,4 @@
+-- At the end and at a byte above ASCII the run is empty; otherwise it is the run of ASCII bytes from here.
 use Rattle.utf8.proofs.Scan.{run-laws}
 use Rattle.utf8.proofs.past_run.Statement.{statement}
 use Rattle.utf8.proofs.past_run.Tie as tie

@@ -1,3 +1,4 @@
+-- By the four rows of the table of encodings; each number fits a byte, and the row's length says that there is room.
 use borrow.Author.Needs.{needs}
 use lib.ListN.{length-set}
 use Rattle.utf8.proofs.Store.{put-laws, room-1, room-2, room-3, room-4}

@@ -1,3 +1,4 @@
+-- Without the first byte the walk fails; with it the two after it decide.
 use Rattle.utf8.proofs.Scan.{byte-laws}
 use Rattle.utf8.proofs.three_in_range.Statement.{statement}
 use Rattle.utf8.proofs.three_in_range.Tie as tie

@@ -1,3 +1,4 @@
+-- What is compared is the name the sheet has for values, or `value` where it has none.
 use Rattle.codec.proofs.Collections.{collection-laws}
 use borrow.Author.Needs.{needs}
 use Rattle.codec.proofs.collection.is_value.Statement.{statement}

@@ -1,3 +1,4 @@
+-- Fields ok, bits that agree, nothing after the last field: the definition's three tests, and all must hold.
 use Rattle.codec.proofs.Collections.{whole-laws}
 use borrow.Author.Needs.{needs}
 use Rattle.codec.proofs.collection.is_whole.Statement.{statement}

@@ -1,3 +1,4 @@
+-- Its own name lies in the sheet; where there is none, `member` is lent, as the definition says.
 use Rattle.codec.proofs.Collections.{collection-laws}
 use borrow.Author.Needs.{needs}
 use Rattle.codec.proofs.collection.item_name.Statement.{statement}

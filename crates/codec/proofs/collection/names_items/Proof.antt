@@ -1,3 +1,4 @@
+-- Lenient settings and flattened lists ask for no name; any other list asks for one if it has a member.
 use Rattle.codec.proofs.Collections.{collection-laws}
 use Rattle.codec.proofs.collection.names_items.Statement.{statement}
 use Rattle.codec.proofs.collection.names_items.Tie as tie

@@ -1,3 +1,4 @@
+-- The sheet is made of the fields that were read, and ok is all of its tests, so it fails just where the sheet does.
 use Rattle.codec.proofs.Collections.{collection-laws}
 use borrow.Author.Needs.{needs}
 use Rattle.codec.proofs.collection.parse_list.Statement.{statement}

@@ -1,3 +1,4 @@
+-- Made of its fields as a list is; the bits allow no value's name and no aggregate where there is no value.
 use Rattle.codec.proofs.Collections.{collection-laws}
 use borrow.Author.Needs.{needs}
 use Rattle.codec.proofs.collection.parse_map.Statement.{statement}

@@ -1,3 +1,4 @@
+-- With the third bit both may stand; without it neither may.
 use Rattle.codec.proofs.Collections.{whole-laws}
 use borrow.Author.Needs.{needs}
 use Rattle.codec.proofs.collection.with_third.Statement.{statement}

@@ -1,3 +1,4 @@
+-- The name lies in the sheet, so its end is a place in it, and from start to end is just the name.
 use Rattle.codec.proofs.Names.{name-laws}
 use borrow.Author.Needs.{needs}
 use Rattle.codec.proofs.field.bytes_at.Statement.{statement}

@@ -1,3 +1,4 @@
+-- Past the end no bit map stands; elsewhere its bits say which names follow, and all is ok where both parts are.
 use Rattle.codec.proofs.Bits.{bit-laws}
 use borrow.Author.Needs.{needs}
 use Rattle.codec.proofs.field.fields_at.Statement.{statement}

@@ -1,3 +1,4 @@
+-- Without its bit there is no name; with it a length of 0 means broken, and any other ends in the sheet.
 use Rattle.codec.proofs.Names.{name-laws}
 use borrow.Author.Needs.{needs}
 use Rattle.codec.proofs.field.name_if.Statement.{statement}

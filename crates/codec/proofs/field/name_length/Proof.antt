@@ -1,3 +1,4 @@
+-- A name needs its length byte and so many bytes after it; where they lack, 0 says so, which is no name's length.
 use Rattle.codec.proofs.Names.{name-laws}
 use borrow.Author.Needs.{needs}
 use Rattle.codec.proofs.field.name_length.Statement.{statement}

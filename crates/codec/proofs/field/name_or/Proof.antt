@@ -1,3 +1,4 @@
+-- A name of length 0 is none, so what is given stands in; any other name has its own bytes.
 use Rattle.codec.proofs.Names.{name-laws}
 use borrow.Author.Needs.{needs}
 use Rattle.codec.proofs.field.name_or.Statement.{statement}

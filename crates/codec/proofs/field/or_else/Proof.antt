@@ -1,3 +1,4 @@
+-- A name of length 0 is none, so the second counts; whichever it is lies where both lie.
 use Rattle.codec.proofs.Names.{name-laws}
 use Rattle.codec.proofs.field.or_else.Statement.{statement}
 use Rattle.codec.proofs.field.or_else.Tie as tie

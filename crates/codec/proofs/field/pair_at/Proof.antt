@@ -1,3 +1,4 @@
+-- The second name is read where the first ends, so the two are ok where each is.
 use Rattle.codec.proofs.Names.{name-laws}
 use borrow.Author.Needs.{needs}
 use Rattle.codec.proofs.field.pair_at.Statement.{statement}

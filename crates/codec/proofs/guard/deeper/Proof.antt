@@ -1,3 +1,4 @@
+-- At or above the maximum the depth stays; below it one more is at most the maximum, and fits.
 use Rattle.lists.proofs.Tests.{tests}
 use borrow.Author.Needs.{needs}
 use Rattle.codec.proofs.guard.deeper.Statement.{statement}

@@ -43,7 +43,7 @@ use denote.Triple.Walked.{says, Stays, stay-none, walkOf, goes-none, Walks, ends
 use denote.Triple.Clauses.{ensured, lasts}
 use denote.Exit.{yes}
 use Rattle.codec.specs.declared.guard.Guard.{Guard}
-use Rattle.codec.specs.Guard.{refuses, entered as enteredGuard}
+use Rattle.codec.specs.Guard.{atMaximum, entered as enteredGuard}
 use Rattle.codec.proofs.Lent.{lies, back}
 use Rattle.codec.proofs.guard.Guard as T
 use Rattle.codec.proofs.guard.Guard.Laws as T′
@@ -125,9 +125,9 @@ module _ {M : Type 1} (𝓤 : URA M) (H : Heap 𝓤) (A : Atoms 𝓤) (W : Given
           -- what `enter_aggregate` ensures, at some last guard
           split ! $ move ! (1 ∷ []) $
           use1 W (some (λ (zs : Guard × Unit {0}). ‵ (lasts aggregate.ended (α ∷ [], tt) (ref l₃ δ, tt) zs) ⊛ raw (fact 𝓤 ((t
-          ≡ not (refuses g)) × (zs .0 ≡ enteredGuard g))))) (id⊢ 𝓤 _) $ pick ! (λ zs.
+          ≡ not (atMaximum g)) × (zs .0 ≡ enteredGuard g))))) (id⊢ 𝓤 _) $ pick ! (λ zs.
           split ! $ move ! (1 ∷ []) $
-          heard ! ((t ≡ not (refuses g)) × (zs .0 ≡ enteredGuard g)) (λ e. fsplit ! $ move ! (2 ∷ []) $ split ! $ move ! (1 ∷ []) $
+          heard ! ((t ≡ not (atMaximum g)) × (zs .0 ≡ enteredGuard g)) (λ e. fsplit ! $ move ! (2 ∷ []) $ split ! $ move ! (1 ∷ []) $
           -- [the result; the token; the last guard; …; the lender's part; _4; …; …; _2; …; _1; …; room for _0; …]
           peeks ! bool (Is bool) (shows 𝓤 H A bool) t (v ∷ []) (λ is.
           land ! (from ! (stop !)) (init ! 12 refl (bool-lawful 𝓤 H A W .typed t _ is .0)) $

@@ -1,3 +1,4 @@
+-- Member i's numbers stand for what the sheet says, so its name lies there; a name of length 0 is empty.
 use Rattle.codec.proofs.Resolving.{member-laws}
 use borrow.Author.Needs.{needs}
 use Rattle.codec.proofs.structure.attribute_name.Statement.{statement}

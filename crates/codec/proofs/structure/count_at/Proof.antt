@@ -1,3 +1,4 @@
+-- No byte, or one above 64, is no count; any other is, and the place after it is still in the sheet.
 use Rattle.codec.proofs.Heads.{head-laws}
 use borrow.Author.Needs.{needs}
 use Rattle.codec.proofs.structure.count_at.Statement.{statement}

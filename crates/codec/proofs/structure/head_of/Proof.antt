@@ -1,3 +1,4 @@
+-- Bit map and names stand one after another as the definition reads them, and each ends within the sheet.
 use Rattle.codec.proofs.Heads.{head-laws}
 use borrow.Author.Needs.{needs}
 use Rattle.codec.proofs.structure.head_of.Statement.{statement}

@@ -1,3 +1,4 @@
+-- A member without a name matches nothing; otherwise the bytes of its name decide.
 use Rattle.codec.proofs.Resolving.{member-laws}
 use borrow.Author.Needs.{needs}
 use Rattle.codec.proofs.structure.is_member.Statement.{statement}

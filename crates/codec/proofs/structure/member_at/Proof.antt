@@ -1,3 +1,4 @@
+-- Its three numbers are in the array; the flags are bits of the first, the name is the other two.
 use Rattle.codec.proofs.Resolving.{member-laws}
 use borrow.Author.Needs.{needs}
 use Rattle.codec.proofs.structure.member_at.Statement.{statement}

@@ -1,3 +1,4 @@
+-- The members before k are stored; with those that the sheet has from `next` on they are the whole list.
 use Prim.Native.Nat.{_-_}
 use Rattle.codec.proofs.Members.{reading-laws, Reading}
 use Rattle.codec.proofs.structure.members_at.Statement.{statement}

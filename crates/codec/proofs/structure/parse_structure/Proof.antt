@@ -1,3 +1,4 @@
+-- The members follow the head; ok is that both are and nothing comes after, which is what the sheet asks.
 use Rattle.codec.proofs.Structures.{structure-laws}
 use borrow.Author.Needs.{needs}
 use Rattle.codec.proofs.structure.parse_structure.Statement.{statement}

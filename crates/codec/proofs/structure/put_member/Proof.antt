@@ -1,3 +1,4 @@
+-- The array has place for member k and 32 bits hold its numbers, so three stores make the three.
 use Rattle.codec.proofs.Members.{reading-laws}
 use borrow.Author.Needs.{needs}
 use Rattle.codec.proofs.structure.put_member.Statement.{statement}

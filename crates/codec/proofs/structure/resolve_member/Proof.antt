@@ -1,3 +1,4 @@
+-- No member before i has the name, so what the others resolve it to is what all do.
 use Prim.Native.Nat.{_-_}
 use Rattle.codec.proofs.Resolving.{looking-laws, Looking}
 use Rattle.codec.proofs.structure.resolve_member.Statement.{statement}

@@ -1,3 +1,4 @@
+-- A sheet that was read keeps the place of its root's name, which lies in the sheet.
 use Rattle.codec.proofs.Structures.{structure-laws}
 use borrow.Author.Needs.{needs}
 use Rattle.codec.proofs.structure.root_name.Statement.{statement}

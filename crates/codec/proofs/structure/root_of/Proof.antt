@@ -1,3 +1,4 @@
+-- Three choices, each the first that is there; where none is, the bytes of the shape name are the answer.
 use Rattle.codec.proofs.Heads.{head-laws}
 use borrow.Author.Needs.{needs}
 use Rattle.codec.proofs.structure.root_of.Statement.{statement}

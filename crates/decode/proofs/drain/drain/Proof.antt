@@ -1,3 +1,4 @@
+-- A table that passes the rules can be walked, and the walk is then the drain; any other is refused as a table.
 use Rattle.decode.proofs.Walking.{drain-laws}
 use borrow.Author.Needs.{needs}
 use Rattle.decode.proofs.drain.drain.Statement.{statement}

@@ -1,3 +1,4 @@
+-- No row from j up to k has the name of row k, so the rows before j decide.
 use Rattle.decode.proofs.Faults.{RepeatAt, repeat-laws}
 use Rattle.decode.proofs.drain.is_repeated.Statement.{statement}
 use Rattle.decode.proofs.drain.is_repeated.Tie as tie

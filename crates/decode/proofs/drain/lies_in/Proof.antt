@@ -1,3 +1,4 @@
+-- Only a yes promises something; by then the value begins in the part and is no longer than the rest of it.
 use Rattle.decode.proofs.Faults.{plain-laws}
 use borrow.Author.Needs.{needs}
 use Rattle.decode.proofs.drain.lies_in.Statement.{statement}

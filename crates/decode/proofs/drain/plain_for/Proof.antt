@@ -1,3 +1,4 @@
+-- The part at hand has no `&` already; a new one stops at the first `&` that is found, so it has none either.
 use Rattle.decode.proofs.Faults.{plain-laws}
 use borrow.Author.Needs.{needs}
 use Rattle.decode.proofs.drain.plain_for.Statement.{statement}

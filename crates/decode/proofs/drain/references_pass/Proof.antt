@@ -1,3 +1,4 @@
+-- The value's span lies in the body, and each of the two verdicts on its references is one answer.
 use Rattle.decode.proofs.Faults.{reference-laws}
 use borrow.Author.Needs.{needs}
 use Rattle.decode.proofs.drain.references_pass.Statement.{statement}

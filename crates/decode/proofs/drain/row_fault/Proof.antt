@@ -1,3 +1,4 @@
+-- By kind: attribute, close tag, text, token error, or no fault. A value in a part without `&` has no reference to fail.
 use Rattle.decode.proofs.Faults.{fault-laws}
 use borrow.Author.Needs.{needs}
 use Rattle.decode.proofs.drain.row_fault.Statement.{statement}

@@ -1,3 +1,4 @@
+-- With none open it is row 0; otherwise the last of the open rows, which the array has.
 use Rattle.decode.proofs.Walking.{top-laws}
 use borrow.Author.Needs.{needs}
 use Rattle.decode.proofs.drain.top_of.Statement.{statement}

@@ -1,3 +1,4 @@
+-- A value that passes has no fault; one that fails has the only fault of a value.
 use Rattle.decode.proofs.Faults.{passes-laws}
 use borrow.Author.Needs.{needs}
 use Rattle.decode.proofs.drain.value_fault.Statement.{statement}

@@ -1,3 +1,4 @@
+-- The open rows give the stack and the rows since `tag` the names seen; the walk from row k on is the whole walk.
 use borrow.Author.Needs.{needs}
 use Prim.Native.Nat.{_-_}
 use Rattle.lists.specs.Find.{Clear}

@@ -1,3 +1,4 @@
+-- The first colon parts the pattern: without one all of it is the local name, with one both sides must agree.
 use Rattle.decode.proofs.Names.{match-laws}
 use borrow.Author.Needs.{needs}
 use Rattle.decode.proofs.name.matches.Statement.{statement}

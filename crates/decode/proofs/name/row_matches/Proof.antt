@@ -1,3 +1,4 @@
+-- The name of row k is its prefix span and its local span, and both lie in the body.
 use Rattle.decode.proofs.Names.{matches-laws}
 use borrow.Author.Needs.{needs}
 use Rattle.decode.proofs.name.row_matches.Statement.{statement}

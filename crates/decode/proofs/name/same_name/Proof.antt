@@ -1,3 +1,4 @@
+-- Names agree where both prefix and local name do; prefixes that differ settle it.
 use Rattle.decode.proofs.Names.{name-laws}
 use borrow.Author.Needs.{needs}
 use Rattle.decode.proofs.name.same_name.Statement.{statement}

@@ -1,3 +1,4 @@
+-- The row's span lies in the body, so its end fits, and from start to end is just its length.
 use Rattle.decode.proofs.Names.{span-laws}
 use borrow.Author.Needs.{needs}
 use Rattle.decode.proofs.name.span.Statement.{statement}

@@ -1,3 +1,4 @@
+-- An end that was read lies at the last row before the reader, or at 0 if there is none; else it is the view's.
 use Rattle.decode.proofs.Pieces.{piece-end-laws}
 use borrow.Author.Needs.{needs}
 use Rattle.decode.proofs.piece.piece_end.Statement.{statement}

@@ -1,3 +1,4 @@
+-- Start and end are the definition's and lie in the body, and so does what is between them.
 use Rattle.decode.proofs.Pieces.{piece-laws}
 use borrow.Author.Needs.{needs}
 use Rattle.decode.proofs.piece.piece_of.Statement.{statement}

@@ -1,3 +1,4 @@
+-- The rules put a `<` before the local name of a start row, so the last one is found.
 use Rattle.decode.proofs.Pieces.{piece-laws}
 use borrow.Author.Needs.{needs}
 use Rattle.decode.proofs.piece.piece_start.Statement.{statement}

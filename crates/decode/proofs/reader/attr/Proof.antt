@@ -1,3 +1,4 @@
+-- No attribute before row k is asked for, so a match is the first one; its value unescaped when the tag was read.
 use Prim.Native.Nat.{_-_}
 use Rattle.decode.proofs.Attributes.{search-laws, SearchAt}
 use Rattle.decode.proofs.reader.attr.Statement.{statement}

@@ -1,16 +1,17 @@
+-- A close tag and `/>` take one off, any other kind leaves the depth; so it never grows.
 use Rattle.decode.proofs.Places.{depth-laws}
 use borrow.Author.Needs.{needs}
 use Rattle.decode.proofs.reader.depth_after.Statement.{statement}
 use Rattle.decode.proofs.reader.depth_after.Tie as tie
 
-less-of-requires : tie.Need-less-of-requires
-less-of-requires c κs = search needs
+one-less-requires : tie.Need-one-less-requires
+one-less-requires c κs = search needs
 
 returns : tie.Need-returns
 returns c = search depth-laws
 
-less-of-requires-2 : tie.Need-less-of-requires-2
-less-of-requires-2 c κs = search needs
+one-less-requires-2 : tie.Need-one-less-requires-2
+one-less-requires-2 c κs = search needs
 
 returns-2 : tie.Need-returns-2
 returns-2 c = search depth-laws
@@ -20,4 +21,4 @@ returns-3 c = search depth-laws
 
 pub depth-after-spec : {M : Type 1} → statement M
 depth-after-spec =
-    tie.close (tie.spec less-of-requires returns less-of-requires-2 returns-2 returns-3)
+    tie.close (tie.spec one-less-requires returns one-less-requires-2 returns-2 returns-3)

@@ -1,3 +1,4 @@
+-- Only a close tag can end a scope, and of a close tag its depth and name decide.
 use Rattle.decode.proofs.Places.{ends-laws}
 use borrow.Author.Needs.{needs}
 use Rattle.decode.proofs.reader.ends_here.Statement.{statement}

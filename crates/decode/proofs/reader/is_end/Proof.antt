@@ -1,3 +1,4 @@
+-- The document has no close tag; that of an element has its depth and its name.
 use Rattle.decode.proofs.Places.{end-laws}
 use borrow.Author.Needs.{needs}
 use Rattle.decode.proofs.reader.is_end.Statement.{statement}

@@ -1,3 +1,4 @@
+-- A scope whose end was read is left already; of any other the rest is skipped.
 use Rattle.decode.proofs.Skipping.{leave-laws}
 use Rattle.decode.proofs.reader.leave.Statement.{statement}
 use Rattle.decode.proofs.reader.leave.Tie as tie

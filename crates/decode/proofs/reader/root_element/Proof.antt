@@ -1,3 +1,4 @@
+-- The root is the next start element of the document's scope, from the first row at depth 0.
 use Rattle.decode.proofs.Seeking.{root-laws}
 use borrow.Author.Needs.{needs}
 use Rattle.decode.proofs.reader.root_element.Statement.{statement}

@@ -1,3 +1,4 @@
+-- After the attributes that unescape come `>`, `/>`, one that does not, a token error, or no row at all: five cases.
 use Rattle.decode.proofs.StartTag.{tag-laws}
 use borrow.Author.Needs.{needs}
 use Rattle.decode.proofs.reader.start_tag.Statement.{statement}

@@ -1,3 +1,4 @@
+-- The rows since i are attributes that unescape; to read on from row k with them is to read from row i.
 use Rattle.decode.specs.Reader.{TagRead}
 use Prim.Native.Nat.{_-_}
 use Rattle.decode.proofs.StartTag.{attributes-laws}

@@ -1,3 +1,4 @@
+-- A value that is measured has a length exactly where it unescapes to bytes.
 use Rattle.decode.proofs.StartTag.{value-laws}
 use borrow.Author.Needs.{needs}
 use Rattle.decode.proofs.reader.unescapes.Statement.{statement}

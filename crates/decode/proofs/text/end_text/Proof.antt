@@ -1,3 +1,4 @@
+-- By whether a failure waits where the rows run out.
 use Rattle.decode.proofs.Texts.{end-text-laws}
 use borrow.Author.Needs.{needs}
 use Rattle.decode.proofs.text.end_text.Statement.{statement}

@@ -1,3 +1,4 @@
+-- The rows passed hold no text, no element and no end, so the first text from row k on is that of the whole.
 use Prim.Native.Nat.{_-_}
 use Rattle.decode.proofs.Texts.{text-laws, text-on, TextFrom}
 use borrow.Author.Needs.{needs}

@@ -1,3 +1,4 @@
+-- Ended in `/>` it has no text; otherwise its text is the first in its own scope, from the reader on.
 use Rattle.decode.proofs.Texts.{element-text-laws}
 use borrow.Author.Needs.{needs}
 use Rattle.decode.proofs.text.try_data.Statement.{statement}

@@ -1,3 +1,4 @@
+-- By the rules a token error can only be the last row, so one look at that row tells what is seen.
 use Rattle.decode.proofs.Views.{view-laws}
 use borrow.Author.Needs.{needs}
 use Rattle.decode.proofs.view.lenient_view.Statement.{statement}

@@ -1,3 +1,4 @@
+-- Row k of the list is row k of the table; past the last row only the final position is left.
 use Rattle.decode.proofs.Views.{position-laws}
 use borrow.Author.Needs.{needs}
 use Rattle.decode.proofs.view.position_at.Statement.{statement}

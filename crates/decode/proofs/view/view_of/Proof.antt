@@ -1,3 +1,4 @@
+-- By the setting, strict or lenient.
 use Rattle.decode.proofs.Views.{either-laws}
 use borrow.Author.Needs.{needs}
 use Rattle.decode.proofs.view.view_of.Statement.{statement}

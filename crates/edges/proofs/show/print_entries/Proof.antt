@@ -1,3 +1,4 @@
+-- Nothing has to hold from turn to turn, since an entry tests its own index; there are four turns.
 use Prim.Native.Nat.{_-_}
 use borrow.Author.Needs.{needs}
 use Rattle.edges.proofs.show.print_entries.Statement.{statement}

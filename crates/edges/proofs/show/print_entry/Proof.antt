@@ -1,3 +1,4 @@
+-- The index is below 4, so the entry begins at 18 or before and its six numbers end in the buffer.
 use Prim.Native.Nat.{_-_, _≤_}
 use borrow.Author.Needs.{needs}
 use Rattle.edges.proofs.show.print_entry.Statement.{statement}

@@ -1,3 +1,4 @@
+-- What was found is the definition's part or refusal, so start, length and number told of it are too.
 use Rattle.scalar.proofs.Calling.{call-laws}
 use borrow.Author.Needs.{needs}
 use Rattle.falzheod.proofs.scalars.falzheod_find.Statement.{statement}

@@ -1,3 +1,4 @@
+-- The flags stand for the settings that the reading asks, so the boolean or refusal told is the reading's.
 use Rattle.falzheod.proofs.Flags.{flag-laws}
 use borrow.Author.Needs.{needs}
 use Rattle.falzheod.proofs.scalars.falzheod_read_boolean.Statement.{statement}

@@ -1,3 +1,4 @@
+-- The settings read from the flags are those of the definition, so the integer or refusal told is too.
 use Rattle.falzheod.proofs.Flags.{flag-laws}
 use borrow.Author.Needs.{needs}
 use Rattle.falzheod.proofs.scalars.falzheod_read_integer.Statement.{statement}

@@ -1,3 +1,4 @@
+-- Settings by flags are the definition's; what is told is the length of what the reading left in the buffer.
 use Rattle.falzheod.proofs.Flags.{flag-laws}
 use borrow.Author.Needs.{needs}
 use Rattle.falzheod.proofs.scalars.falzheod_read_string.Statement.{statement}

@@ -1,3 +1,4 @@
+-- The answer told is the text's own: its boolean, or 11 with the value left alone.
 use Rattle.scalar.proofs.Calling.{call-laws}
 use borrow.Author.Needs.{needs}
 use Rattle.falzheod.proofs.scalars.falzheod_text_boolean.Statement.{statement}

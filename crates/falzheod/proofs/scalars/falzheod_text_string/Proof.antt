@@ -1,3 +1,4 @@
+-- The length told is that of the text in the buffer, or 0 where it did not fit and nothing was written.
 use Rattle.scalar.proofs.Calling.{call-laws}
 use borrow.Author.Needs.{needs}
 use Rattle.falzheod.proofs.scalars.falzheod_text_string.Statement.{statement}

@@ -1,3 +1,4 @@
+-- The reading is the definition's; its length, or 0 and why, is told of what it left in the buffer.
 use Rattle.scalar.proofs.Calling.{call-laws}
 use borrow.Author.Needs.{needs}
 use Rattle.falzheod.proofs.scalars.falzheod_whole_text.Statement.{statement}

@@ -1,3 +1,4 @@
+-- The items before the place are written, and those from the place on are still planned; whatever the texts are.
 use Prim.Native.Nat.{_-_}
 use Rattle.decode.specs.View.{viewAt}
 use Rattle.opening.specs.Wanted.{nameIf}

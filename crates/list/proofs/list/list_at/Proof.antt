@@ -1,3 +1,4 @@
+-- Whether items are named and how is what settings and sheet ask, and 9 is tested after the last item.
 use Rattle.list.proofs.Items.{whole-laws}
 use borrow.Author.Needs.{needs}
 use Rattle.list.proofs.list.list_at.Statement.{statement}

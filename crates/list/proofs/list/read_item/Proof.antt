@@ -1,3 +1,4 @@
+-- An element that is not wanted plans nothing; the piece of one that is lies in a small body, so 32 bits hold it.
 use Rattle.list.proofs.Items.{item-laws}
 use borrow.Author.Needs.{needs}
 use Rattle.list.proofs.list.read_item.Statement.{statement}

@@ -1,3 +1,4 @@
+-- One that ended in `/>` has no items; those of any other are the children of its own scope.
 use Rattle.opening.proofs.Children.{enters-element-laws}
 use borrow.Author.Needs.{needs}
 use Rattle.list.proofs.list.read_items.Statement.{statement}

@@ -1,3 +1,4 @@
+-- A row's value, no longer than the body, and the empty text are texts to write; a refusal writes nothing.
 use Rattle.list.proofs.Strings.{put-laws}
 use borrow.Author.Needs.{needs}
 use Rattle.list.proofs.string_list.put_text.Statement.{statement}

@@ -1,3 +1,4 @@
+-- An element that is not wanted plans nothing; of one that is, the text found is the definition's.
 use Rattle.list.proofs.Strings.{string-laws}
 use borrow.Author.Needs.{needs}
 use Rattle.list.proofs.string_list.read_string.Statement.{statement}

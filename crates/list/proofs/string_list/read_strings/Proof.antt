@@ -1,3 +1,4 @@
+-- Without content, as `/>` says, there are no strings; else they are those of the element's own scope.
 use Rattle.opening.proofs.Children.{element-laws}
 use borrow.Author.Needs.{needs}
 use Rattle.list.proofs.string_list.read_strings.Statement.{statement}

@@ -1,3 +1,4 @@
+-- Its items are named as those of a list, and 9 is tested after the last text.
 use Rattle.list.proofs.Strings.{strings-whole-laws}
 use borrow.Author.Needs.{needs}
 use Rattle.list.proofs.string_list.string_list_at.Statement.{statement}

@@ -1,3 +1,4 @@
+-- The texts before the place are written, at most 65536 bytes each, so every place fits; the others are still planned.
 use Prim.Native.Nat.{_-_}
 use Rattle.document.specs.Scope.{dropping}
 use Rattle.decode.specs.View.{viewAt}

@@ -1,3 +1,4 @@
+-- A child that is wanted is read as an entry; any other is dropped, and without fields it plans nothing.
 use Rattle.map.proofs.Reading.{child-laws}
 use borrow.Author.Needs.{needs}
 use Rattle.map.proofs.entry.entry_of.Statement.{statement}

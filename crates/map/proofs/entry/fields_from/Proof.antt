@@ -1,3 +1,4 @@
+-- The fields so far, carried on over the children that are left, come to those of the whole entry.
 use Prim.Native.Nat.{_-_}
 use Rattle.map.proofs.Reading.{fields-laws}
 use Rattle.map.proofs.Reading.{FieldsAt}

@@ -1,3 +1,4 @@
+-- A measured text lies in the body, so from its start its length can be cut.
 use Rattle.map.proofs.Writing.{raw-laws}
 use borrow.Author.Needs.{needs}
 use Rattle.map.proofs.entry.raw.Statement.{statement}

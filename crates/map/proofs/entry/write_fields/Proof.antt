@@ -1,3 +1,4 @@
+-- Without a key nothing is planned; with one, its part of the body comes to as many bytes as were measured.
 use Rattle.map.proofs.Writing.{write-laws}
 use borrow.Author.Needs.{needs}
 use Rattle.map.proofs.entry.write_fields.Statement.{statement}

@@ -1,3 +1,4 @@
+-- Without a value nothing is planned; a text or a piece goes out with the key, at most two bodies of bytes.
 use Rattle.map.proofs.Writing.{value-laws}
 use borrow.Author.Needs.{needs}
 use Rattle.map.proofs.entry.write_value.Statement.{statement}

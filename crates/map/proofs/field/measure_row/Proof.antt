@@ -1,3 +1,4 @@
+-- Where it has a length its references are right, so the row's span is the text; else it is refused with 7.
 use Rattle.map.proofs.Fields.{row-laws}
 use borrow.Author.Needs.{needs}
 use Rattle.map.proofs.field.measure_row.Statement.{statement}

@@ -1,3 +1,4 @@
+-- By what the text is: a row's value, a refusal, or empty, which is the empty part at 0.
 use Rattle.map.proofs.Fields.{measured-laws}
 use borrow.Author.Needs.{needs}
 use Rattle.map.proofs.field.measure_text.Statement.{statement}

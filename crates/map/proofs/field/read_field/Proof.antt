@@ -1,3 +1,4 @@
+-- By the child's role: a key, a value, or neither, which leaves the fields as they are.
 use Rattle.map.proofs.Fields.{field-laws}
 use borrow.Author.Needs.{needs}
 use Rattle.map.proofs.field.read_field.Statement.{statement}

@@ -1,3 +1,4 @@
+-- A text that is refused refuses the entry; one that is read becomes the key, and what is known of the value stays.
 use Rattle.map.proofs.Fields.{key-laws}
 use borrow.Author.Needs.{needs}
 use Rattle.map.proofs.field.read_key.Statement.{statement}

@@ -1,3 +1,4 @@
+-- An aggregate is a piece, which lies in the body; any other value is its text, or why that is refused. The key stays.
 use Rattle.map.proofs.Fields.{value-laws}
 use borrow.Author.Needs.{needs}
 use Rattle.map.proofs.field.read_value.Statement.{statement}

@@ -1,3 +1,4 @@
+-- The key's name is asked first, as in the definition, so a child with both names is a key.
 use Rattle.map.proofs.Fields.{role-laws}
 use borrow.Author.Needs.{needs}
 use Rattle.map.proofs.field.role_of.Statement.{statement}

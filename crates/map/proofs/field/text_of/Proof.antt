@@ -1,3 +1,4 @@
+-- The text found is the definition's, and measuring keeps what it says.
 use Rattle.map.proofs.Fields.{text-laws}
 use borrow.Author.Needs.{needs}
 use Rattle.map.proofs.field.text_of.Statement.{statement}

@@ -1,3 +1,4 @@
+-- Before each turn the value fits 32 bits, so ten times it and a digit fit 64; each turn leaves a digit less.
 use borrow.Author.Needs.{needs}
 use Prim.Native.Nat.{_-_, _≤_}
 use lib.ListN.{length}

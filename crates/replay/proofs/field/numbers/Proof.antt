@@ -1,3 +1,4 @@
+-- The stores leave the length of `out`, and the place is at most one past the end; each turn takes it on.
 use borrow.Author.Needs.{needs}
 use Prim.Native.Nat.{_+_, _-_, _≤_}
 use mathlib.Core.Path.{_≡_}

@@ -1,3 +1,4 @@
+-- The place stays within the line, since a space that is passed is one of its bytes; each turn leaves a field less.
 use borrow.Author.Needs.{needs}
 use Prim.Native.Nat.{_≤_}
 use lib.ListN.{length}

@@ -1,3 +1,4 @@
+-- Nothing has to hold from turn to turn, since past the recorded bytes none is read; fewer places are left each turn.
 use borrow.Author.Needs.{needs}
 use Prim.Native.Nat.{_-_}
 use Rattle.replay.proofs.reading.holds_bytes.Statement.{statement}

@@ -1,3 +1,4 @@
+-- Nothing has to hold from turn to turn, since past the recorded numbers none is read; the space gets shorter.
 use borrow.Author.Needs.{needs}
 use Prim.Native.Nat.{_-_}
 use Rattle.replay.proofs.reading.holds_numbers.Statement.{statement}

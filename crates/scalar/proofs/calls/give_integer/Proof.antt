@@ -1,3 +1,4 @@
+-- A value is stored and told by 0; a refusal is told by its number and stores nothing.
 use Rattle.scalar.proofs.Calling.{give-laws}
 use borrow.Author.Needs.{needs}
 use Rattle.scalar.proofs.calls.give_integer.Statement.{statement}

@@ -1,3 +1,4 @@
+-- By the number: 1 stays a bad table, and any other refusal means that there is nothing to find.
 use Rattle.scalar.proofs.Searching.{absent-laws}
 use borrow.Author.Needs.{needs}
 use Rattle.scalar.proofs.find.absent.Statement.{statement}

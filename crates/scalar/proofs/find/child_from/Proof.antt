@@ -1,3 +1,4 @@
+-- No element before the place has the name, so the first from there on is the first of all.
 use Prim.Native.Nat.{_-_}
 use Rattle.scalar.proofs.Searching.{find-laws, FindAt}
 use Rattle.scalar.proofs.find.child_from.Statement.{statement}

@@ -1,3 +1,4 @@
+-- One that ended in `/>` has no child to find; the children of any other are what is left in its own scope.
 use Rattle.scalar.proofs.Searching.{child-laws}
 use Rattle.scalar.proofs.find.child_of.Statement.{statement}
 use Rattle.scalar.proofs.find.child_of.Tie as tie

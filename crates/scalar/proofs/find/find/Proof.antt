@@ -1,3 +1,4 @@
+-- The part lies in the body, so its end is a place there, and from start to end is its length.
 use Rattle.scalar.proofs.Searching.{slice-laws}
 use borrow.Author.Needs.{needs}
 use Rattle.scalar.proofs.find.find.Statement.{statement}

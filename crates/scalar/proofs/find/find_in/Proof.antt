@@ -1,3 +1,4 @@
+-- A root with the name is answered by the whole body; else the answer is that of its children.
 use Rattle.scalar.proofs.Searching.{child-laws}
 use borrow.Author.Needs.{needs}
 use Rattle.scalar.proofs.find.find_in.Statement.{statement}

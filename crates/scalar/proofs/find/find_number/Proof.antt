@@ -1,3 +1,4 @@
+-- A part is told by 0, a refusal by its own number.
 use Rattle.scalar.proofs.Searching.{part-laws}
 use borrow.Author.Needs.{needs}
 use Rattle.scalar.proofs.find.find_number.Statement.{statement}

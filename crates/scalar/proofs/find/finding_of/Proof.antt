@@ -1,3 +1,4 @@
+-- The opening's refusals come to 1 or 13 as the definition has it; a body that opens is searched from its root.
 use Rattle.scalar.proofs.Searching.{finding-laws}
 use borrow.Author.Needs.{needs}
 use Rattle.scalar.proofs.find.finding_of.Statement.{statement}

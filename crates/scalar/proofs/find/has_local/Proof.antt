@@ -1,3 +1,4 @@
+-- The local name of a row is a span in the body, and that span is compared.
 use Rattle.scalar.proofs.Searching.{local-laws}
 use borrow.Author.Needs.{needs}
 use Rattle.scalar.proofs.find.has_local.Statement.{statement}

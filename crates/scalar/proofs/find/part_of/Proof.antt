@@ -1,3 +1,4 @@
+-- The definition's part lies in the body by its own law, also the empty one of a refusal.
 use Rattle.scalar.proofs.Searching.{part-laws}
 use borrow.Author.Needs.{needs}
 use Rattle.scalar.proofs.find.part_of.Statement.{statement}

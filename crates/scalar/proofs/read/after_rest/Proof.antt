@@ -1,3 +1,4 @@
+-- By whether the body is ill-formed; where it is not, the text stays as it is.
 use Rattle.scalar.proofs.Reading.{rest-laws}
 use borrow.Author.Needs.{needs}
 use Rattle.scalar.proofs.read.after_rest.Statement.{statement}

@@ -1,3 +1,4 @@
+-- By what the text is: a row's value, empty, which is no boolean, or a refusal.
 use Rattle.scalar.proofs.Reading.{boolean-at-laws}
 use borrow.Author.Needs.{needs}
 use Rattle.scalar.proofs.read.boolean_at.Statement.{statement}

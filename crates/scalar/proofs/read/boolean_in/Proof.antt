@@ -1,3 +1,4 @@
+-- No text of more than 8 bytes is a boolean, so one for which there is no room is rightly refused.
 use Rattle.scalar.proofs.Reading.{boolean-in-laws}
 use borrow.Author.Needs.{needs}
 use Rattle.scalar.proofs.read.boolean_in.Statement.{statement}

@@ -1,3 +1,4 @@
+-- By what the text is; a row's value is no longer than the body, and the empty text is no integer.
 use Rattle.scalar.proofs.Reading.{integer-at-laws}
 use borrow.Author.Needs.{needs}
 use Rattle.scalar.proofs.read.integer_at.Statement.{statement}

@@ -1,3 +1,4 @@
+-- A text without `&` unescapes to itself; any other has its references replaced first.
 use Rattle.scalar.proofs.Reading.{integer-in-laws}
 use borrow.Author.Needs.{needs}
 use Rattle.scalar.proofs.read.integer_in.Statement.{statement}

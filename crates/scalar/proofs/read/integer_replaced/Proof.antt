@@ -1,3 +1,4 @@
+-- A text gets no longer by unescaping, so the array has room for all of it.
 use Prim.Native.Nat.{ℕ}
 use lib.ListN.{length-replicate}
 use Rattle.scalar.proofs.Reading.{integer-replaced-laws, integer-over}

@@ -1,3 +1,4 @@
+-- The text is what the definition takes at this strictness, so its boolean is the reading's.
 use Rattle.scalar.proofs.Reading.{read-laws}
 use borrow.Author.Needs.{needs}
 use Rattle.scalar.proofs.read.read_boolean.Statement.{statement}

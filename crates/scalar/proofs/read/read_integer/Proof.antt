@@ -1,3 +1,4 @@
+-- By the settings' strictness the text is the definition's, and the integer is read from that text.
 use Rattle.scalar.proofs.Reading.{read-laws}
 use borrow.Author.Needs.{needs}
 use Rattle.scalar.proofs.read.read_integer.Statement.{statement}

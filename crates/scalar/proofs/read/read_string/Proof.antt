@@ -1,3 +1,4 @@
+-- The text taken is the reading's text, so the buffer gets what the reading puts there.
 use Rattle.scalar.proofs.Reading.{read-laws}
 use borrow.Author.Needs.{needs}
 use Rattle.scalar.proofs.read.read_string.Statement.{statement}

@@ -1,3 +1,4 @@
+-- A bad reference or a refusal was met first and stays; any other text, the empty one too, meets 9.
 use Rattle.scalar.proofs.Reading.{spoilt-laws}
 use borrow.Author.Needs.{needs}
 use Rattle.scalar.proofs.read.spoilt.Statement.{statement}

@@ -1,3 +1,4 @@
+-- By what the text is; the empty text fits any buffer and leaves it as it was.
 use Rattle.scalar.proofs.Reading.{string-at-laws}
 use borrow.Author.Needs.{needs}
 use Rattle.scalar.proofs.read.string_at.Statement.{statement}

@@ -1,3 +1,4 @@
+-- Length, bad reference and no room are the definition's three cases, and a refusal leaves the buffer.
 use Rattle.scalar.proofs.Reading.{string-in-laws}
 use borrow.Author.Needs.{needs}
 use Rattle.scalar.proofs.read.string_in.Statement.{statement}

@@ -1,3 +1,4 @@
+-- A body that does not open is refused as it is; of one that opens the text is the root's.
 use Rattle.scalar.proofs.Reading.{take-laws}
 use borrow.Author.Needs.{needs}
 use Rattle.scalar.proofs.read.take_text.Statement.{statement}

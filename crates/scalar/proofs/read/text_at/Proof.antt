@@ -1,3 +1,4 @@
+-- The root's first text is the definition's and can be read, so the test for 9 is made on the right text.
 use Rattle.scalar.proofs.Reading.{text-at-laws}
 use borrow.Author.Needs.{needs}
 use Rattle.scalar.proofs.read.text_at.Statement.{statement}

@@ -1,3 +1,4 @@
+-- By the two spellings; a text that is neither is refused.
 use Rattle.scalar.proofs.Texts.{boolean-laws}
 use borrow.Author.Needs.{needs}
 use Rattle.scalar.proofs.text.boolean_of.Statement.{statement}

@@ -1,3 +1,4 @@
+-- The digits before i spell `acc`; a number only grows, so above 2^31 the rest cannot bring it back.
 use lib.ListN.{length}
 use Prim.Native.Nat.{_-_}
 use Rattle.scalar.proofs.Texts.{digits-laws, DigitsAt}

@@ -1,3 +1,4 @@
+-- By the first byte. A number above 2^31 is in no range, with any sign, so the bound of the digits loses nothing.
 use Rattle.scalar.proofs.Texts.{integer-laws}
 use borrow.Author.Needs.{needs}
 use Rattle.scalar.proofs.text.integer_of.Statement.{statement}

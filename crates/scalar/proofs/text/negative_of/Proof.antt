@@ -1,3 +1,4 @@
+-- Zero aside, n - 1 fits an `i32`, and -1 - (n - 1) is minus n, also for the least number.
 use Rattle.scalar.proofs.Texts.{sign-laws}
 use borrow.Author.Needs.{needs}
 use Rattle.scalar.proofs.text.negative_of.Statement.{statement}

@@ -1,3 +1,4 @@
+-- Up to 2^31 - 1 the number is the same as an `i32`; a greater one, or none, is refused.
 use Rattle.scalar.proofs.Texts.{sign-laws}
 use borrow.Author.Needs.{needs}
 use Rattle.scalar.proofs.text.positive_of.Statement.{statement}

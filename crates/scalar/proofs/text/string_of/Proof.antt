@@ -1,3 +1,4 @@
+-- Where it fits it is stored from place 0 on, so the text stands at the front and the rest is as before.
 use Rattle.scalar.proofs.Texts.{string-laws}
 use borrow.Author.Needs.{needs}
 use Rattle.scalar.proofs.text.string_of.Statement.{statement}

@@ -1,3 +1,4 @@
+-- The texts before row k stand at the front; all together fit and none is refused, so the next has its room.
 use borrow.Author.Needs.{needs}
 use Prim.Native.Nat.{_-_}
 use Rattle.scalar.proofs.Joining.{fill-laws, fill-text, FillAt}

@@ -1,3 +1,4 @@
+-- What was measured is the length of the text; it is written only where it fits, so a refusal writes nothing.
 use Rattle.scalar.proofs.Copying.{copy-laws}
 use borrow.Author.Needs.{needs}
 use Rattle.scalar.proofs.whole.join.Statement.{statement}

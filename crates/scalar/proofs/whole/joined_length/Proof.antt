@@ -1,3 +1,4 @@
+-- `size` is the length of the texts before row k, at most 65536 bytes a row, so the sum fits.
 use borrow.Author.Needs.{needs}
 use Prim.Native.Nat.{_-_}
 use Rattle.scalar.proofs.Joining.{length-laws, length-text, LengthAt}

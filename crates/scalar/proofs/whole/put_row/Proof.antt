@@ -1,3 +1,4 @@
+-- The span that is put is the row's value, so room and bytes are those of the row.
 use Rattle.scalar.proofs.Copying.{put-row-laws}
 use borrow.Author.Needs.{needs}
 use Rattle.scalar.proofs.whole.put_row.Statement.{statement}

@@ -1,3 +1,4 @@
+-- The references are right and there is room, so of the three answers only the length can come.
 use Rattle.scalar.proofs.Copying.{put-laws}
 use borrow.Author.Needs.{needs}
 use Rattle.scalar.proofs.whole.put_text.Statement.{statement}

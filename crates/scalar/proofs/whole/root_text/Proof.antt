@@ -1,3 +1,4 @@
+-- Without a root the refusal is the opening's; with one its text is the answer.
 use Rattle.scalar.proofs.Copying.{root-laws}
 use borrow.Author.Needs.{needs}
 use Rattle.scalar.proofs.whole.root_text.Statement.{statement}

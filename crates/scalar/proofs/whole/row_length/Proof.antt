@@ -1,3 +1,4 @@
+-- The span that is measured is the row's value.
 use Rattle.scalar.proofs.Joining.{row-laws}
 use borrow.Author.Needs.{needs}
 use Rattle.scalar.proofs.whole.row_length.Statement.{statement}

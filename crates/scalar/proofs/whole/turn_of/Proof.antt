@@ -1,3 +1,4 @@
+-- By kind: a text, a start, the scope's end, or on at the depth after; what later rows say plays no part.
 use Rattle.scalar.proofs.Joining.{turn-laws}
 use borrow.Author.Needs.{needs}
 use Rattle.scalar.proofs.whole.turn_of.Statement.{statement}

@@ -1,3 +1,4 @@
+-- One that ended in `/>` has the empty text; that of any other is joined from its own scope.
 use Rattle.scalar.proofs.Copying.{whole-laws}
 use borrow.Author.Needs.{needs}
 use Rattle.scalar.proofs.whole.whole_of.Statement.{statement}

@@ -1,3 +1,4 @@
+-- Where the drain passes, the table obeys the rules and all rows are seen; its two refusals are 1 and 9.
 use Rattle.scalar.proofs.Copying.{text-laws}
 use borrow.Author.Needs.{needs}
 use Rattle.scalar.proofs.whole.whole_text.Statement.{statement}

@@ -1,3 +1,4 @@
+-- Of an attribute member the plan is that of its name; any other member plans nothing.
 use Rattle.structure.proofs.Asking.{member-laws}
 use borrow.Author.Needs.{needs}
 use Rattle.structure.proofs.attributes.attribute_of.Statement.{statement}

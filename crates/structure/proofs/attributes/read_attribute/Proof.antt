@@ -1,3 +1,4 @@
+-- The value of an attribute that is found unescapes, so it is a text to write; one not found plans nothing.
 use Rattle.structure.proofs.Asking.{attribute-laws}
 use borrow.Author.Needs.{needs}
 use Rattle.structure.proofs.attributes.read_attribute.Statement.{statement}

@@ -1,3 +1,4 @@
+-- The attributes of the members before i are written, each at most 65536 bytes; the others are still planned.
 use Prim.Native.Nat.{_-_}
 use Rattle.codec.specs.Structure.{saidBy}
 use Rattle.structure.proofs.Asking.{attributes-laws, AttributesAt}

@@ -1,3 +1,4 @@
+-- The children before the place are written or kept; each took two rows or more, so `kept` has room for the next.
 use Prim.Native.Nat.{_-_}
 use Rattle.codec.specs.Structure.{saidBy}
 use Rattle.structure.proofs.Taking.{children-laws, children-on, ChildrenAt}

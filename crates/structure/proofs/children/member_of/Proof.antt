@@ -1,3 +1,4 @@
+-- The local name of a row is a span in the body, so what its bytes resolve to is what the name resolves to.
 use Rattle.structure.proofs.Taking.{row-laws}
 use borrow.Author.Needs.{needs}
 use Rattle.structure.proofs.children.member_of.Statement.{statement}

@@ -1,3 +1,4 @@
+-- By what the text is: a row's value, empty, or a refusal. None adds more bytes than a body has.
 use Rattle.structure.proofs.Taking.{put-laws}
 use borrow.Author.Needs.{needs}
 use Rattle.structure.proofs.children.put_text.Statement.{statement}

@@ -1,3 +1,4 @@
+-- A name of no member plans nothing; otherwise the flags read are those the sheet says, and they decide.
 use Rattle.structure.proofs.Taking.{child-laws, child-member}
 use borrow.Author.Needs.{needs}
 use Rattle.structure.proofs.children.read_child.Statement.{statement}

@@ -1,3 +1,4 @@
+-- A root that ended in `/>` has no children; those of any other are what is left in its own scope.
 use Rattle.structure.proofs.Taking.{inside-laws}
 use borrow.Author.Needs.{needs}
 use Rattle.structure.proofs.children.read_children.Statement.{statement}

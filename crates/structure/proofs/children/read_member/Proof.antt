@@ -1,3 +1,4 @@
+-- By the flags: a flattened aggregate is kept, any other aggregate is a piece, and the rest are texts.
 use Rattle.structure.proofs.Taking.{member-laws}
 use borrow.Author.Needs.{needs}
 use Rattle.structure.proofs.children.read_member.Statement.{statement}

@@ -1,3 +1,4 @@
+-- The text that was found is the definition's, so to write the one is to write the other.
 use Rattle.structure.proofs.Taking.{scalar-laws}
 use borrow.Author.Needs.{needs}
 use Rattle.structure.proofs.children.read_scalar.Statement.{statement}

@@ -1,3 +1,4 @@
+-- By whether the step is done or refused; the numbers are the step's own.
 use Rattle.structure.proofs.Taking.{with-laws}
 use borrow.Author.Needs.{needs}
 use Rattle.structure.proofs.children.with_count.Statement.{statement}

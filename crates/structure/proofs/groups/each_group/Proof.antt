@@ -1,3 +1,4 @@
+-- The groups of the members before i are written; no child is in two, so the bytes used stay in 32 bits.
 use Prim.Native.Nat.{_-_}
 use Rattle.structure.proofs.Gathering.{groups-laws, groups-on, GroupsAt}
 use Rattle.structure.proofs.groups.each_group.Statement.{statement}

@@ -1,3 +1,4 @@
+-- The sums so far and what the members from i on need make up the whole; no child is in two groups, so they fit.
 use Prim.Native.Nat.{_-_}
 use Rattle.structure.proofs.Gathering.{sum-laws, SumAt}
 use Rattle.structure.proofs.groups.groups_size.Statement.{statement}

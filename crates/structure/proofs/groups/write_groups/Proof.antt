@@ -1,3 +1,4 @@
+-- Where both sums fit there is room for each group in turn, so none is refused after another was written.
 use Rattle.structure.proofs.Gathering.{all-laws}
 use borrow.Author.Needs.{needs}
 use Rattle.structure.proofs.groups.write_groups.Statement.{statement}

@@ -1,3 +1,4 @@
+-- It is another only where it is tested and does not match.
 use Rattle.structure.proofs.Whole.{other-laws}
 use borrow.Author.Needs.{needs}
 use Rattle.structure.proofs.structure.is_other.Statement.{statement}

@@ -1,3 +1,4 @@
+-- A view has at most 8192 rows, so at most 4096 children, and 12288 is three numbers for each.
 use Rattle.structure.proofs.Whole.{room-laws}
 use borrow.Author.Needs.{needs}
 use Rattle.structure.proofs.structure.members_of_many.Statement.{statement}

@@ -1,3 +1,4 @@
+-- Children, then 9, then groups; each goes on from what is written, and the front of `kept` is what the groups ask.
 use Rattle.structure.proofs.Whole.{content-laws, taken-begins, content-groups}
 use borrow.Author.Needs.{needs}
 use Rattle.structure.proofs.structure.read_content.Statement.{statement}

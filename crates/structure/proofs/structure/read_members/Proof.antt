@@ -1,3 +1,4 @@
+-- With nothing written the attributes can begin; their refusal ends it, or the content goes on from what they wrote.
 use Rattle.structure.proofs.Whole.{members-laws}
 use borrow.Author.Needs.{needs}
 use Rattle.structure.proofs.structure.read_members.Statement.{statement}

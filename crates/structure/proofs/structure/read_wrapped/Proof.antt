@@ -1,3 +1,4 @@
+-- Both promise the same; only the room differs, and the small one is for no more than 256 rows.
 use Rattle.structure.proofs.Whole.{room-laws}
 use borrow.Author.Needs.{needs}
 use Rattle.structure.proofs.structure.read_wrapped.Statement.{statement}

@@ -1,3 +1,4 @@
+-- Refused for its name, unwrapped, or by members: the definition's three cases. The members are the parsed front.
 use Rattle.structure.proofs.Whole.{whole-laws}
 use Rattle.structure.proofs.structure.structure_at.Statement.{statement}
 use Rattle.structure.proofs.structure.structure_at.Tie as tie

@@ -1,3 +1,4 @@
+-- The piece is the definition's and lies in a small body, so 32 bits hold its numbers.
 use Rattle.structure.proofs.Alone.{root-laws}
 use borrow.Author.Needs.{needs}
 use Rattle.structure.proofs.unwrapped.put_root.Statement.{statement}

@@ -1,3 +1,4 @@
+-- 9 comes first; then a name of no member plans nothing, and a name of one plans the root as its piece.
 use Rattle.structure.proofs.Alone.{unwrapped-laws}
 use borrow.Author.Needs.{needs}
 use Rattle.structure.proofs.unwrapped.read_unwrapped.Statement.{statement}

@@ -1,3 +1,4 @@
+-- `deep` elements are open before row k, so the rows from k on tell where the root ends, or that the view ends first.
 use Prim.Native.Nat.{_-_}
 use Rattle.structure.proofs.Alone.{close-laws, CloseAt}
 use Rattle.structure.proofs.unwrapped.root_end.Statement.{statement}

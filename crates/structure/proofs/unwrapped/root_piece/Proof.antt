@@ -1,3 +1,4 @@
+-- It starts and ends where the definition says, both in the body, so the length is what lies between.
 use Rattle.structure.proofs.Alone.{piece-laws}
 use borrow.Author.Needs.{needs}
 use Rattle.structure.proofs.unwrapped.root_piece.Statement.{statement}
