@@ -9,13 +9,13 @@ use borrow.Author.Needs.{needs}
 use borrow.Author.Tests.{eqb-true, eqb-false}
 use lib.Dec.{eqb}
 use Rattle.lists.specs.Tests.{pick}
-use Rattle.reference.specs.Text.{unescaped}
+use Rattle.reference.specs.Text.{unescaped, meaning}
 use Rattle.document.specs.Reader as doc
 use Rattle.document.specs.Names.{nameMatches}
 use Rattle.decode.specs.declared.reader.StartRow.{StartRow}
 use Rattle.decode.specs.declared.reader.Attribute.{Attribute}
 use Rattle.decode.specs.Rows.{InTable, nameAt, valueAt}
-use Rattle.decode.specs.Reader.{bytesOf, attributesFrom, startAt, Sees, StartIn, NoMatch, FirstMatch, MatchIn, AttributeIs}
+use Rattle.decode.specs.Reader.{attributesFrom, startAt, Sees, StartIn, NoMatch, FirstMatch, MatchIn, AttributeIs}
 use Rattle.decode.proofs.StartTag.{bytes-are}
 
 -- ---- the loop: none of the rows before row k
@@ -60,7 +60,7 @@ pub ruleset search-laws = (needs, search-start, search-none, search-in, search-f
 
 -- ---- the same over the list of attributes
 abbrev pub valueIn : List ℕ → List ℕ → Attribute → Option (List ℕ)
-valueIn body t (Attribute.Row k) = some (bytesOf (unescaped (valueAt body t k)))
+valueIn body t (Attribute.Row k) = some (meaning (unescaped (valueAt body t k)))
 valueIn body t Attribute.Nothing = none
 
 -- each function that answers the value of the first attribute that is asked for answers the value of the row that was found
@@ -73,7 +73,7 @@ module _ (body t pattern : List ℕ) (f : List doc.Attribute → Option (List �
       (value-none (suc k) m (record { none = λ j l h. w .none j (omega arith) (omega arith) }))
 
   value-first : (i k m : ℕ) → FirstMatch body t pattern k (k + m) i
-      → f (attributesFrom body t k m) ≡ some (bytesOf (unescaped (valueAt body t i)))
+      → f (attributesFrom body t k m) ≡ some (meaning (unescaped (valueAt body t i)))
   value-first i k zero w = absurd (omega (arith, w .low, w .high))
   value-first i k (suc m) w = turn _ (attributesFrom body t (suc k) m) ∙ go (eqb i k) refl (value-first i (suc k) m)
     where

@@ -15,7 +15,9 @@ use Rattle.reference.specs.Text.{validated}
 use Rattle.reference.proofs.Result.{plain-valid}
 use Rattle.reference.proofs.Grammar.{validated-none}
 use Rattle.reference.specs.declared.Validated.{Validated}
-use Rattle.table.specs.Row.{Name, cut, tokAs}
+use Rattle.table.specs.Row.{Name, Matter, text, misc, referencesIn, Tok, cut, tokAs}
+use Rattle.table.specs.Rules.{mostKind}
+use Rattle.table.proofs.Classes.{OfMatter, Kind, of-start, of-attr, of-gt, of-close, of-slash, of-matter, of-error, kind-of}
 use Rattle.xml.specs.Drain.{sameName, hasName}
 use Rattle.xml.specs.declared.Cause.{Cause}
 use Rattle.decode.specs.declared.drain.Fault.{Fault}
@@ -164,20 +166,21 @@ module _ (body t : List ℕ) (top : Name) (names : List Name) (k : ℕ) {kind : 
   pub fault-none : {tag : ℕ} → WellPlaced t tag k → (kind ≡ 2 → ⊥) → (kind ≡ 4 → ⊥) → (kind ≡ 6 → ⊥) → (kind ≡ 8 → ⊥)
       → Fault.Nothing ≡ faultOf top names (tokAt body t k)
   unfolding tokAs
-  fault-none p a b c d = rw (← e) (go kind (omega (arith, p .least)) (omega (arith, p .most)) a b c d)
+  fault-none p a b c d = rw (← e) (go (kind-of kind (nameAt body t k) (valueAt body t k)) (omega (arith, p .least)) (omega (arith, p .most)) a b c d)
     where
-      go : (i : ℕ) → 1 ≤ i → i ≤ 8 → (i ≡ 2 → ⊥) → (i ≡ 4 → ⊥) → (i ≡ 6 → ⊥) → (i ≡ 8 → ⊥)
-          → Fault.Nothing ≡ faultOf top names (tokAs i (nameAt body t k) (valueAt body t k))
-      go zero l m a b c d = absurd (omega arith)
-      go (suc zero) l m a b c d = refl
-      go (suc (suc zero)) l m a b c d = absurd (a refl)
-      go (suc (suc (suc zero))) l m a b c d = refl
-      go (suc (suc (suc (suc zero)))) l m a b c d = absurd (b refl)
-      go (suc (suc (suc (suc (suc zero))))) l m a b c d = refl
-      go (suc (suc (suc (suc (suc (suc zero)))))) l m a b c d = absurd (c refl)
-      go (suc (suc (suc (suc (suc (suc (suc zero))))))) l m a b c d = rw validated-none
-      go (suc (suc (suc (suc (suc (suc (suc (suc zero)))))))) l m a b c d = absurd (d refl)
-      go (suc (suc (suc (suc (suc (suc (suc (suc (suc i))))))))) l m a b c d = absurd (omega arith)
+      of : {v : List ℕ} {i : ℕ} (x : Matter) → OfMatter v i x → (i ≡ 6 → ⊥) → Fault.Nothing ≡ valueFault (referencesIn x)
+      of (text v) w c = absurd (c (w .isText v refl))
+      of misc w c = rw validated-none
+
+      go : {n : Name} {v : List ℕ} {i : ℕ} {u : Tok} → Kind n v i u → 1 ≤ i → i ≤ mostKind → (i ≡ 2 → ⊥) → (i ≡ 4 → ⊥) → (i ≡ 6 → ⊥) → (i ≡ 8 → ⊥)
+          → Fault.Nothing ≡ faultOf top names u
+      go of-start l m a b c d = refl
+      go of-attr l m a b c d = absurd (a refl)
+      go of-gt l m a b c d = refl
+      go of-close l m a b c d = absurd (b refl)
+      go of-slash l m a b c d = refl
+      go (of-matter {m = x} w) l m a b c d = of x w c
+      go (of-error w) l m a b c d = absurd (d (w .eight l m))
 
 pub placed-after : {t : List ℕ} {tag k kind : ℕ} → WellPlaced t tag k → kind ≡ getD t (k * 8 + 0) 0 → kind ≡ 2 → tag < k
 placed-after p e h = p .inTag (sym e ∙ h)

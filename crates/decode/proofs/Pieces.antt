@@ -14,6 +14,7 @@ use Rattle.table.specs.Rules.{lastPosition, lastLt}
 use Rattle.table.specs.Flat.{rowAt, rowsFrom}
 use Rattle.table.specs.Bytes.{LastIn}
 use Rattle.table.specs.Piece.{pieceStart}
+use Rattle.table.proofs.Flat.{drop-from}
 use Rattle.document.specs.Scope.{pieceEnd, pieceOf}
 use Rattle.decode.specs.declared.reader.Cursor.{Cursor}
 use Rattle.decode.specs.declared.reader.Past.{Past}
@@ -75,12 +76,7 @@ pub ruleset piece-end-laws = (needs, end-out, end-first, end-row, end-in)
 
 -- ---- its first byte
 pub drop-rows : (t : List ℕ) (s i m : ℕ) → i < m → drop i (rowsFrom t s m) ≡ rowAt t (s + i) ∷ rowsFrom t (suc (s + i)) (m - suc i)
-drop-rows t s i zero h = absurd (omega arith)
-drop-rows t s zero (suc m) h = let z : s + 0 ≡ s = omega arith in let y : suc m - suc 0 ≡ m = omega arith in rw (z, y)
-drop-rows t s (suc i) (suc m) h =
-    let z : s + suc i ≡ suc s + i = omega arith in
-    let y : suc m - suc (suc i) ≡ m - suc i = omega arith in
-    rw (z, y) (drop-rows t (suc s) i m (omega arith))
+drop-rows t s i m h = let z : m - i ≡ suc (m - suc i) = omega arith in rw z at (drop-from t s i m)
 
 module _ {body t : List ℕ} {n : ℕ} {s : StartRow} (q : Sees body t n) (w : StartIn body t n s) where
   pub local-in : {from : ℕ} → from ≡ getD t (s .row * 8 + 3) 0 → from ≤ length body

@@ -10,7 +10,7 @@ use borrow.Author.Tests.{eqb-true, eqb-false}
 use lib.Dec.{eqb}
 use lib.ListN.{getD, length}
 use Rattle.lists.proofs.Tests.{false-true}
-use Rattle.reference.specs.Text.{Out, bytes, unescaped}
+use Rattle.reference.specs.Text.{Out, bytes, unescaped, meaning}
 use Rattle.reference.specs.Text as ref
 use Rattle.reference.specs.declared.Unescaped.{Unescaped}
 use Rattle.unescape.specs.Loops.{sizeOf}
@@ -22,7 +22,7 @@ use Rattle.document.specs.Tags.{inTagAfter, Tags}
 use Rattle.decode.specs.declared.reader.Past.{Past}
 use Rattle.decode.specs.declared.reader.Next.{Next}
 use Rattle.decode.specs.Rows.{InTable, Readable, nameAt, valueAt, tokAt}
-use Rattle.decode.specs.Reader.{toksFrom, isBytes, bytesOf, attributeAt, attributesFrom, startAt, FoundIn, GoneIn, StartsAt, overAt}
+use Rattle.decode.specs.Reader.{toksFrom, isBytes, attributeAt, attributesFrom, startAt, FoundIn, GoneIn, StartsAt, overAt}
 use Rattle.decode.specs.Reader.{foundAt, TagRead, TagEnd, TagIs}
 use Rattle.decode.proofs.Names.{value-span}
 use Rattle.decode.proofs.ByKind.{other}
@@ -46,7 +46,7 @@ unescapes v {x} {r} {u} {b} p e q i = rw (i, ← q, e, p) (go (unescaped v))
 
 pub ruleset value-laws = (needs, value-span, unescapes)
 
-pub bytes-are : (o : Out) → isBytes o ≡ true → o ≡ bytes (bytesOf o)
+pub bytes-are : (o : Out) → isBytes o ≡ true → o ≡ bytes (meaning o)
 bytes-are (bytes v) e = refl
 bytes-are (ref.bad at) e = false-true e
 

@@ -19,7 +19,7 @@ use Rattle.lists.specs.Decide.{isYes}
 use Rattle.reference.specs.Text.{validated}
 use Rattle.reference.specs.declared.Validated.{Validated}
 use Rattle.table.specs.Row.{Row, Name, Tok, start, attr, gt, close, slash, matter, referencesIn, bad, tokAs, toksOf, rowsOf}
-use Rattle.table.specs.Rules.{among, Place, atFirst, after, RowRules, EachRow, row, TableRules}
+use Rattle.table.specs.Rules.{inTagOnly, Place, atFirst, after, RowRules, EachRow, row, TableRules}
 use Rattle.table.specs.Test.{decTable}
 use Rattle.table.proofs.Test.{first}
 use Rattle.table.proofs.Pass.{obeyed}
@@ -155,7 +155,7 @@ walk-failed j k c (t ∷ l) = refl
 -- ---- the rules at a row, by its kind
 module _ {body : List ℕ} {p : Place} {r : Row} {rest : List Row} (o : RowRules body p r rest) where
   -- kinds 2, 3 and 5 stand in a start tag
-  in-tag : among (2 ∷ 3 ∷ 5 ∷ []) (r .kind) ≡ true → p .inTag ≡ true
+  in-tag : inTagOnly (r .kind) ≡ true → p .inTag ≡ true
   in-tag e = go (p .inTag) refl
     where
       go : (b : Bool) → p .inTag ≡ b → p .inTag ≡ true

@@ -8,7 +8,7 @@ use Rattle.lists.specs.Tests.{pick}
 use Rattle.reference.specs.Text.{validated}
 use Rattle.reference.specs.declared.Validated.{Validated}
 use Rattle.table.specs.Row.{Name, Tok, start, attr, gt, close, slash, matter, referencesIn, bad, rowsOf}
-use Rattle.table.specs.Rules.{atFirst, EachRow}
+use Rattle.table.specs.Rules.{mostKind, atFirst, EachRow}
 use Rattle.xml.specs.Drain.{sameName, hasName}
 use Rattle.xml.specs.declared.Cause.{Cause}
 use Rattle.decode.specs.declared.drain.Fault.{Fault}
@@ -58,7 +58,7 @@ faultOf top names bad = Fault.Is Cause.TokenError
 -- row k has a kind, and where it is an attribute it stands after the start row `tag`
 pub record WellPlaced (t : List ℕ) (tag k : ℕ) : Type 0 where
   pub least : 1 ≤ getD t (k * 8 + 0) 0
-  pub most : getD t (k * 8 + 0) 0 ≤ 8
+  pub most : getD t (k * 8 + 0) 0 ≤ mostKind
   pub inTag : getD t (k * 8 + 0) 0 ≡ 2 → tag < k
 
 -- ---- the innermost of the open elements, which are kept by the rows in which they start

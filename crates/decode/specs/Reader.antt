@@ -5,7 +5,7 @@ use mathlib.Core.Path.{_≡_}
 use mathlib.Core.Bool.{Bool, true, false}
 use mathlib.Core.List.{List, [], _∷_}
 use lib.ListN.{length, getD}
-use Rattle.reference.specs.Text.{Out, bytes, unescaped}
+use Rattle.reference.specs.Text.{Out, bytes, unescaped, meaning}
 use Rattle.reference.specs.Text as ref
 use Rattle.table.specs.Row.{Row, Name, Tok, tokAs, toksOf}
 use Rattle.table.specs.Rules.{Place, RowRules}
@@ -40,18 +40,14 @@ readerAt body t n c = reader (c .depth) (c .row) (toksFrom body t n (c .row))
 abbrev pub pastAt : List ℕ → List ℕ → ℕ → Past → doc.Past
 pastAt body t n p = record { ended = p .ended; reader = readerAt body t n (p .at) }
 
--- whether a value unescapes, and to which bytes
+-- whether a value unescapes
 abbrev pub isBytes : Out → Bool
 isBytes (bytes v) = true
 isBytes (ref.bad at) = false
 
-abbrev pub bytesOf : Out → List ℕ
-bytesOf (bytes v) = v
-bytesOf (ref.bad at) = []
-
 -- an attribute, its value unescaped; and those of m rows from row k on
 abbrev pub attributeAt : List ℕ → List ℕ → ℕ → doc.Attribute
-attributeAt body t k = record { name = nameAt body t k; value = bytesOf (unescaped (valueAt body t k)) }
+attributeAt body t k = record { name = nameAt body t k; value = meaning (unescaped (valueAt body t k)) }
 
 abbrev pub attributesFrom : List ℕ → List ℕ → ℕ → ℕ → List doc.Attribute
 attributesFrom body t k zero = []
@@ -234,7 +230,7 @@ MatchIn body t pattern from end Attribute.Nothing = NoMatch body t pattern from 
 
 -- the value of a row that is found unescapes
 abbrev pub ValueIn : List ℕ → List ℕ → Attribute → Type 0
-ValueIn body t (Attribute.Row k) = InTable t k × (unescaped (valueAt body t k) ≡ bytes (bytesOf (unescaped (valueAt body t k))))
+ValueIn body t (Attribute.Row k) = InTable t k × (unescaped (valueAt body t k) ≡ bytes (meaning (unescaped (valueAt body t k))))
 ValueIn body t Attribute.Nothing = Unit {0}
 
 pub record AttributeIs (body t : List ℕ) (s : StartRow) (pattern : List ℕ) (r : Attribute) : Type 0 where

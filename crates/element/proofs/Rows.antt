@@ -14,7 +14,7 @@ use Rattle.lists.specs.Tests.{pick}
 use Rattle.lists.specs.Decide.{Says}
 use Rattle.lists.proofs.Decide.{says-no, says-same, says-not, says-ltb}
 use Rattle.table.specs.Row.{Row}
-use Rattle.table.specs.Rules.{openCount, among}
+use Rattle.table.specs.Rules.{closesElement, openCount}
 use Rattle.table.specs.Flat.{rowAt, rowsFrom}
 use Rattle.table.proofs.Flat.{length-rows, unroll, rolled-out}
 use Rattle.table.specs.Piece.{closing}
@@ -93,7 +93,7 @@ unfolding closing
 closing-on n r rest f = rw (ne-eqb (openCount n (r .kind)) 0 f)
 
 open-low : (kind n : ℕ) → openCount n kind ≤ suc n
-open-low kind n = go (eqb kind 1) (among (4 ∷ 5 ∷ []) kind)
+open-low kind n = go (eqb kind 1) (closesElement kind)
   where
     go : (a b : Bool) → pick a (suc n) (pick b (n - 1) n) ≤ suc n
     go true b = omega arith

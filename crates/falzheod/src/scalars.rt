@@ -109,8 +109,8 @@ pub extern "C" fn falzheod_find(
     start: &mut usize,
     length: &mut usize,
 ) -> u32
-    ensures found { λ r. ⌜ FindCall (readings.find (uploaded (now (body .entry)) (now (rows .entry)) end) (now (name .entry))) (now (start .exit))
-        (now (length .exit)) r ⌝ }
+    ensures found { λ r. ⌜ FindCall (readings.find (uploaded (now (body .entry)) (now (rows .entry)) end) (now (name .entry)))
+        (now (start .exit)) (now (length .exit)) r ⌝ }
 {
     give_part(
         scalar::find::finding_of(body, rows, end, name),

@@ -13,21 +13,13 @@ use Rattle.lists.proofs.Overwrite.{take-sets}
 use Rattle.table.specs.Row.{Row, rowsOf, tableOf}
 use Rattle.table.specs.Rules.{Place, atFirst, lastLt, EachRow, none, row, TableRules}
 use Rattle.table.specs.Flat.{rowAt, rowsFrom}
-use Rattle.table.proofs.Flat.{length-rows, rows-same, rows-whole}
+use Rattle.table.proofs.Flat.{length-rows, rows-same, rows-whole, here-or-later, drop-from}
 use Rattle.table.specs.Piece.{closing, elementRows, pieceStart, pieceRows, ElementAt}
 use Rattle.table.proofs.Element.{element-is}
 use Rattle.decode.proofs.Seen.{take-rows}
 use Rattle.element.specs.Rows.{movedTable, StartsAfter, FirstAfter}
 use Rattle.element.proofs.Numbers.{moved-length}
 use Rattle.element.proofs.Rows.{closing-low}
-
--- a number from s on is s or a later one
-here-or-later : (P : ℕ → Type 0) (s k : ℕ) → s ≤ k → P s → (suc s ≤ k → P k) → P k
-here-or-later P s k l here later = go (leb (suc s) k) refl
-  where
-    go : (b : Bool) → leb (suc s) k ≡ b → P k
-    go true h = later (leb-true (suc s) k h)
-    go false h = let z : k ≡ s = omega (arith, leb-false (suc s) k h) in rw z here
 
 module _ (body t : List ℕ) where
   -- the tag of a start row begins not before a place, and before its local name
@@ -55,21 +47,11 @@ module _ (body t : List ℕ) where
 
 -- the row at a number
 at-row : (t : List ℕ) (s i m : ℕ) {first : Row} {rest : List Row} → drop i (rowsFrom t s m) ≡ first ∷ rest → (i < m) × (rowAt t (s + i) ≡ first)
-at-row t s zero zero e = absurd (cons≢nil (sym e))
-at-row t s (suc i) zero e = absurd (cons≢nil (sym e))
-at-row t s zero (suc m) e = let z : s + 0 ≡ s = omega arith in (omega arith, rw z (head-eq-of-cons-eq e))
-at-row t s (suc i) (suc m) e =
-    let z : s + suc i ≡ suc s + i = omega arith in
-    let x = at-row t (suc s) i m e in
-    (omega (arith, x .0), rw z (x .1))
-
-drop-from : (t : List ℕ) (s i m : ℕ) → drop i (rowsFrom t s m) ≡ rowsFrom t (s + i) (m - i)
-drop-from t s zero m = let z : s + 0 ≡ s = omega arith in let y : m - 0 ≡ m = omega arith in rw (z, y)
-drop-from t s (suc i) zero = let y : 0 - suc i ≡ 0 = omega arith in rw y
-drop-from t s (suc i) (suc m) =
-    let z : s + suc i ≡ suc s + i = omega arith in
-    let y : suc m - suc i ≡ m - i = omega arith in
-    rw (z, y) (drop-from t (suc s) i m)
+at-row t s i m {first} {rest} e = go (m - i) refl (sym (drop-from t s i m) ∙ e)
+  where
+    go : (n : ℕ) → m - i ≡ n → rowsFrom t (s + i) n ≡ first ∷ rest → (i < m) × (rowAt t (s + i) ≡ first)
+    go zero q z = absurd (cons≢nil (sym z))
+    go (suc n) q z = (omega arith, head-eq-of-cons-eq z)
 
 module _ {body t : List ℕ} {end : ℕ} (rules : TableRules body t end) where
   flat : rowsOf t ≡ rowsFrom t 0 (length t / 8)

@@ -11,7 +11,7 @@ use Rattle.lists.specs.Tests.{pick}
 use Rattle.lists.specs.Bytes.{sameb}
 use Rattle.refusal.specs.declared.Refusal.{Refusal}
 use Rattle.refusal.specs.Answer.{Answer, gives, onward}
-use Rattle.reference.specs.Text.{Out, bytes, bad, decode, unescaped}
+use Rattle.reference.specs.Text.{Out, bytes, bad, decode, unescaped, meaning}
 use Rattle.reference.specs.declared.Unescaped.{Unescaped}
 use Rattle.unescape.specs.Loops.{sizeOf}
 use Rattle.document.specs.Scope as doc
@@ -35,7 +35,6 @@ use Rattle.decode.specs.Text.{textAt, TextIs}
 use Rattle.decode.proofs.Texts.{row-in}
 use Rattle.decode.proofs.Names.{local-span, value-span}
 use Rattle.decode.proofs.Places.{start-scope}
-use Rattle.output.specs.Plans.{plainOf}
 use Rattle.output.proofs.Texts.{comes-measured, comes-empty}
 use Rattle.map.specs.declared.field.Measured.{Measured}
 use Rattle.map.specs.declared.field.FirstText.{FirstText}
@@ -88,7 +87,7 @@ module _ (body t : List ℕ) (text : Text) where
   measured-row e x = rw e x
 
   pub measured-empty : text ≡ Text.Empty → MeasuredIs body (textAt body t text) (FirstText.Read (record { start = 0; len = 0; size = 0 }))
-  unfolding unescaped decode plainOf
+  unfolding unescaped decode
   measured-empty e = rw e (record { same = refl; known = record { inside = omega arith; comes = comes-empty } })
 
   pub measured-refused : {why : Refusal} → text ≡ Text.Refused why → MeasuredIs body (textAt body t text) (FirstText.Refused why)

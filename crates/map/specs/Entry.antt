@@ -6,7 +6,7 @@ use mathlib.Core.List.{List}
 use mathlib.Core.Option.{Option, some}
 use Rattle.lists.specs.Bytes.{ascii}
 use Rattle.refusal.specs.Answer.{Answer, gives, refuses}
-use Rattle.reference.specs.Text.{unescaped}
+use Rattle.reference.specs.Text.{unescaped, meaning}
 use Rattle.document.specs.Reader.{Reader}
 use Rattle.document.specs.Scope.{Level, children, endOf, leave, levelIn, dropping}
 use Rattle.sheet.specs.Sheet.{MapSheet}
@@ -20,7 +20,6 @@ use Rattle.decode.specs.Reader.{childAt}
 use Rattle.decode.specs.View.{viewAt}
 use Rattle.output.specs.declared.Written.{Written}
 use Rattle.output.specs.declared.Step.{Step}
-use Rattle.output.specs.Plans.{plainOf}
 use Rattle.output.specs.Held.{Does, Comes, Adds}
 use Rattle.opening.specs.Wanted.{nameIf}
 use Rattle.opening.specs.Level.{levelAt, AfterIs}
@@ -73,8 +72,8 @@ pub record KeyComes (key : List ℕ) (n : ℕ) : Type 0 where
 
 -- key and value add no more text bytes than two bodies have
 pub record ValueWrites (body key : List ℕ) (v : Value) (en tx : List ℕ) (w : Written) (en′ tx′ : List ℕ) (r : Step) : Type 0 where
-  pub does : Does (fieldsPlan (some (plainOf (unescaped key))) (valueOf body v)) en tx w en′ tx′ r
-  pub adds : Adds (fieldsPlan (some (plainOf (unescaped key))) (valueOf body v)) 131072
+  pub does : Does (fieldsPlan (some (meaning (unescaped key))) (valueOf body v)) en tx w en′ tx′ r
+  pub adds : Adds (fieldsPlan (some (meaning (unescaped key))) (valueOf body v)) 131072
 
 pub record FieldsWrite (body : List ℕ) (f : Fields) (en tx : List ℕ) (w : Written) (en′ tx′ : List ℕ) (r : Step) : Type 0 where
   pub does : Does (fieldsPlan (keyAt body (f .key)) (valueOf body (f .value))) en tx w en′ tx′ r

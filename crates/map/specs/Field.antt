@@ -7,7 +7,7 @@ use mathlib.Core.Option.{Option, none, some}
 use lib.ListN.{length}
 use Rattle.lists.specs.Bytes.{sameb}
 use Rattle.refusal.specs.Answer.{Answer, gives, refuses, onward}
-use Rattle.reference.specs.Text.{unescaped}
+use Rattle.reference.specs.Text.{unescaped, meaning}
 use Rattle.table.specs.Row.{cut}
 use Rattle.document.specs.Text.{textOf}
 use Rattle.sheet.specs.Sheet.{MapSheet}
@@ -21,7 +21,6 @@ use Rattle.decode.specs.declared.piece.Piece.{Piece}
 use Rattle.decode.specs.Reader.{childAt}
 use Rattle.decode.specs.View.{failureAt, viewAt}
 use Rattle.decode.specs.Piece.{pieceAt}
-use Rattle.output.specs.Plans.{plainOf}
 use Rattle.output.specs.Held.{Comes}
 use Rattle.map.specs.declared.field.Measured.{Measured}
 use Rattle.map.specs.declared.field.FirstText.{FirstText}
@@ -34,7 +33,7 @@ use Rattle.map.specs.declared.field.Role.{Role}
 -- ---- texts that were measured
 -- the bytes that such a text comes to
 abbrev pub plainAt : List ℕ → Measured → List ℕ
-plainAt body m = plainOf (unescaped (cut body (m .start) (m .len)))
+plainAt body m = meaning (unescaped (cut body (m .start) (m .len)))
 
 -- it lies in the body, its references are right, and it comes to as many bytes as were counted
 pub record PlainIn (body : List ℕ) (m : Measured) : Type 0 where

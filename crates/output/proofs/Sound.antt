@@ -10,7 +10,7 @@ use lib.Seq.{length-take-le}
 use Rattle.lists.specs.Tests.{pick}
 use Rattle.lists.specs.Overwrite.{overwritten}
 use Rattle.refusal.specs.declared.Refusal.{Refusal}
-use Rattle.reference.specs.Text.{Out, bytes, bad, unescaped}
+use Rattle.reference.specs.Text.{Out, bytes, bad, unescaped, meaning}
 use Rattle.reference.proofs.Result.{unescaped-shorter}
 use Rattle.readings.specs.Output.{Entry, Room, Output, finished, refused, output, numbersOf, fits, appended, textEntry}
 use Rattle.readings.specs.Output.{pieceEntry, groupEntry, failedEntry, keyTextEntry, keyPieceEntry}
@@ -19,7 +19,7 @@ use Rattle.readings.specs.Structure.{scalarPlan}
 use Rattle.document.specs.Text.{unescapedText}
 use Rattle.output.specs.declared.Written.{Written}
 use Rattle.output.specs.declared.Step.{Step}
-use Rattle.output.specs.Plans.{plainOf, textOr, text, scalar, piece, keyText, keyPiece, group}
+use Rattle.output.specs.Plans.{textOr, text, scalar, piece, keyText, keyPiece, group}
 use Rattle.output.specs.Held.{roomOf, Holds, Does, Comes, Sound, Adds}
 use Rattle.output.proofs.AllOrNone.{holds-within}
 
@@ -139,14 +139,14 @@ module _ {key : List ℕ} {n : ℕ} (c : Comes key n) where
   pub key-text-adds : {value : List ℕ} {m : ℕ} → Comes value m → Adds (keyText key value) (n + m)
   unfolding keyText
   key-text-adds {value} d =
-      let k = plainOf (unescaped key) in
-      let v = plainOf (unescaped value) in
+      let k = meaning (unescaped key) in
+      let v = meaning (unescaped value) in
       record { most = λ room out. omega (arith, write-adds room (keyTextEntry k v) (k ++ v) out, length-append k v, c .size, d .size) }
 
   pub key-piece-adds : (start len : ℕ) → Adds (keyPiece key start len) n
   unfolding keyPiece
   key-piece-adds start len =
-      let k = plainOf (unescaped key) in
+      let k = meaning (unescaped key) in
       record { most = λ room out. omega (arith, write-adds room (keyPieceEntry k (record { start = start; len = len })) k out, c .size) }
 
 pub group-adds : (member : ℕ) (l : List ℕ) → Adds (group member l) (length l)

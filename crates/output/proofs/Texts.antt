@@ -11,7 +11,7 @@ use lib.Seq.{sets, length-sets}
 use Rattle.lists.specs.Overwrite.{overwritten}
 use Rattle.lists.proofs.Overwrite.{rest, back, rest-length, back-stored, sets-append}
 use Rattle.refusal.specs.declared.Refusal.{Refusal}
-use Rattle.reference.specs.Text.{Out, bytes, bad, decode, unescaped, filled}
+use Rattle.reference.specs.Text.{Out, bytes, bad, decode, unescaped, filled, meaning}
 use Rattle.reference.proofs.Result.{unescaped-shorter}
 use Rattle.reference.specs.declared.Unescaped.{Unescaped}
 use Rattle.unescape.specs.Loops.{sizeOf}
@@ -23,21 +23,21 @@ use Rattle.document.specs.Text.{unescapedText}
 use Rattle.output.specs.declared.Written.{Written}
 use Rattle.output.specs.declared.Step.{Step}
 use Rattle.output.specs.declared.Six.{Six}
-use Rattle.output.specs.Plans.{entryOf, plainOf, entered, failed, textOr, text, scalar, keyText, keyPiece}
+use Rattle.output.specs.Plans.{entryOf, entered, failed, textOr, text, scalar, keyText, keyPiece}
 use Rattle.output.specs.Held.{Does, Enters, HasRoom, Ready, Comes}
 use Rattle.output.proofs.Room.{room-bytes, roomy-laws, stays, entered-none, entered-done, entry-as}
 
 -- ---- measured
 pub comes-empty : Comes [] 0
-unfolding unescaped decode plainOf
+unfolding unescaped decode
 comes-empty = record { is = refl; size = refl }
 
 pub comes-short : {txt : List ℕ} {n : ℕ} → Comes txt n → n ≤ length txt
-comes-short {txt} c = omega (arith, c .size, unescaped-shorter txt (plainOf (unescaped txt)) (c .is))
+comes-short {txt} c = omega (arith, c .size, unescaped-shorter txt (meaning (unescaped txt)) (c .is))
 
 -- as measuring found
 pub comes-measured : (txt : List ℕ) {n : ℕ} {r : Unescaped} → r ≡ sizeOf (unescaped txt) → r ≡ Unescaped.Length n → Comes txt n
-unfolding sizeOf plainOf
+unfolding sizeOf
 comes-measured txt {n} {r} m d = go (unescaped txt) refl (sym m ∙ d)
   where
     go : (o : Out) → unescaped txt ≡ o → sizeOf o ≡ Unescaped.Length n → Comes txt n
@@ -45,7 +45,7 @@ comes-measured txt {n} {r} m d = go (unescaped txt) refl (sym m ∙ d)
     go (bad at) k a = let z : _≡_ {A = ℕ} 0 1 = cc in absurd (omega arith)
 
 abbrev plain : List ℕ → List ℕ
-plain txt = plainOf (unescaped txt)
+plain txt = meaning (unescaped txt)
 
 -- ---- two texts, filled into the tail
 module _ {txt : List ℕ} {n : ℕ} (c : Comes txt n) (t : List ℕ) (at : ℕ) (h : at + n ≤ length t) where
@@ -109,7 +109,7 @@ pub ruleset texts-laws = (roomy-laws, first-room, second-start, second-room, tex
 -- ---- the entries of each kind
 -- a text alone
 none-after : (l : List ℕ) → l ≡ l ++ plain []
-unfolding unescaped decode plainOf
+unfolding unescaped decode
 none-after l = sym (append-nil l)
 
 module _ {e t : List ℕ} {w : Written} {e′ t′ : List ℕ} {r : Step} where

@@ -7,12 +7,11 @@ use lib.Dec.{ltb, leb}
 use lib.ListN.{length}
 use Rattle.lists.specs.Tests.{pick}
 use Rattle.lists.specs.Overwrite.{overwritten}
-use Rattle.reference.specs.Text.{bytes, unescaped}
+use Rattle.reference.specs.Text.{bytes, unescaped, meaning}
 use Rattle.readings.specs.Output.{Room, Output, Reading, finished, refused, output, numbersOf}
 use Rattle.readings.specs.Plan.{Plan, perform, Whole, thenGroups}
 use Rattle.output.specs.declared.Written.{Written}
 use Rattle.output.specs.declared.Step.{Step}
-use Rattle.output.specs.Plans.{plainOf}
 
 -- the room of two buffers
 abbrev pub roomOf : List ℕ → List ℕ → Room
@@ -70,8 +69,8 @@ pub record Ready (w : Written) (n : ℕ) : Type 0 where
 
 -- the references of a text are right, and it comes to n bytes
 pub record Comes (txt : List ℕ) (n : ℕ) : Type 0 where
-  pub is : unescaped txt ≡ bytes (plainOf (unescaped txt))
-  pub size : n ≡ length (plainOf (unescaped txt))
+  pub is : unescaped txt ≡ bytes (meaning (unescaped txt))
+  pub size : n ≡ length (meaning (unescaped txt))
 
 -- ---- what a function over many entries asks and promises of the numbers alone
 -- what is counted lies in the buffers

@@ -4,7 +4,7 @@ use mathlib.Core.List.{List, [], _∷_, _++_}
 use lib.ListN.{length}
 use Rattle.refusal.specs.declared.Refusal.{Refusal}
 use Rattle.refusal.specs.Answer.{Answer, gives, refuses}
-use Rattle.reference.specs.Text.{Out, bytes, bad, unescaped}
+use Rattle.reference.specs.Text.{Out, bytes, bad, unescaped, meaning}
 use Rattle.document.specs.View.{View}
 use Rattle.document.specs.Scope.{Child}
 use Rattle.document.specs.Text.{unescapedText}
@@ -17,11 +17,6 @@ use Rattle.output.specs.declared.Six.{Six}
 -- the entry that six numbers say
 unfoldable pub entryOf : Six → Entry
 entryOf s = record { kind = s .kind; member = s .member; keyStart = s .«key_start»; keyLen = s .«key_len»; start = s .start; len = s .len }
-
--- the bytes that a text stands for, where its references are right
-unfoldable pub plainOf : Out → List ℕ
-plainOf (bytes l) = l
-plainOf (bad at) = []
 
 -- an entry of these numbers, with these bytes
 unfoldable pub entered : Six → List ℕ → Plan
@@ -48,12 +43,12 @@ scalar member t = scalarPlan member (unescapedText (unescaped t))
 -- a map entry, of texts whose references are right
 unfoldable pub keyText : List ℕ → List ℕ → Plan
 keyText key value =
-    let k = plainOf (unescaped key) in
-    let v = plainOf (unescaped value) in
+    let k = meaning (unescaped key) in
+    let v = meaning (unescaped value) in
     one (keyTextEntry k v) (k ++ v)
 
 unfoldable pub keyPiece : List ℕ → ℕ → ℕ → Plan
-keyPiece key start len = let k = plainOf (unescaped key) in one (keyPieceEntry k (record { start = start; len = len })) k
+keyPiece key start len = let k = meaning (unescaped key) in one (keyPieceEntry k (record { start = start; len = len })) k
 
 -- the bytes of a group
 unfoldable pub group : ℕ → List ℕ → Plan

@@ -7,9 +7,9 @@ ghost use Prim.Native.Nat.{_+_, _*_, _^_, _≤_, _<_};
 ghost use lib.ListN.{length};
 ghost use lib.Seq.{sets};
 ghost use Rattle.lists.specs.Overwrite.{Stored};
-ghost use Rattle.reference.specs.Text.{unescaped};
+ghost use Rattle.reference.specs.Text.{unescaped, meaning};
 ghost use Rattle.readings.specs.Output.{sixNumbers};
-ghost use Rattle.output.specs.Plans.{entryOf, plainOf, entered, piece, failed, text, scalar, keyText, keyPiece, group};
+ghost use Rattle.output.specs.Plans.{entryOf, entered, piece, failed, text, scalar, keyText, keyPiece, group};
 ghost use Rattle.output.specs.Held.{HasRoom, Does, Enters, Comes, Ready};
 ghost use Rattle.output.specs.Kept.{isKept, GroupLen, keptBytes, flat, Inside, Wide};
 
@@ -139,7 +139,7 @@ fn write_texts(
     requires { ⌜ Comes (now first) n ⌝ }
     requires { ⌜ Comes (now second) m ⌝ }
     requires { ⌜ Ready w (n + m) ⌝ }
-    ensures { λ r. ⌜ Does (entered s (plainOf (unescaped (now (first .entry))) ++ plainOf (unescaped (now (second .entry)))))
+    ensures { λ r. ⌜ Does (entered s (meaning (unescaped (now (first .entry))) ++ meaning (unescaped (now (second .entry)))))
         (now (entries .entry)) (now (texts .entry)) w
         (now (entries .exit)) (now (texts .exit)) r ⌝ }
 {

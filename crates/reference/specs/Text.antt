@@ -50,6 +50,11 @@ decode strict at zero (b ∷ s) =
       | false ↦ before (b ∷ []) (decode strict (suc at) zero s)
     ]
 
+-- the bytes that a text unescapes to, or none
+abbrev pub meaning : Out → List ℕ
+meaning (bytes l) = l
+meaning (bad at) = []
+
 -- ---- "Validate. 7."
 unfoldable pub references : List ℕ → Out
 references t = decode true 0 0 t

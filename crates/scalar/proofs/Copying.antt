@@ -15,7 +15,7 @@ use Rattle.lists.specs.Overwrite.{overwritten, Stored}
 use Rattle.lists.proofs.Overwrite.{rest, back, rest-length, back-stored}
 use Rattle.refusal.specs.declared.Refusal.{Refusal}
 use Rattle.refusal.specs.Answer.{Answer, gives, refuses, onward}
-use Rattle.reference.specs.Text.{answer, filled, unescaped, Unescape}
+use Rattle.reference.specs.Text.{answer, filled, unescaped, Unescape, meaning}
 use Rattle.reference.specs.declared.Unescaped.{Unescaped}
 use Rattle.table.specs.Row.{rowsOf, toksOf}
 use Rattle.table.specs.Rules.{TableRules}
@@ -36,7 +36,7 @@ use Rattle.decode.specs.declared.reader.Cursor.{Cursor}
 use Rattle.decode.specs.declared.reader.StartRow.{StartRow}
 use Rattle.decode.specs.declared.view.View.{View}
 use Rattle.decode.specs.Rows.{valueAt}
-use Rattle.decode.specs.Reader.{childAt, bytesOf}
+use Rattle.decode.specs.Reader.{childAt}
 use Rattle.decode.proofs.Names.{value-span}
 use Rattle.opening.specs.declared.Opening.{Opening}
 use Rattle.opening.specs.Opening.{OpeningIs}
@@ -49,33 +49,33 @@ use Rattle.scalar.proofs.Opened.{opened-laws, opened-why, opened-is}
 -- ---- a text at a place where it fits
 module _ {text old ys : List ℕ} {size : ℕ} {r : Unescaped} (w : PutRoom old size (unescaped text))
     (x : Unescape text (rest old size) ys r) where
-  fit : leb (length (bytesOf (unescaped text))) (length (rest old size)) ≡ true
-  fit = le-leb (length (bytesOf (unescaped text))) (length (rest old size)) (omega (arith, w .fits, rest-length old size))
+  fit : leb (length (meaning (unescaped text))) (length (rest old size)) ≡ true
+  fit = le-leb (length (meaning (unescaped text))) (length (rest old size)) (omega (arith, w .fits, rest-length old size))
 
-  answered : r ≡ Unescaped.Length (length (bytesOf (unescaped text)))
+  answered : r ≡ Unescaped.Length (length (meaning (unescaped text)))
   unfolding answer
   answered = x .number ∙ rw (w .is, fit)
 
-  pub put-length : {n : ℕ} → r ≡ Unescaped.Length n → Stored old (back old size ys) size (bytesOf (unescaped text)) (size + n)
+  pub put-length : {n : ℕ} → r ≡ Unescaped.Length n → Stored old (back old size ys) size (meaning (unescaped text)) (size + n)
   unfolding filled
   put-length {n} e =
-      let q : Unescaped.Length n ≡ Unescaped.Length (length (bytesOf (unescaped text))) = sym e ∙ answered in
-      let m : n ≡ length (bytesOf (unescaped text)) = cc in
-      let b : ys ≡ overwritten (rest old size) (bytesOf (unescaped text)) = x .buffer ∙ rw (w .is, fit) in
-      record { next = rw m; is = back-stored old size (bytesOf (unescaped text)) (w .fits) b }
+      let q : Unescaped.Length n ≡ Unescaped.Length (length (meaning (unescaped text))) = sym e ∙ answered in
+      let m : n ≡ length (meaning (unescaped text)) = cc in
+      let b : ys ≡ overwritten (rest old size) (meaning (unescaped text)) = x .buffer ∙ rw (w .is, fit) in
+      record { next = rw m; is = back-stored old size (meaning (unescaped text)) (w .fits) b }
 
   pub put-fits : {n : ℕ} → r ≡ Unescaped.Length n → length old < 2 ^ 64 → Fits w64 (size + n)
   put-fits {n} e g = record { fits = omega (arith, w .fits, put-length e .next) }
 
   -- it is no other answer
-  pub put-bad : r ≡ Unescaped.BadReference → Stored old (back old size ys) size (bytesOf (unescaped text)) size
+  pub put-bad : r ≡ Unescaped.BadReference → Stored old (back old size ys) size (meaning (unescaped text)) size
   put-bad e =
-      let q : Unescaped.BadReference ≡ Unescaped.Length (length (bytesOf (unescaped text))) = sym e ∙ answered in
+      let q : Unescaped.BadReference ≡ Unescaped.Length (length (meaning (unescaped text))) = sym e ∙ answered in
       let z : _≡_ {A = ℕ} 0 1 = cc in absurd (omega arith)
 
-  pub put-none : r ≡ Unescaped.NoRoom → Stored old (back old size ys) size (bytesOf (unescaped text)) size
+  pub put-none : r ≡ Unescaped.NoRoom → Stored old (back old size ys) size (meaning (unescaped text)) size
   put-none e =
-      let q : Unescaped.NoRoom ≡ Unescaped.Length (length (bytesOf (unescaped text))) = sym e ∙ answered in
+      let q : Unescaped.NoRoom ≡ Unescaped.Length (length (meaning (unescaped text))) = sym e ∙ answered in
       let z : _≡_ {A = ℕ} 0 1 = cc in absurd (omega arith)
 
 pub ruleset put-laws = (needs, put-length, put-bad, put-none, put-fits)
@@ -84,8 +84,8 @@ module _ (body t : List ℕ) (k : ℕ) {out : List ℕ} {size : ℕ} {v : List �
   pub row-room : PutRoom out size (unescaped (valueAt body t k)) → PutRoom out size (unescaped v)
   row-room w = rw p w
 
-  pub row-stored : {now : List ℕ} {r : ℕ} → Stored out now size (bytesOf (unescaped v)) r
-      → Stored out now size (bytesOf (unescaped (valueAt body t k))) r
+  pub row-stored : {now : List ℕ} {r : ℕ} → Stored out now size (meaning (unescaped v)) r
+      → Stored out now size (meaning (unescaped (valueAt body t k))) r
   row-stored x = rw p at x
 
 pub ruleset put-row-laws = (needs, value-span, row-room, row-stored)

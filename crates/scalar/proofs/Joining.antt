@@ -14,7 +14,7 @@ use Rattle.lists.specs.Overwrite.{overwritten, Stored}
 use Rattle.lists.proofs.Overwrite.{overwrite-none, overwrite-more}
 use Rattle.refusal.specs.declared.Refusal.{Refusal}
 use Rattle.refusal.specs.Answer.{Answer, gives, refuses}
-use Rattle.reference.specs.Text.{Out, bytes, bad, unescaped}
+use Rattle.reference.specs.Text.{Out, bytes, bad, unescaped, meaning}
 use Rattle.reference.proofs.Result.{unescaped-shorter}
 use Rattle.reference.specs.declared.Unescaped.{Unescaped}
 use Rattle.unescape.specs.Loops.{sizeOf}
@@ -26,7 +26,7 @@ use Rattle.document.proofs.Laws.Short.{cut-short}
 use Rattle.decode.specs.declared.reader.ScopeRow.{ScopeRow}
 use Rattle.decode.specs.declared.view.View.{View}
 use Rattle.decode.specs.Rows.{InTable, nameAt, valueAt, tokAt}
-use Rattle.decode.specs.Reader.{toksFrom, scopeAt, HasRow, DepthIs, bytesOf}
+use Rattle.decode.specs.Reader.{toksFrom, scopeAt, HasRow, DepthIs}
 use Rattle.decode.specs.View.{Viewed}
 use Rattle.decode.proofs.ByKind.{other}
 use Rattle.decode.proofs.Names.{value-span}
@@ -245,13 +245,13 @@ module _ {body t : List ℕ} {v : View} {s : ScopeRow} {d₀ k₀ : ℕ} {old ou
 
       module _ (e : r ≡ Turn.Text) where
         abbrev text : List ℕ
-        text = bytesOf (unescaped (valueAt body t k))
+        text = meaning (unescaped (valueAt body t k))
 
         -- the text is no bad one
         is-bytes : unescaped (valueAt body t k) ≡ bytes text
         is-bytes = good (unescaped (valueAt body t k)) refl
           where
-            good : (o : Out) → unescaped (valueAt body t k) ≡ o → o ≡ bytes (bytesOf o)
+            good : (o : Out) → unescaped (valueAt body t k) ≡ o → o ≡ bytes (meaning o)
             good (bytes l) q = refl
             good (bad at) q = never (sym (w .room .is) ∙ join-bad (w .at) h x e q)
 

@@ -6,7 +6,7 @@ use mathlib.Core.List.{List, [], _++_}
 use lib.ListN.{length}
 use Rattle.refusal.specs.declared.Refusal.{Refusal}
 use Rattle.refusal.specs.Answer.{Answer, gives, refuses, onward}
-use Rattle.reference.specs.Text.{Out, bytes, unescaped}
+use Rattle.reference.specs.Text.{Out, bytes, unescaped, meaning}
 use Rattle.table.specs.Row.{Tok, rowsOf}
 use Rattle.document.specs.declared.Depth.{Depth}
 use Rattle.document.specs.Reader.{depth, depthAfter}
@@ -17,7 +17,7 @@ use Rattle.readings.specs.Scalar.{stringIn}
 use Rattle.decode.specs.declared.reader.ScopeRow.{ScopeRow}
 use Rattle.decode.specs.declared.view.View.{View}
 use Rattle.decode.specs.Rows.{valueAt, tokAt}
-use Rattle.decode.specs.Reader.{toksFrom, scopeAt, bytesOf}
+use Rattle.decode.specs.Reader.{toksFrom, scopeAt}
 use Rattle.scalar.specs.declared.Copied.{Copied}
 use Rattle.scalar.specs.declared.whole.Turn.{Turn}
 use Rattle.scalar.specs.Answers.{copiedAs, lengthIn}
@@ -59,8 +59,8 @@ pub record JoinRoom (a : Answer (List ℕ)) (room : ℕ) : Type 0 where
 
 -- the references of a text are right, and it fits at a place
 pub record PutRoom (old : List ℕ) (size : ℕ) (o : Out) : Type 0 where
-  pub is : o ≡ bytes (bytesOf o)
-  pub fits : size + length (bytesOf o) ≤ length old
+  pub is : o ≡ bytes (meaning o)
+  pub fits : size + length (meaning o) ≤ length old
 
 -- a text, where there is room for it
 abbrev pub textIn : ℕ → Answer (List ℕ) → Answer (List ℕ)

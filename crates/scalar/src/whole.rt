@@ -3,11 +3,11 @@
 ghost use mathlib.Core.Path.{_≡_};
 ghost use lib.ListN.{length};
 ghost use Rattle.lists.specs.Overwrite.{Stored};
-ghost use Rattle.reference.specs.Text.{unescaped};
+ghost use Rattle.reference.specs.Text.{unescaped, meaning};
 ghost use Rattle.table.specs.Rules.{TableRules};
 ghost use Rattle.document.specs.Text.{wholeOf};
 ghost use Rattle.decode.specs.Rows.{InTable, Readable, valueAt};
-ghost use Rattle.decode.specs.Reader.{HasRow, ScopeIn, bytesOf, childAt};
+ghost use Rattle.decode.specs.Reader.{HasRow, ScopeIn, childAt};
 ghost use Rattle.decode.specs.View.{Viewed};
 ghost use Rattle.readings.specs.Call.{uploaded};
 ghost use Rattle.readings.specs.Scalar.{wholeText};
@@ -113,7 +113,7 @@ fn joined_length(body: &[u8], rows: &[u32], view: View, scope: ScopeRow, at: Cur
 // Writes a text, its references replaced, at a place where it fits, and answers the place after it.
 fn put_text(out: &mut [u8], size: usize, text: &[u8]) -> usize
     requires { ⌜ PutRoom (now out) size (unescaped (now text)) ⌝ }
-    ensures { λ r. ⌜ Stored (now (out .entry)) (now (out .exit)) size (bytesOf (unescaped (now (text .entry)))) r ⌝ }
+    ensures { λ r. ⌜ Stored (now (out .entry)) (now (out .exit)) size (meaning (unescaped (now (text .entry)))) r ⌝ }
 {
     match unescape::unescape(text, &mut out[size..]) {
         Unescaped::Length(n) => size + n,
@@ -129,7 +129,7 @@ fn put_row(body: &[u8], rows: &[u32], k: usize, out: &mut [u8], size: usize) -> 
     requires { ⌜ InTable (now rows) k ⌝ }
     requires { ⌜ PutRoom (now out) size (unescaped (valueAt (now body) (now rows) k)) ⌝ }
     ensures { λ r. ⌜ Stored (now (out .entry)) (now (out .exit)) size
-        (bytesOf (unescaped (valueAt (now (body .entry)) (now (rows .entry)) k))) r ⌝ }
+        (meaning (unescaped (valueAt (now (body .entry)) (now (rows .entry)) k))) r ⌝ }
 {
     put_text(out, size, span(body, rows, k, VALUE))
 }

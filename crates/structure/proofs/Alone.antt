@@ -14,7 +14,7 @@ use Rattle.lists.specs.Tests.{pick}
 use Rattle.lists.proofs.Tests.{less-is}
 use Rattle.refusal.specs.declared.Refusal.{Refusal}
 use Rattle.table.specs.Row.{Row, Name, tokAs}
-use Rattle.table.specs.Rules.{openCount, among}
+use Rattle.table.specs.Rules.{closesElement, openCount}
 use Rattle.table.specs.Flat.{rowAt, rowsFrom}
 use Rattle.table.proofs.Flat.{unroll, rolled-out}
 use Rattle.table.specs.Piece.{closing, isClosed, pieceStart}
@@ -62,7 +62,7 @@ open-is n kind {m} a d = rw (ne-eqb kind 1 a) (four (eqb kind 4) refl (eqb kind 
     of : {x : ℕ} → depth x ≡ depth m → m ≡ x
     of e = sym (ap (λ (q : Depth). q .0) e)
 
-    four : (x : Bool) → eqb kind 4 ≡ x → (y : Bool) → eqb kind 5 ≡ y → m ≡ pick (among (4 ∷ 5 ∷ []) kind) (n - 1) n
+    four : (x : Bool) → eqb kind 4 ≡ x → (y : Bool) → eqb kind 5 ≡ y → m ≡ pick (closesElement kind) (n - 1) n
     four true e y f = rw (eqb-true kind 4 e) (of (rw (eqb-true kind 4 e) at is) ∙ less-is n)
     four false e true f = rw (eqb-true kind 5 f) (of (rw (eqb-true kind 5 f) at is) ∙ less-is n)
     four false e false f = rw (e, f) (of (sym (other kind blank [] .depth a (eqb-false kind 4 e) (eqb-false kind 5 f) (depth n)) ∙ is))

@@ -8,7 +8,7 @@ use native.Mathlib.Omega.{arith}
 use borrow.Author.Needs.{needs}
 use lib.ListN.{length, getD, drop}
 use Rattle.refusal.specs.declared.Refusal.{Refusal}
-use Rattle.reference.specs.Text.{bytes, unescaped}
+use Rattle.reference.specs.Text.{bytes, unescaped, meaning}
 use Rattle.document.specs.Reader as doc
 use Rattle.sheet.specs.Sheet.{Structure}
 use Rattle.sheet.specs.Names.{attributeName, membersOf}
@@ -17,7 +17,7 @@ use Rattle.decode.specs.Rows.{InTable, valueAt}
 use Rattle.decode.specs.declared.reader.StartRow.{StartRow}
 use Rattle.decode.specs.declared.reader.Attribute.{Attribute}
 use Rattle.decode.specs.declared.view.View.{View}
-use Rattle.decode.specs.Reader.{bytesOf, startAt, StartIn, AttributeIs}
+use Rattle.decode.specs.Reader.{startAt, StartIn, AttributeIs}
 use Rattle.decode.proofs.Names.{value-span}
 use Rattle.decode.proofs.Attributes.{valueIn, attribute-value}
 use Rattle.codec.specs.declared.structure.Member.{Member}
@@ -58,7 +58,7 @@ module _ (body t : List ℕ) (n : ℕ) (s : StartRow) (member : ℕ) (name : Lis
       → Wrote (attributeNamed (startAt body t s .attributes) member name) e x w e′ x′ got
   unfolding text
   attribute-row {k} {l} p q f d =
-      let v : unescaped l ≡ bytes (bytesOf (unescaped (valueAt body t k))) = rw f ((rw p at (y .row)) .1) in
+      let v : unescaped l ≡ bytes (meaning (unescaped (valueAt body t k))) = rw f ((rw p at (y .row)) .1) in
       wrote-as (as-found (ap (valueIn body t) p) ∙ sym (rw v)) (value-short q k f) (text-adds member l) d
 
 pub ruleset attribute-laws = (needs, value-span, value-ready, attribute-in, attribute-nothing, attribute-row)

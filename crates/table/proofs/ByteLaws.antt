@@ -12,7 +12,7 @@ use lib.ListN.{getD}
 use Rattle.lists.proofs.Tests.{false-true}
 use Rattle.lists.specs.Decide.{Says}
 use Rattle.lists.proofs.Decide.{says-yes, says-no, says-same, says-not, says-eqb, says-ltb}
-use Rattle.table.specs.Rules.{among, lastLt}
+use Rattle.table.specs.Rules.{endsInGt, isTag, lastLt}
 use Rattle.table.proofs.SpanLaws.{filled}
 use Rattle.table.specs.Bytes.{LastIn, Begins, Ends, Bytes}
 
@@ -107,16 +107,16 @@ module _ (body t : List ℕ) (k : ℕ) {low at i : ℕ} (e : at ≡ getD t (k * 
 pub ruleset begins-laws = (needs, not-true, not-false, begins-none, begins-bare, begins-before)
 
 -- ---- how a row ends
-five : (kind : ℕ) → kind ≡ 5 → among (3 ∷ 4 ∷ 5 ∷ []) kind ≡ true
+five : (kind : ℕ) → kind ≡ 5 → endsInGt kind ≡ true
 five kind e = rw e
 
-module _ (body : List ℕ) (kind own : ℕ) {a : Bool} (is : a ≡ among (3 ∷ 4 ∷ 5 ∷ []) kind) where
+module _ (body : List ℕ) (kind own : ℕ) {a : Bool} (is : a ≡ endsInGt kind) where
   pub ends-other : a ≡ false → Says (Ends body kind own) true
   ends-other n =
       says-yes (record { gt = λ e. false-true (sym n ∙ is ∙ e); slash = λ e. false-true (sym n ∙ is ∙ five kind e) })
 
   module _ (y : a ≡ true) where
-    must : among (3 ∷ 4 ∷ 5 ∷ []) kind ≡ true
+    must : endsInGt kind ≡ true
     must = sym is ∙ y
 
     pub ends-none : own < 1 → Says (Ends body kind own) false
@@ -138,7 +138,7 @@ module _ (body : List ℕ) (kind own : ℕ) {a : Bool} (is : a ≡ among (3 ∷ 
 pub ruleset ends-laws = (needs, not-true, not-false, ends-other, ends-none, ends-differs, ends-gt, ends-short, ends-slash)
 
 -- ---- both
-module _ {body : List ℕ} {kind previous own : ℕ} {t : List ℕ} {k : ℕ} {a : Bool} (is : a ≡ among (1 ∷ 4 ∷ []) kind) where
+module _ {body : List ℕ} {kind previous own : ℕ} {t : List ℕ} {k : ℕ} {a : Bool} (is : a ≡ isTag kind) where
   pub bytes-other : {r : Bool} → a ≡ false → Says (Ends body kind own) r → Says (Bytes body kind previous own t k) r
   bytes-other n s = says-same (λ i. record { tag = λ e. false-true (sym n ∙ is ∙ e); ending = i }) (λ i. i .ending) s
 

@@ -12,7 +12,7 @@ use Rattle.lists.specs.Tests.{pick}
 use Rattle.lists.proofs.Tests.{false-true}
 use Rattle.utf8.proofs.Cut.{utf8-part}
 use Rattle.table.specs.Row.{Row, cut, toksOf}
-use Rattle.table.specs.Rules.{openCount, among, Place, beginOf, RowRules, EachRow, none, row, lastPosition, Rules}
+use Rattle.table.specs.Rules.{closesElement, endsInGt, openCount, Place, beginOf, RowRules, EachRow, none, row, lastPosition, Rules}
 use Rattle.table.specs.Piece.{moved, closing, isClosed, elementRows, pieceBytes, pieceRows, pieceFinal, ElementAt}
 use Rattle.table.proofs.Flat.{last-high}
 use Rattle.table.proofs.Moved.{length-cut, moved-toks, element-rows, last-taken}
@@ -52,7 +52,7 @@ length-dropped (suc k) [] = omega arith
 length-dropped (suc k) (r ∷ rest) = let x = length-dropped k rest in omega arith
 
 -- ---- the row that closes an element ends in `>`
-close-ends : (k : ℕ) → among (4 ∷ 5 ∷ []) k ≡ true → among (3 ∷ 4 ∷ 5 ∷ []) k ≡ true
+close-ends : (k : ℕ) → closesElement k ≡ true → endsInGt k ≡ true
 close-ends k = go (eqb k 3) (eqb k 4) (eqb k 5)
   where
     go : (a b c : Bool) → pick b true (pick c true false) ≡ true → pick a true (pick b true (pick c true false)) ≡ true
@@ -64,8 +64,8 @@ positive zero f = absurd (f refl)
 positive (suc m) f = omega arith
 
 -- a row after which none is open, and some were before it, is of kind 4 or 5
-closes-is : (n : ℕ) (r : Row) → 0 < n → openCount n (r .kind) ≡ 0 → among (4 ∷ 5 ∷ []) (r .kind) ≡ true
-closes-is n r h = go (eqb (r .kind) 1) (among (4 ∷ 5 ∷ []) (r .kind))
+closes-is : (n : ℕ) (r : Row) → 0 < n → openCount n (r .kind) ≡ 0 → closesElement (r .kind) ≡ true
+closes-is n r h = go (eqb (r .kind) 1) (closesElement (r .kind))
   where
     go : (a b : Bool) → pick a (suc n) (pick b (n - 1) n) ≡ 0 → b ≡ true
     go true b e = absurd (omega arith)

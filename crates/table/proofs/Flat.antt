@@ -71,6 +71,23 @@ unroll t k n h =
 pub rolled-out : (t : List ℕ) (k n : ℕ) → n ≤ k → rowsFrom t k (n - k) ≡ []
 rolled-out t k n h = let e : n - k ≡ 0 = omega arith in rw e
 
+-- the rows after some of them
+pub drop-from : (t : List ℕ) (s i m : ℕ) → drop i (rowsFrom t s m) ≡ rowsFrom t (s + i) (m - i)
+drop-from t s zero m = let z : s + 0 ≡ s = omega arith in let y : m - 0 ≡ m = omega arith in rw (z, y)
+drop-from t s (suc i) zero = let y : 0 - suc i ≡ 0 = omega arith in rw y
+drop-from t s (suc i) (suc m) =
+    let z : s + suc i ≡ suc s + i = omega arith in
+    let y : suc m - suc i ≡ m - i = omega arith in
+    rw (z, y) (drop-from t (suc s) i m)
+
+-- a number from s on is s or a later one
+pub here-or-later : (P : ℕ → Type 0) (s k : ℕ) → s ≤ k → P s → (suc s ≤ k → P k) → P k
+here-or-later P s k l here later = go (leb (suc s) k) refl
+  where
+    go : (b : Bool) → leb (suc s) k ≡ b → P k
+    go true h = later (leb-true (suc s) k h)
+    go false h = let z : k ≡ s = omega (arith, leb-false (suc s) k h) in rw z here
+
 -- ---- the spans of a row lie in the body
 -- a span that begins at 0 where it is empty, and ends in time where it is filled
 span-in : (from len own : ℕ) → (len ≡ 0 → from ≤ own) → (0 < len → from + len ≤ own) → from + len ≤ own
@@ -108,16 +125,9 @@ module _ (body table : List ℕ) (final : ℕ) (within : final ≤ length body) 
         position = omega arith;
       }
 
-  pick-row : (s k : ℕ) → s ≤ k → SpansIn body table s → (suc s ≤ k → SpansIn body table k) → SpansIn body table k
-  pick-row s k l i f = go (leb (suc s) k) refl
-    where
-      go : (b : Bool) → leb (suc s) k ≡ b → SpansIn body table k
-      go true q = f (leb-true (suc s) k q)
-      go false q = let z : s ≡ k = omega (arith, leb-false (suc s) k q) in rw z at i
-
   each-in : (m s k : ℕ) {p : Place} → EachRow body p (rowsFrom table s m) → lastPosition (p .position) (rowsFrom table s m) ≤ final → s ≤ k → k < s + m → SpansIn body table k
   each-in zero s k e h l u = absurd (omega arith)
-  each-in (suc m) s k (row o t) h l u = pick-row s k l (here s o (omega (arith, last-high t))) (λ g. each-in m (suc s) k t h g (omega arith))
+  each-in (suc m) s k (row o t) h l u = here-or-later (SpansIn body table) s k l (here s o (omega (arith, last-high t))) (λ g. each-in m (suc s) k t h g (omega arith))
 
 -- of a table that obeys the rules
 pub spans-in : {body table : List ℕ} {final : ℕ} → TableRules body table final → (k : ℕ) → k < length table / 8 → SpansIn body table k

@@ -1,3 +1,4 @@
+pub mod Classes
 pub mod RowLaws
 pub mod Flat
 pub mod Moved

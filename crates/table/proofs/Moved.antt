@@ -13,7 +13,7 @@ use lib.Seq.{drop-drop, take-take, getD-take, getD-drop}
 use Rattle.lists.specs.Tests.{pick}
 use Rattle.lists.proofs.Tests.{pick-same, false-true}
 use Rattle.table.specs.Row.{Row, cut, tokAs, tokOf, toksOf}
-use Rattle.table.specs.Rules.{openCount, among, usesName, Place, atFirst, after, ZeroFields, FilledSpan, FilledSpans, LocalStart, lastLt, beginOf, LastLt, EndsIn, Ending, RowRules, EachRow, none, row, lastPosition}
+use Rattle.table.specs.Rules.{closesElement, endsInGt, endsTag, isTag, openCount, usesName, Place, atFirst, after, ZeroFields, FilledSpan, FilledSpans, LocalStart, lastLt, beginOf, LastLt, EndsIn, Ending, RowRules, EachRow, none, row, lastPosition}
 use Rattle.table.specs.Piece.{movedSpan, moved, closing}
 
 -- ---- parts of a body
@@ -119,7 +119,7 @@ moved-toks body s n (suc c) (row o t) h u =
 abbrev pub placed : ℕ → ℕ → Place → Place
 placed s d p = record { position = p .position - s; inTag = p .inTag; nesting = p .nesting - d; rooted = true }
 
-tag-named : (k : ℕ) → among (1 ∷ 4 ∷ []) k ≡ true → usesName k ≡ true
+tag-named : (k : ℕ) → isTag k ≡ true → usesName k ≡ true
 tag-named k = go (eqb k 1) (eqb k 2) (eqb k 4)
   where
     go : (a b c : Bool) → pick a true (pick c true false) ≡ true → pick a true (pick b true (pick c true false)) ≡ true
@@ -162,7 +162,7 @@ module _ (body : List ℕ) (s n d : ℕ) {p : Place} {r : Row} {rest : List Row}
   prefix-moved b from zero h f g = absurd (omega arith)
   prefix-moved b from (suc len) h f g = let x = f g in omega arith
 
-  moved-tag : among (1 ∷ 4 ∷ []) (r .kind) ≡ true → LastLt (cut body s n) (placed s d p) (moved s r)
+  moved-tag : isTag (r .kind) ≡ true → LastLt (cut body s n) (placed s d p) (moved s r)
   moved-tag e =
       let g = o .tagBegins e in
       let m = tag-named (r .kind) e in
@@ -182,7 +182,7 @@ module _ (body : List ℕ) (s n d : ℕ) {p : Place} {r : Row} {rest : List Row}
       (omega arith, rw q (get-cut body s n (r .position - back) (omega arith) (omega arith) ∙ e .1))
 
   -- `>` is not the piece's `<`, so `/` stands in the piece too
-  slash-in : among (3 ∷ 4 ∷ 5 ∷ []) (r .kind) ≡ true → s + 2 ≤ r .position
+  slash-in : endsInGt (r .kind) ≡ true → s + 2 ≤ r .position
   slash-in e = go (eqb (r .position - 1) s) refl
     where
       later : (q : ℕ) → s + 1 ≤ q → (q - 1 ≡ s → ⊥) → s + 2 ≤ q
@@ -222,7 +222,7 @@ module _ (body : List ℕ) (s n d : ℕ) {p : Place} {r : Row} {rest : List Row}
 -- ---- the rows of an element
 -- counted without the d that are open around it
 open-less : (d : ℕ) (p : Place) (r : Row) → d < p .nesting → openCount (p .nesting - d) (r .kind) ≡ after p r .nesting - d
-open-less d p r h = go (eqb (r .kind) 1) (among (4 ∷ 5 ∷ []) (r .kind))
+open-less d p r h = go (eqb (r .kind) 1) (closesElement (r .kind))
   where
     go : (a b : Bool) → pick a (suc (p .nesting - d)) (pick b (p .nesting - d - 1) (p .nesting - d)) ≡ pick a (suc (p .nesting)) (pick b (p .nesting - 1) (p .nesting)) - d
     go true b = omega arith
@@ -233,7 +233,7 @@ placed-after : (s d : ℕ) (p : Place) (r : Row) → d < p .nesting → after (p
 placed-after s d p r h =
     λ i. record {
       position = r .position - s;
-      inTag = pick (eqb (r .kind) 1) true (pick (among (3 ∷ 5 ∷ []) (r .kind)) false (p .inTag));
+      inTag = pick (eqb (r .kind) 1) true (pick (endsTag (r .kind)) false (p .inTag));
       nesting = open-less d p r h i;
       rooted = pick-same (eqb (r .kind) 1) true i;
     }

@@ -12,27 +12,27 @@ use lib.Dec.{eqb, ltb}
 use Rattle.lists.proofs.Tests.{false-true}
 use Rattle.lists.specs.Decide.{Says}
 use Rattle.lists.proofs.Decide.{says-yes, says-no, says-same, says-not, says-eqb, says-ltb, says-flag, says-not-flag}
-use Rattle.table.specs.Rules.{among}
+use Rattle.table.specs.Rules.{mostKind, inTagOnly, mayBeInTag, mayFollowRoot, needsElement}
 use Rattle.table.proofs.SpanLaws.{filled}
 use Rattle.table.specs.Order.{InOrder, OpenOrder, Order, place, StepsTo}
 
 -- ---- start tags
 module _ {inTag : Bool} (kind : ℕ) {a : Bool} where
-  pub order-inside : inTag ≡ true → a ≡ among (2 ∷ 3 ∷ 5 ∷ 8 ∷ []) kind → Says (InOrder inTag kind) a
+  pub order-inside : inTag ≡ true → a ≡ mayBeInTag kind → Says (InOrder inTag kind) a
   order-inside y e =
       says-same (λ q. record { inside = λ z. sym e ∙ q; outside = λ n. false-true (sym n ∙ y) }) (λ o. e ∙ o .inside y) (says-flag a)
 
-  pub order-outside : inTag ≡ false → a ≡ among (2 ∷ 3 ∷ 5 ∷ []) kind → Says (InOrder inTag kind) (not a)
+  pub order-outside : inTag ≡ false → a ≡ inTagOnly kind → Says (InOrder inTag kind) (not a)
   order-outside n e =
       says-same (λ q. record { inside = λ y. false-true (sym n ∙ y); outside = λ z. sym e ∙ q }) (λ o. e ∙ o .outside n) (says-not-flag a)
 
 -- ---- open elements
 module _ {nesting : ℕ} {rooted : Bool} {kind : ℕ} where
-  module _ {a : Bool} (z : nesting ≡ 0) (e : a ≡ among (4 ∷ 6 ∷ []) kind) where
+  module _ {a : Bool} (z : nesting ≡ 0) (e : a ≡ needsElement kind) where
     pub open-none : a ≡ true → Says (OpenOrder nesting rooted kind) false
     open-none y = says-no (λ o. omega (arith, o .needs (sym e ∙ y)))
 
-    pub open-root : {b : Bool} → a ≡ false → rooted ≡ true → b ≡ among (7 ∷ 8 ∷ []) kind → Says (OpenOrder nesting rooted kind) b
+    pub open-root : {b : Bool} → a ≡ false → rooted ≡ true → b ≡ mayFollowRoot kind → Says (OpenOrder nesting rooted kind) b
     open-root {b} n y f =
         says-same
         (λ q. record { needs = λ m. false-true (sym n ∙ e ∙ m); root = λ r o. sym f ∙ q; limit = λ k. omega arith })
@@ -65,7 +65,7 @@ module _ {inTag : Bool} {nesting : ℕ} {rooted : Bool} {kind left : ℕ} where
   pub order-open : {b : Bool} → Says (OpenOrder nesting rooted kind) b → b ≡ false → Says (Order inTag nesting rooted kind left) false
   order-open s n = says-no (λ o. says-not s n (o .count))
 
-  module _ {a b : Bool} (low : 1 ≤ kind) (high : kind ≤ 8) (s : Says (InOrder inTag kind) a) (y : a ≡ true) (u : Says (OpenOrder nesting rooted kind) b) (z : b ≡ true) where
+  module _ {a b : Bool} (low : 1 ≤ kind) (high : kind ≤ mostKind) (s : Says (InOrder inTag kind) a) (y : a ≡ true) (u : Says (OpenOrder nesting rooted kind) b) (z : b ≡ true) where
     all : (kind ≡ 8 → left ≡ 0) → Order inTag nesting rooted kind left
     all f = record { low = low; high = high; tag = s .sound y; count = u .sound z; last = f }
 

@@ -5,7 +5,7 @@ use mathlib.Core.Bool.{true}
 use mathlib.Core.List.{List, [], _∷_}
 use lib.ListN.{length, getD}
 use Rattle.lists.specs.Characters.{solidus, lessThan, greaterThan}
-use Rattle.table.specs.Rules.{among, lastLt}
+use Rattle.table.specs.Rules.{endsInGt, isTag, lastLt}
 
 -- ---- the last `<`
 -- r is the place of the last `<` before `at`, if that is not before `low`; else r is `at`
@@ -25,7 +25,7 @@ pub record Begins (body : List ℕ) (previous : ℕ) (t : List ℕ) (k : ℕ) : 
 
 -- ---- how a row ends
 pub record Ends (body : List ℕ) (kind own : ℕ) : Type 0 where
-  pub gt : among (3 ∷ 4 ∷ 5 ∷ []) kind ≡ true → (1 ≤ own) × (getD body (own - 1) 0 ≡ greaterThan)
+  pub gt : endsInGt kind ≡ true → (1 ≤ own) × (getD body (own - 1) 0 ≡ greaterThan)
   pub slash : kind ≡ 5 → (2 ≤ own) × (getD body (own - 2) 0 ≡ solidus)
 
 -- ---- both
@@ -36,5 +36,5 @@ pub record BytesIn (body : List ℕ) (own : ℕ) (t : List ℕ) (k : ℕ) : Type
   pub ends : own ≤ length body
 
 pub record Bytes (body : List ℕ) (kind previous own : ℕ) (t : List ℕ) (k : ℕ) : Type 0 where
-  pub tag : among (1 ∷ 4 ∷ []) kind ≡ true → Begins body previous t k
+  pub tag : isTag kind ≡ true → Begins body previous t k
   pub ending : Ends body kind own

@@ -5,23 +5,23 @@ use mathlib.Core.Bool.{Bool, true, false}
 use mathlib.Core.List.{[], _∷_}
 use lib.Dec.{eqb}
 use Rattle.lists.specs.Tests.{pick}
-use Rattle.table.specs.Rules.{among, Place}
+use Rattle.table.specs.Rules.{mostKind, closesElement, endsTag, inTagOnly, mayBeInTag, mayFollowRoot, needsElement, Place}
 
 -- ---- start tags
 pub record InOrder (inTag : Bool) (kind : ℕ) : Type 0 where
-  pub inside : inTag ≡ true → among (2 ∷ 3 ∷ 5 ∷ 8 ∷ []) kind ≡ true
-  pub outside : inTag ≡ false → among (2 ∷ 3 ∷ 5 ∷ []) kind ≡ false
+  pub inside : inTag ≡ true → mayBeInTag kind ≡ true
+  pub outside : inTag ≡ false → inTagOnly kind ≡ false
 
 -- ---- open elements
 pub record OpenOrder (nesting : ℕ) (rooted : Bool) (kind : ℕ) : Type 0 where
-  pub needs : among (4 ∷ 6 ∷ []) kind ≡ true → 0 < nesting
-  pub root : rooted ≡ true → nesting ≡ 0 → among (7 ∷ 8 ∷ []) kind ≡ true
+  pub needs : needsElement kind ≡ true → 0 < nesting
+  pub root : rooted ≡ true → nesting ≡ 0 → mayFollowRoot kind ≡ true
   pub limit : kind ≡ 1 → nesting < 256
 
 -- ---- all of them, with so many rows left
 pub record Order (inTag : Bool) (nesting : ℕ) (rooted : Bool) (kind left : ℕ) : Type 0 where
   pub low : 1 ≤ kind
-  pub high : kind ≤ 8
+  pub high : kind ≤ mostKind
   pub tag : InOrder inTag kind
   pub count : OpenOrder nesting rooted kind
   pub last : kind ≡ 8 → left ≡ 0
@@ -35,8 +35,8 @@ abbrev pub stepTo : Place → ℕ → ℕ → Place
 stepTo p kind own =
     record {
       position = own;
-      inTag = pick (eqb kind 1) true (pick (among (3 ∷ 5 ∷ []) kind) false (p .inTag));
-      nesting = pick (eqb kind 1) (suc (p .nesting)) (pick (among (4 ∷ 5 ∷ []) kind) (p .nesting - 1) (p .nesting));
+      inTag = pick (eqb kind 1) true (pick (endsTag kind) false (p .inTag));
+      nesting = pick (eqb kind 1) (suc (p .nesting)) (pick (closesElement kind) (p .nesting - 1) (p .nesting));
       rooted = pick (eqb kind 1) true (p .rooted);
     }
 

@@ -20,6 +20,10 @@ mostBytes = 65536
 abbrev pub mostOpen : ℕ
 mostOpen = 256
 
+-- "Kinds: 1 start .. 8 token error"
+abbrev pub mostKind : ℕ
+mostKind = 8
+
 -- a kind is one of a list
 abbrev pub among : List ℕ → ℕ → Bool
 among [] k = false
@@ -31,6 +35,38 @@ usesName k = among (1 ∷ 2 ∷ 4 ∷ []) k
 
 abbrev pub usesValue : ℕ → Bool
 usesValue k = among (2 ∷ 6 ∷ []) k
+
+-- ---- what a kind does, each set of kinds named once
+-- 3 and 5 end a start tag
+abbrev pub endsTag : ℕ → Bool
+endsTag k = among (3 ∷ 5 ∷ []) k
+
+-- 4 and 5 close an element
+abbrev pub closesElement : ℕ → Bool
+closesElement k = among (4 ∷ 5 ∷ []) k
+
+-- "In kinds 1 and 4 the last `<` before the local name .."
+abbrev pub isTag : ℕ → Bool
+isTag k = among (1 ∷ 4 ∷ []) k
+
+-- "Kinds 3 and 4 end in `>`, kind 5 in `/>`."
+abbrev pub endsInGt : ℕ → Bool
+endsInGt k = among (3 ∷ 4 ∷ 5 ∷ []) k
+
+-- "After a start only 2, then 3 or 5, or 8 .. Kinds 2, 3, 5 come nowhere else."
+abbrev pub mayBeInTag : ℕ → Bool
+mayBeInTag k = among (2 ∷ 3 ∷ 5 ∷ 8 ∷ []) k
+
+abbrev pub inTagOnly : ℕ → Bool
+inTagOnly k = among (2 ∷ 3 ∷ 5 ∷ []) k
+
+-- "Kinds 4 and 6 need an open element."
+abbrev pub needsElement : ℕ → Bool
+needsElement k = among (4 ∷ 6 ∷ []) k
+
+-- "Once the root has closed, only 7 and 8."
+abbrev pub mayFollowRoot : ℕ → Bool
+mayFollowRoot k = among (7 ∷ 8 ∷ []) k
 
 -- ---- where a row stands
 -- what the rows before it have come to: the position of the last (0 at first); whether a start tag is not ended yet; how many elements
@@ -46,22 +82,22 @@ atFirst = record { position = 0; inTag = false; nesting = 0; rooted = false }
 
 -- how many elements are open after a row of a kind, where n are before it: a start row opens one, kinds 4 and 5 close one
 abbrev pub openCount : ℕ → ℕ → ℕ
-openCount n kind = pick (eqb kind 1) (suc n) (pick (among (4 ∷ 5 ∷ []) kind) (n - 1) n)
+openCount n kind = pick (eqb kind 1) (suc n) (pick (closesElement kind) (n - 1) n)
 
 -- a start row begins a start tag, 3 and 5 end one
 abbrev pub after : Place → Row → Place
 after p r =
     record {
       position = r .position;
-      inTag = pick (eqb (r .kind) 1) true (pick (among (3 ∷ 5 ∷ []) (r .kind)) false (p .inTag));
+      inTag = pick (eqb (r .kind) 1) true (pick (endsTag (r .kind)) false (p .inTag));
       nesting = openCount (p .nesting) (r .kind);
       rooted = pick (eqb (r .kind) 1) true (p .rooted);
     }
 
 -- ---- the rules of a row r that stands at p, before the rest
--- "Kinds: 1 .. 8"
+-- it has a kind
 abbrev pub KnownKind : Row → Type 0
-KnownKind r = (1 ≤ r .kind) × (r .kind ≤ 8)
+KnownKind r = (1 ≤ r .kind) × (r .kind ≤ mostKind)
 
 -- "Unused fields, and an empty prefix or value, are 0 and 0."
 pub record ZeroFields (r : Row) : Type 0 where
@@ -105,7 +141,7 @@ pub record LastLt (body : List ℕ) (p : Place) (r : Row) : Type 0 where
   pub prefix : 0 < r .prefixLen → beginOf body r < r .prefixStart
 
 abbrev pub TagBegins : List ℕ → Place → Row → Type 0
-TagBegins body p r = among (1 ∷ 4 ∷ []) (r .kind) ≡ true → LastLt body p r
+TagBegins body p r = isTag (r .kind) ≡ true → LastLt body p r
 
 -- the byte so many places before the row's own position
 abbrev pub EndsIn : List ℕ → Row → ℕ → ℕ → Type 0
@@ -113,21 +149,21 @@ EndsIn body r back b = (back ≤ r .position) × (getD body (r .position - back)
 
 -- "Kinds 3 and 4 end in `>`, kind 5 in `/>`."
 pub record Ending (body : List ℕ) (r : Row) : Type 0 where
-  pub gt : among (3 ∷ 4 ∷ 5 ∷ []) (r .kind) ≡ true → EndsIn body r 1 greaterThan
+  pub gt : endsInGt (r .kind) ≡ true → EndsIn body r 1 greaterThan
   pub slash : r .kind ≡ 5 → EndsIn body r 2 solidus
 
 -- "After a start only 2, then 3 or 5, or 8, or the table's end (a body cut inside a tag). Kinds 2, 3, 5 come nowhere else."
 pub record TagOrder (p : Place) (r : Row) : Type 0 where
-  pub inside : p .inTag ≡ true → among (2 ∷ 3 ∷ 5 ∷ 8 ∷ []) (r .kind) ≡ true
-  pub outside : p .inTag ≡ false → among (2 ∷ 3 ∷ 5 ∷ []) (r .kind) ≡ false
+  pub inside : p .inTag ≡ true → mayBeInTag (r .kind) ≡ true
+  pub outside : p .inTag ≡ false → inTagOnly (r .kind) ≡ false
 
 -- "Kinds 4 and 6 need an open element."
 abbrev pub NeedsOpen : Place → Row → Type 0
-NeedsOpen p r = among (4 ∷ 6 ∷ []) (r .kind) ≡ true → 0 < p .nesting
+NeedsOpen p r = needsElement (r .kind) ≡ true → 0 < p .nesting
 
 -- "Once the root has closed, only 7 and 8."
 abbrev pub AfterRoot : Place → Row → Type 0
-AfterRoot p r = p .rooted ≡ true → p .nesting ≡ 0 → among (7 ∷ 8 ∷ []) (r .kind) ≡ true
+AfterRoot p r = p .rooted ≡ true → p .nesting ≡ 0 → mayFollowRoot (r .kind) ≡ true
 
 -- "Kind 8 is last."
 abbrev pub ErrorLast : Row → List Row → Type 0

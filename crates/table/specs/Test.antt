@@ -8,13 +8,15 @@ use Rattle.lists.specs.Decide.{_and_, _implies_, same, isTrue, isFalse}
 use Rattle.utf8.specs.Table.{isUtf8, walk, inRange}
 use Rattle.utf8.specs.Table as utf8
 use Rattle.table.specs.Row.{Row, rowsOf}
-use Rattle.table.specs.Rules.{mostRows, mostBytes, mostOpen, among, usesName, usesValue, Place, atFirst, after, KnownKind, ZeroFields}
+use Rattle.table.specs.Rules.{endsInGt, inTagOnly, isTag, mayBeInTag, mayFollowRoot, needsElement}
+use Rattle.table.specs.Rules.{mostRows, mostBytes, mostOpen, mostKind, usesName, usesValue}
+use Rattle.table.specs.Rules.{Place, atFirst, after, KnownKind, ZeroFields}
 use Rattle.table.specs.Rules.{FilledSpan, FilledSpans, LocalStart, lastLt, beginOf, TagBegins, EndsIn, Ending, TagOrder, NeedsOpen}
 use Rattle.table.specs.Rules.{AfterRoot, ErrorLast, OpenLimit, RowRules, EachRow, none, row, lastPosition, Rules, TableRules}
 
 unfoldable pub decKind : (r : Row) → Dec (KnownKind r)
 unfolding decLe
-decKind r = decLe 1 (r .kind) and decLe (r .kind) 8
+decKind r = decLe 1 (r .kind) and decLe (r .kind) mostKind
 
 unfoldable pub decZero : (r : Row) → Dec (ZeroFields r)
 unfolding ℕ-discrete
@@ -46,7 +48,7 @@ decLocal p r = isTrue (usesName (r .kind)) implies decLe (p .position) (r .local
 unfoldable pub decTag : (body : List ℕ) (p : Place) (r : Row) → Dec (TagBegins body p r)
 unfolding ℕ-discrete decLe decLt lastLt
 decTag body p r =
-    isTrue (among (1 ∷ 4 ∷ []) (r .kind)) implies
+    isTrue (isTag (r .kind)) implies
     same (λ t. record { is = t .0; before = t .1 .0; late = t .1 .1 .0; prefix = t .1 .1 .1 })
     (λ l. (l .is, (l .before, (l .late, l .prefix))))
     (ℕ-discrete (getD body (beginOf body r) 0) lessThan
@@ -62,21 +64,22 @@ unfoldable pub decEnding : (body : List ℕ) (r : Row) → Dec (Ending body r)
 unfolding ℕ-discrete decEnds
 decEnding body r =
     same (λ t. record { gt = t .0; slash = t .1 }) (λ e. (e .gt, e .slash))
-    ((isTrue (among (3 ∷ 4 ∷ 5 ∷ []) (r .kind)) implies decEnds body r 1 greaterThan) and (ℕ-discrete (r .kind) 5 implies decEnds body r 2 solidus))
+    ((isTrue (endsInGt (r .kind)) implies decEnds body r 1 greaterThan)
+    and (ℕ-discrete (r .kind) 5 implies decEnds body r 2 solidus))
 
 unfoldable pub decOrder : (p : Place) (r : Row) → Dec (TagOrder p r)
 decOrder p r =
     same (λ t. record { inside = t .0; outside = t .1 }) (λ o. (o .inside, o .outside))
-    ((isTrue (p .inTag) implies isTrue (among (2 ∷ 3 ∷ 5 ∷ 8 ∷ []) (r .kind)))
-    and (isFalse (p .inTag) implies isFalse (among (2 ∷ 3 ∷ 5 ∷ []) (r .kind))))
+    ((isTrue (p .inTag) implies isTrue (mayBeInTag (r .kind)))
+    and (isFalse (p .inTag) implies isFalse (inTagOnly (r .kind))))
 
 unfoldable pub decOpen : (p : Place) (r : Row) → Dec (NeedsOpen p r)
 unfolding decLt
-decOpen p r = isTrue (among (4 ∷ 6 ∷ []) (r .kind)) implies decLt 0 (p .nesting)
+decOpen p r = isTrue (needsElement (r .kind)) implies decLt 0 (p .nesting)
 
 unfoldable pub decRoot : (p : Place) (r : Row) → Dec (AfterRoot p r)
 unfolding ℕ-discrete
-decRoot p r = isTrue (p .rooted) implies ℕ-discrete (p .nesting) 0 implies isTrue (among (7 ∷ 8 ∷ []) (r .kind))
+decRoot p r = isTrue (p .rooted) implies ℕ-discrete (p .nesting) 0 implies isTrue (mayFollowRoot (r .kind))
 
 unfoldable pub decError : (r : Row) (rest : List Row) → Dec (ErrorLast r rest)
 unfolding ℕ-discrete

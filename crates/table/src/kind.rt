@@ -14,3 +14,5 @@ pub const TEXT: usize = 6;
 pub const MISC: usize = 7;
 // a token error
 pub const ERROR: usize = 8;
+// the last of them
+pub const MOST: usize = 8;

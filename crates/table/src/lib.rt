@@ -5,7 +5,7 @@ ghost use mathlib.Core.List.{[], _∷_};
 ghost use Prim.Native.Nat.{_+_, _-_, _*_, _≤_, _<_};
 ghost use lib.ListN.{length, getD};
 ghost use Rattle.lists.specs.Decide.{isYes, Says};
-ghost use Rattle.table.specs.Rules.{among, usesName, usesValue, atFirst};
+ghost use Rattle.table.specs.Rules.{mayBeInTag, among, usesName, usesValue, atFirst};
 ghost use Rattle.table.specs.Flat.{rowsFrom};
 ghost use Rattle.table.specs.Test.{decTable};
 ghost use Rattle.table.specs.Spans.{Between, Span, SpanAt, LocalSpan, NameSpans, Spans};
@@ -22,6 +22,7 @@ use crate::kind::CLOSE;
 use crate::kind::ERROR;
 use crate::kind::GT;
 use crate::kind::MISC;
+use crate::kind::MOST;
 use crate::kind::SLASH;
 use crate::kind::START;
 use crate::kind::TEXT;
@@ -90,7 +91,7 @@ fn one_of_three(kind: usize, a: usize, b: usize, c: usize) -> bool
 
 // Kinds that come in a start tag.
 fn comes_inside(kind: usize) -> bool
-    ensures { λ r. ⌜ r ≡ among (2 ∷ 3 ∷ 5 ∷ 8 ∷ []) kind ⌝ }
+    ensures { λ r. ⌜ r ≡ mayBeInTag kind ⌝ }
 {
     if kind == ATTRIBUTE {
         return true;
@@ -305,7 +306,7 @@ fn order(kind: usize, p: Place, left: usize) -> bool
     if kind < 1 {
         return false;
     }
-    if kind > 8 {
+    if kind > MOST {
         return false;
     }
     if !tag_order(kind, p.in_tag) {

@@ -36,11 +36,6 @@ walk-append (x ∷ a) [] b e = go (after table x) e (λ rs. walk-append a rs b)
     go (due rs) q ih = ih rs q
     go never q ih = false-true q
 
--- the same, of the test
-pub utf8-append : (a b : List ℕ) → isUtf8 a ≡ true → isUtf8 (a ++ b) ≡ isUtf8 b
-unfolding isUtf8
-utf8-append a b e = walk-append a [] b e
-
 -- ---- a pending character admits no ASCII byte
 -- all ranges begin at 0x80 or above
 unfoldable pub high : List Range → Bool
@@ -136,32 +131,10 @@ module _ (a : List ℕ) (b : ℕ) (c : List ℕ) (e : isUtf8 (a ++ (b ∷ c)) �
   unfolding isUtf8 walk
   utf8-upto = rw (walk-append a [] (b ∷ []) utf8-before, walk-ascii b [] h)
 
--- the same of well-formed sequences
-module _ (a : List ℕ) (b : ℕ) (c : List ℕ) (w : WellFormed (a ++ (b ∷ c))) (h : b < 0x80) where
-  -- what stands before the byte
-  pub well-before : WellFormed a
-  well-before = test-sound a (utf8-before a b c (test-complete w) h)
-
-  -- the byte, and what follows
-  pub well-from : WellFormed (b ∷ c)
-  well-from = test-sound (b ∷ c) (utf8-from a b c (test-complete w) h)
-
-  -- what follows it
-  pub well-past : WellFormed c
-  well-past = test-sound c (utf8-past a b c (test-complete w) h)
-
-  -- what stands before it, with it
-  pub well-upto : WellFormed (a ++ (b ∷ []))
-  well-upto = test-sound (a ++ (b ∷ [])) (utf8-upto a b c (test-complete w) h)
-
--- ---- the four cuts by the place i of the ASCII byte
+-- ---- cuts by the place i of the ASCII byte
 module _ (s : List ℕ) (i : ℕ) (at : i < length s) (h : getD s i 0 < 0x80) (e : isUtf8 s ≡ true) where
   whole : isUtf8 (take i s ++ (getD s i 0 ∷ drop (suc i) s)) ≡ true
   whole = rw (split-at s i 0 at) at e
-
-  -- the first i bytes
-  pub utf8-take : isUtf8 (take i s) ≡ true
-  utf8-take = utf8-before (take i s) (getD s i 0) (drop (suc i) s) whole h
 
   -- the bytes from i on
   pub utf8-drop : isUtf8 (drop i s) ≡ true
@@ -170,16 +143,6 @@ module _ (s : List ℕ) (i : ℕ) (at : i < length s) (h : getD s i 0 < 0x80) (e
   -- the first i + 1 bytes
   pub utf8-take-past : isUtf8 (take (i + 1) s) ≡ true
   utf8-take-past = rw (add-one i, take-suc s i 0 at) (utf8-upto (take i s) (getD s i 0) (drop (suc i) s) whole h)
-
-  -- the bytes after i
-  pub utf8-drop-past : isUtf8 (drop (i + 1) s) ≡ true
-  utf8-drop-past = rw (add-one i) (utf8-past (take i s) (getD s i 0) (drop (suc i) s) whole h)
-
--- what follows the first n bytes, the last of them ASCII
-pub utf8-drop-after : (s : List ℕ) (n : ℕ) → 0 < n → n ≤ length s → getD s (n - 1) 0 < 0x80 → isUtf8 s ≡ true → isUtf8 (drop n s) ≡ true
-utf8-drop-after s n g l h e =
-    let q : n - 1 + 1 ≡ n = omega arith in
-    rw q at (utf8-drop-past s (n - 1) (omega arith) h e)
 
 -- the first n bytes, the last of them ASCII
 pub utf8-take-after : (s : List ℕ) (n : ℕ) → 0 < n → n ≤ length s → getD s (n - 1) 0 < 0x80 → isUtf8 s ≡ true → isUtf8 (take n s) ≡ true

@@ -13,6 +13,7 @@ use Rattle.lists.proofs.Tests.{false-true, less-is}
 use Rattle.table.specs.Row.{Row, Name, Tok, start, attr, gt, close, slash, matter, bad, Move, enters, leaves, stays, moveOf, nameOf, valueOf, tokAs, tokOf, toksOf}
 use Rattle.table.specs.Rules.{openCount, lastPosition}
 use Rattle.table.specs.Piece.{closing, isClosed, elementRows, pieceStart, ElementAt}
+use Rattle.table.proofs.Classes.{Kind, of-start, of-attr, of-gt, of-close, of-slash, of-matter, of-error, kind-of}
 use Rattle.table.proofs.Element.{element-is}
 use Rattle.xml.specs.Grammar.{Attributes, no-attribute, attribute, Element, empty-element, full-element, Content, no-content, between-tags, child}
 use Rattle.xml.proofs.Past.{pastAttributes, pastElement, pastContent}
@@ -46,31 +47,29 @@ closedAt n [] = false
 closedAt n (t ∷ l) = around (openedAfter n t) true (closedAt (openedAfter n t) l)
 
 -- by the number of a row's kind and by its token
-opened-same : (n k : ℕ) (m : Name) (v : List ℕ) → openCount n k ≡ openedAfter n (tokAs k m v)
-unfolding tokAs
-opened-same n zero m v = refl
-opened-same n (suc zero) m v = refl
-opened-same n (suc (suc zero)) m v = refl
-opened-same n (suc (suc (suc zero))) m v = refl
-opened-same n (suc (suc (suc (suc zero)))) m v = sym (less-is n)
-opened-same n (suc (suc (suc (suc (suc zero))))) m v = sym (less-is n)
-opened-same n (suc (suc (suc (suc (suc (suc zero)))))) m v = refl
-opened-same n (suc (suc (suc (suc (suc (suc (suc zero))))))) m v = refl
-opened-same n (suc (suc (suc (suc (suc (suc (suc (suc k)))))))) m v =
-    let j = suc (suc (suc (suc (suc (suc (suc (suc k))))))) in
-    rw (ne-eqb j 1 (λ q. omega arith), ne-eqb j 4 (λ q. omega arith), ne-eqb j 5 (λ q. omega arith))
+opened-same : (n : ℕ) {m : Name} {v : List ℕ} {k : ℕ} {t : Tok} → Kind m v k t → openCount n k ≡ openedAfter n t
+opened-same n of-start = refl
+opened-same n of-attr = refl
+opened-same n of-gt = refl
+opened-same n of-close = sym (less-is n)
+opened-same n of-slash = sym (less-is n)
+opened-same n (of-matter w) = rw (w .loose .start, w .loose .closing)
+opened-same n (of-error w) = rw (w .loose .start, w .loose .closing)
+
+opened-row : (body : List ℕ) (n : ℕ) (r : Row) → openCount n (r .kind) ≡ openedAfter n (tokOf body r)
+opened-row body n r = opened-same n (kind-of (r .kind) (nameOf body r) (valueOf body r))
 
 closing-toks : (body : List ℕ) (n : ℕ) (rows : List Row) → closing n rows ≡ closingAt n (toksOf body rows)
 unfolding closing closingAt
 closing-toks body n [] = refl
 closing-toks body n (r ∷ rest) =
-    rw (opened-same n (r .kind) (nameOf body r) (valueOf body r), closing-toks body (openedAfter n (tokOf body r)) rest, pick-around (openedAfter n (tokOf body r)))
+    rw (opened-row body n r, closing-toks body (openedAfter n (tokOf body r)) rest, pick-around (openedAfter n (tokOf body r)))
 
 closed-toks : (body : List ℕ) (n : ℕ) (rows : List Row) → isClosed n rows ≡ closedAt n (toksOf body rows)
 unfolding isClosed closedAt
 closed-toks body n [] = refl
 closed-toks body n (r ∷ rest) =
-    rw (opened-same n (r .kind) (nameOf body r) (valueOf body r), closed-toks body (openedAfter n (tokOf body r)) rest, pick-around (openedAfter n (tokOf body r)))
+    rw (opened-row body n r, closed-toks body (openedAfter n (tokOf body r)) rest, pick-around (openedAfter n (tokOf body r)))
 
 -- ---- parts of the grammar, with n elements open around them: none is left open, and where n is 0 the element itself is the one that closes
 closing-attributes : {s : List Name} {l r : List Tok} (a : Attributes s l r) (n k : ℕ) → k + closingAt (suc n) l ≡ pastAttributes a k + closingAt (suc n) r
@@ -114,17 +113,14 @@ starts [] = false
 starts (t ∷ l) = eqb (openedAfter 0 t) 1
 
 -- only a token of kind 1 opens an element
-starts-one : (k : ℕ) (m : Name) (v : List ℕ) → eqb (openedAfter 0 (tokAs k m v)) 1 ≡ true → k ≡ 1
-unfolding tokAs
-starts-one zero m v o = false-true o
-starts-one (suc zero) m v o = refl
-starts-one (suc (suc zero)) m v o = false-true o
-starts-one (suc (suc (suc zero))) m v o = false-true o
-starts-one (suc (suc (suc (suc zero)))) m v o = false-true o
-starts-one (suc (suc (suc (suc (suc zero))))) m v o = false-true o
-starts-one (suc (suc (suc (suc (suc (suc zero)))))) m v o = false-true o
-starts-one (suc (suc (suc (suc (suc (suc (suc zero))))))) m v o = false-true o
-starts-one (suc (suc (suc (suc (suc (suc (suc (suc k)))))))) m v o = false-true o
+starts-one : {m : Name} {v : List ℕ} {k : ℕ} {t : Tok} → Kind m v k t → eqb (openedAfter 0 t) 1 ≡ true → k ≡ 1
+starts-one of-start o = refl
+starts-one of-attr o = false-true o
+starts-one of-gt o = false-true o
+starts-one of-close o = false-true o
+starts-one of-slash o = false-true o
+starts-one (of-matter w) o = false-true o
+starts-one (of-error w) o = false-true o
 
 element-starts : {l r : List Tok} → Element l r → starts l ≡ true
 element-starts (empty-element n a) = refl
@@ -164,7 +160,7 @@ module _ (body : List ℕ) (rows : List Row) {l r : List Tok} (e : Element l r) 
       go : (d : List Row) → drop k rows ≡ d → starts (toksOf body d) ≡ true → ElementAt body rows k (pieceStart body (drop k rows))
       go [] q o = false-true o
       go (first ∷ rest) q o =
-          let one : first .kind ≡ 1 = starts-one (first .kind) (nameOf body first) (valueOf body first) o in
+          let one : first .kind ≡ 1 = starts-one (kind-of (first .kind) (nameOf body first) (valueOf body first)) o in
           record { first = first; rest = rest; cut-at = q; starts = one; closes = rw (q, one) at element-closed; begins = rw q }
 
   -- its rows stand for its own tokens, with nothing after

@@ -1,15 +1,16 @@
 -- The order of kinds in a table (01, "Token table") as a machine over tokens; a table that obeys the rules is taken by it.
 use Prim.Native.Nat.{ℕ, zero, suc, _-_, _≤_, _<_}
 use mathlib.Core.Path.{_≡_, refl, sym, ap, _∙_}
-use mathlib.Core.Bool.{Bool, true, false}
+use mathlib.Core.Bool.{Bool, true, false, not}
 use mathlib.Core.List.{List, [], _∷_}
 use native.Mathlib.Omega.{arith}
 use lib.Dec.{eqb}
 use lib.ListN.{length}
 use Rattle.lists.specs.Tests.{pick}
 use Rattle.lists.proofs.Tests.{false-true}
-use Rattle.table.specs.Row.{Row, rowsOf, Name, Tok, start, attr, gt, close, slash, Matter, text, misc, matter, bad, tokAs, toksOf}
-use Rattle.table.specs.Rules.{among, openCount, Place, RowRules, EachRow, none, row, TableRules}
+use Rattle.table.specs.Row.{Row, rowsOf, Name, Tok, start, attr, gt, close, slash, Matter, matter, bad, nameOf, valueOf, toksOf}
+use Rattle.table.proofs.Classes.{needsOpen, Loose, OfError, Kind, of-start, of-attr, of-gt, of-close, of-slash, of-matter, of-error, kind-of}
+use Rattle.table.specs.Rules.{mostKind, endsTag, inTagOnly, mayBeInTag, mayFollowRoot, needsElement, openCount, Place, RowRules, EachRow, none, row, TableRules}
 
 -- where a token stands: before the root; in a start tag, or in content, with d elements open around the innermost; after the root;
 -- after a token error; or out of order
@@ -26,10 +27,9 @@ abbrev pub back : ℕ → Phase
 back zero = behind
 back (suc d) = within d
 
--- outside of the root: a text needs an open element, all others do not
+-- outside of the root: "Kinds 4 and 6 need an open element."
 abbrev outer : Phase → Matter → Phase
-outer p (text v) = broken
-outer p misc = p
+outer p m = pick (needsOpen m) broken p
 
 abbrev pub rule : Phase → Tok → Phase
 rule before (start n) = inTag zero
@@ -100,11 +100,11 @@ at-back (suc d) i o r = at-within i o r
 -- the rules on the order, for a row of kind k that has so many rows after it
 record Ordered (p : Place) (k more : ℕ) : Type 0 where
   least : 1 ≤ k
-  most : k ≤ 8
-  inside : p .inTag ≡ true → among (2 ∷ 3 ∷ 5 ∷ 8 ∷ []) k ≡ true
-  outside : p .inTag ≡ false → among (2 ∷ 3 ∷ 5 ∷ []) k ≡ false
-  needsOpen : among (4 ∷ 6 ∷ []) k ≡ true → 0 < p .nesting
-  afterRoot : p .rooted ≡ true → p .nesting ≡ 0 → among (7 ∷ 8 ∷ []) k ≡ true
+  most : k ≤ mostKind
+  inside : p .inTag ≡ true → mayBeInTag k ≡ true
+  outside : p .inTag ≡ false → inTagOnly k ≡ false
+  needsOpen : needsElement k ≡ true → 0 < p .nesting
+  afterRoot : p .rooted ≡ true → p .nesting ≡ 0 → mayFollowRoot k ≡ true
   last : k ≡ 8 → more ≡ 0
 
 -- `after`, by the kind alone
@@ -112,7 +112,7 @@ abbrev next : Place → ℕ → ℕ → Place
 next p k at =
     record {
       position = at;
-      inTag = pick (eqb k 1) true (pick (among (3 ∷ 5 ∷ []) k) false (p .inTag));
+      inTag = pick (eqb k 1) true (pick (endsTag k) false (p .inTag));
       nesting = openCount (p .nesting) k;
       rooted = pick (eqb k 1) true (p .rooted);
     }
@@ -127,62 +127,75 @@ module _ (p : Place) (at : ℕ) (n : Name) (v : List ℕ) (l : List Tok) where
   Goes : ℕ → Type 0
   Goes k = (q : Phase) → Stands (next p k at) q → ruled q l ≡ true
 
-  error-step : (k : ℕ) → Ordered p (suc (suc (suc (suc (suc (suc (suc (suc k)))))))) (length l) → ruled ended l ≡ true
-  error-step k o = ended-last l (o .last (omega (arith, o .most)))
+  error-step : {k : ℕ} → OfError k → Ordered p k (length l) → ruled ended l ≡ true
+  error-step w o = ended-last l (o .last (w .eight (o .least) (o .most)))
 
-  before-step : (k : ℕ) → p .inTag ≡ false → p .nesting ≡ 0 → p .rooted ≡ false → Ordered p k (length l) → Goes k → ruled (rule before (tokAs k n v)) l ≡ true
-  unfolding tokAs Goes
-  before-step zero i c r o g = absurd (omega (arith, o .least))
-  before-step (suc zero) i c r o g = g (inTag zero) (at-tag refl (ap suc c) refl)
-  before-step (suc (suc zero)) i c r o g = false-true (sym (o .outside i))
-  before-step (suc (suc (suc zero))) i c r o g = false-true (sym (o .outside i))
-  before-step (suc (suc (suc (suc zero)))) i c r o g = absurd (omega (arith, o .needsOpen refl))
-  before-step (suc (suc (suc (suc (suc zero))))) i c r o g = false-true (sym (o .outside i))
-  before-step (suc (suc (suc (suc (suc (suc zero)))))) i c r o g = absurd (omega (arith, o .needsOpen refl))
-  before-step (suc (suc (suc (suc (suc (suc (suc zero))))))) i c r o g = g before (at-before i c r)
-  before-step (suc (suc (suc (suc (suc (suc (suc (suc k)))))))) i c r o g = error-step k o
+  -- a loose kind leaves the place as it is, but for the position
+  loose-stands : {k : ℕ} {q : Phase} → Loose k → Stands p q → Stands (next p k at) q
+  loose-stands w (at-before i c r) = at-before (rw (w .start, w .tagEnd) i) (rw (w .start, w .closing) c) (rw (w .start) r)
+  loose-stands w (at-tag {d = d} i c r) = at-tag {d = d} (rw (w .start, w .tagEnd) i) (rw (w .start, w .closing) c) (rw (w .start) r)
+  loose-stands w (at-within {d = d} i c r) = at-within {d = d} (rw (w .start, w .tagEnd) i) (rw (w .start, w .closing) c) (rw (w .start) r)
+  loose-stands w (at-behind i c r) = at-behind (rw (w .start, w .tagEnd) i) (rw (w .start, w .closing) c) (rw (w .start) r)
 
-  tag-step : (k d : ℕ) → p .inTag ≡ true → p .nesting ≡ suc d → p .rooted ≡ true → Ordered p k (length l) → Goes k → ruled (rule (inTag d) (tokAs k n v)) l ≡ true
-  unfolding tokAs Goes
-  tag-step zero d i c r o g = absurd (omega (arith, o .least))
-  tag-step (suc zero) d i c r o g = false-true (o .inside i)
-  tag-step (suc (suc zero)) d i c r o g = g (inTag d) (at-tag i c r)
-  tag-step (suc (suc (suc zero))) d i c r o g = g (within d) (at-within refl c r)
-  tag-step (suc (suc (suc (suc zero)))) d i c r o g = false-true (o .inside i)
-  tag-step (suc (suc (suc (suc (suc zero))))) d i c r o g = g (back d) (at-back d refl (omega arith) r)
-  tag-step (suc (suc (suc (suc (suc (suc zero)))))) d i c r o g = false-true (o .inside i)
-  tag-step (suc (suc (suc (suc (suc (suc (suc zero))))))) d i c r o g = false-true (o .inside i)
-  tag-step (suc (suc (suc (suc (suc (suc (suc (suc k)))))))) d i c r o g = error-step k o
+  -- matter outside of the root does not need an open element
+  outer-step : (q : Phase) (m : Matter) → needsOpen m ≡ false → ruled q l ≡ true → ruled (outer q m) l ≡ true
+  outer-step q m e h = rw e h
 
-  within-step : (k d : ℕ) → p .inTag ≡ false → p .nesting ≡ suc d → p .rooted ≡ true → Ordered p k (length l) → Goes k → ruled (rule (within d) (tokAs k n v)) l ≡ true
-  unfolding tokAs Goes
-  within-step zero d i c r o g = absurd (omega (arith, o .least))
-  within-step (suc zero) d i c r o g = g (inTag (suc d)) (at-tag refl (ap suc c) refl)
-  within-step (suc (suc zero)) d i c r o g = false-true (sym (o .outside i))
-  within-step (suc (suc (suc zero))) d i c r o g = false-true (sym (o .outside i))
-  within-step (suc (suc (suc (suc zero)))) d i c r o g = g (back d) (at-back d i (omega arith) r)
-  within-step (suc (suc (suc (suc (suc zero))))) d i c r o g = false-true (sym (o .outside i))
-  within-step (suc (suc (suc (suc (suc (suc zero)))))) d i c r o g = g (within d) (at-within i c r)
-  within-step (suc (suc (suc (suc (suc (suc (suc zero))))))) d i c r o g = g (within d) (at-within i c r)
-  within-step (suc (suc (suc (suc (suc (suc (suc (suc k)))))))) d i c r o g = error-step k o
+  before-step : {k : ℕ} {t : Tok} → Kind n v k t → p .inTag ≡ false → p .nesting ≡ 0 → p .rooted ≡ false → Ordered p k (length l) → Goes k → ruled (rule before t) l ≡ true
+  unfolding Goes
+  before-step of-start i c r o g = g (inTag zero) (at-tag refl (ap suc c) refl)
+  before-step of-attr i c r o g = false-true (sym (o .outside i))
+  before-step of-gt i c r o g = false-true (sym (o .outside i))
+  before-step of-close i c r o g = absurd (omega (arith, o .needsOpen refl))
+  before-step of-slash i c r o g = false-true (sym (o .outside i))
+  before-step (of-matter {m = m} w) i c r o g =
+      outer-step before m (closed (needsOpen m) refl) (g before (loose-stands (w .loose) (at-before i c r)))
+    where
+      closed : (b : Bool) → needsOpen m ≡ b → b ≡ false
+      closed true e = absurd (omega (arith, o .needsOpen (w .within ∙ e)))
+      closed false e = refl
+  before-step (of-error w) i c r o g = error-step w o
 
-  behind-step : (k : ℕ) → p .inTag ≡ false → p .nesting ≡ 0 → p .rooted ≡ true → Ordered p k (length l) → Goes k → ruled (rule behind (tokAs k n v)) l ≡ true
-  unfolding tokAs Goes
-  behind-step zero i c r o g = absurd (omega (arith, o .least))
-  behind-step (suc zero) i c r o g = false-true (o .afterRoot r c)
-  behind-step (suc (suc zero)) i c r o g = false-true (o .afterRoot r c)
-  behind-step (suc (suc (suc zero))) i c r o g = false-true (o .afterRoot r c)
-  behind-step (suc (suc (suc (suc zero)))) i c r o g = false-true (o .afterRoot r c)
-  behind-step (suc (suc (suc (suc (suc zero))))) i c r o g = false-true (o .afterRoot r c)
-  behind-step (suc (suc (suc (suc (suc (suc zero)))))) i c r o g = false-true (o .afterRoot r c)
-  behind-step (suc (suc (suc (suc (suc (suc (suc zero))))))) i c r o g = g behind (at-behind i c r)
-  behind-step (suc (suc (suc (suc (suc (suc (suc (suc k)))))))) i c r o g = error-step k o
+  tag-step : {k : ℕ} {t : Tok} (d : ℕ) → Kind n v k t → p .inTag ≡ true → p .nesting ≡ suc d → p .rooted ≡ true → Ordered p k (length l) → Goes k → ruled (rule (inTag d) t) l ≡ true
+  unfolding Goes
+  tag-step d of-start i c r o g = false-true (o .inside i)
+  tag-step d of-attr i c r o g = g (inTag d) (at-tag i c r)
+  tag-step d of-gt i c r o g = g (within d) (at-within refl c r)
+  tag-step d of-close i c r o g = false-true (o .inside i)
+  tag-step d of-slash i c r o g = g (back d) (at-back d refl (omega arith) r)
+  tag-step d (of-matter w) i c r o g = false-true (sym (w .outside) ∙ o .inside i)
+  tag-step d (of-error w) i c r o g = error-step w o
 
-  order-step : (k : ℕ) {q : Phase} → Stands p q → Ordered p k (length l) → Goes k → ruled (rule q (tokAs k n v)) l ≡ true
-  order-step k (at-before i c r) o g = before-step k i c r o g
-  order-step k (at-tag {d = d} i c r) o g = tag-step k d i c r o g
-  order-step k (at-within {d = d} i c r) o g = within-step k d i c r o g
-  order-step k (at-behind i c r) o g = behind-step k i c r o g
+  within-step : {k : ℕ} {t : Tok} (d : ℕ) → Kind n v k t → p .inTag ≡ false → p .nesting ≡ suc d → p .rooted ≡ true → Ordered p k (length l) → Goes k → ruled (rule (within d) t) l ≡ true
+  unfolding Goes
+  within-step d of-start i c r o g = g (inTag (suc d)) (at-tag refl (ap suc c) refl)
+  within-step d of-attr i c r o g = false-true (sym (o .outside i))
+  within-step d of-gt i c r o g = false-true (sym (o .outside i))
+  within-step d of-close i c r o g = g (back d) (at-back d i (omega arith) r)
+  within-step d of-slash i c r o g = false-true (sym (o .outside i))
+  within-step d (of-matter w) i c r o g = g (within d) (loose-stands (w .loose) (at-within i c r))
+  within-step d (of-error w) i c r o g = error-step w o
+
+  behind-step : {k : ℕ} {t : Tok} → Kind n v k t → p .inTag ≡ false → p .nesting ≡ 0 → p .rooted ≡ true → Ordered p k (length l) → Goes k → ruled (rule behind t) l ≡ true
+  unfolding Goes
+  behind-step of-start i c r o g = false-true (o .afterRoot r c)
+  behind-step of-attr i c r o g = false-true (o .afterRoot r c)
+  behind-step of-gt i c r o g = false-true (o .afterRoot r c)
+  behind-step of-close i c r o g = false-true (o .afterRoot r c)
+  behind-step of-slash i c r o g = false-true (o .afterRoot r c)
+  behind-step (of-matter {m = m} w) i c r o g =
+      outer-step behind m (open-not (needsOpen m) (sym (w .behind) ∙ o .afterRoot r c)) (g behind (loose-stands (w .loose) (at-behind i c r)))
+    where
+      open-not : (b : Bool) → not b ≡ true → b ≡ false
+      open-not true e = sym e
+      open-not false e = refl
+  behind-step (of-error w) i c r o g = error-step w o
+
+  order-step : {k : ℕ} {t : Tok} {q : Phase} → Stands p q → Kind n v k t → Ordered p k (length l) → Goes k → ruled (rule q t) l ≡ true
+  order-step (at-before i c r) w o g = before-step w i c r o g
+  order-step (at-tag {d = d} i c r) w o g = tag-step d w i c r o g
+  order-step (at-within {d = d} i c r) w o g = within-step d w i c r o g
+  order-step (at-behind i c r) w o g = behind-step w i c r o g
 
 toks-length : (body : List ℕ) (rows : List Row) → length (toksOf body rows) ≡ length rows
 toks-length body [] = refl
@@ -207,7 +220,7 @@ rows-ruled body none (at-tag i c r) = refl
 rows-ruled body none (at-within i c r) = refl
 rows-ruled body none (at-behind i c r) = refl
 rows-ruled body (row {p = p} {r = r} {rest = rest} h x) s =
-    order-step p (r .position) _ _ (toksOf body rest) (r .kind) s (ordered body rest h) (λ q s. rows-ruled body x s)
+    order-step p (r .position) _ _ (toksOf body rest) s (kind-of (r .kind) (nameOf body r) (valueOf body r)) (ordered body rest h) (λ q s. rows-ruled body x s)
 
 -- the tokens of a table that obeys the rules are in order
 pub table-ruled : {body table : List ℕ} {final : ℕ} → TableRules body table final → ruled before (toksOf body (rowsOf table)) ≡ true

@@ -5,7 +5,8 @@ use mathlib.Core.List.{List, [], _∷_, _++_, List·Memᴰ}
 use lib.ListN.{length}
 use Rattle.reference.specs.Text.{validated}
 use Rattle.reference.specs.declared.Validated.{Validated}
-use Rattle.table.specs.Row.{Name, Matter, text, Tok, start, attr, gt, close, slash, matter, bad, Move, enters, leaves, stays, moveOf, rowsOf, toksOf}
+use Rattle.table.specs.Row.{Name, text, Tok, start, attr, gt, close, slash, matter, bad, rowsOf, toksOf}
+use Rattle.table.specs.Row.{Move, enters, leaves, stays, moveOf}
 use Rattle.table.specs.Rules.{TableRules}
 use Rattle.xml.specs.declared.Cause.{Cause}
 use Rattle.xml.specs.Drain.{popped}

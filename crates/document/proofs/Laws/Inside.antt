@@ -9,7 +9,8 @@ use native.Mathlib.Omega.{arith}
 use lib.ListN.{length, length-map, take, drop, getD}
 use lib.Seq.{take-length}
 use Rattle.lists.proofs.Tests.{pick-all}
-use Rattle.table.specs.Row.{Row, Name, Tok, start, rowsOf, tokAs, tokOf, toksOf}
+use Rattle.table.proofs.Classes.{Kind, of-start, of-attr, of-gt, of-close, of-slash, of-matter, of-error, kind-of}
+use Rattle.table.specs.Row.{Row, Name, Tok, start, nameOf, valueOf, rowsOf, tokOf, toksOf}
 use Rattle.table.specs.Rules.{Place, atFirst, after, beginOf, RowRules, EachRow, none, row, lastPosition, TableRules}
 use Rattle.table.proofs.Flat.{last-high}
 use Rattle.table.proofs.Moved.{last-taken}
@@ -124,17 +125,14 @@ pub record StartRow (body : List ℕ) (from : ℕ) (rows : List Row) (j : ℕ) :
   pub rules : RowRules body place first later
   pub each : EachRow body (after place first) later
 
-is-start : (k : ℕ) (m n : Name) (v : List ℕ) → tokAs k m v ≡ start n → k ≡ 1
-unfolding tokAs
-is-start zero m n v e = let z : _≡_ {A = ℕ} 0 1 = cc in absurd (omega arith)
-is-start (suc zero) m n v e = refl
-is-start (suc (suc zero)) m n v e = let z : _≡_ {A = ℕ} 0 1 = cc in absurd (omega arith)
-is-start (suc (suc (suc zero))) m n v e = let z : _≡_ {A = ℕ} 0 1 = cc in absurd (omega arith)
-is-start (suc (suc (suc (suc zero)))) m n v e = let z : _≡_ {A = ℕ} 0 1 = cc in absurd (omega arith)
-is-start (suc (suc (suc (suc (suc zero))))) m n v e = let z : _≡_ {A = ℕ} 0 1 = cc in absurd (omega arith)
-is-start (suc (suc (suc (suc (suc (suc zero)))))) m n v e = let z : _≡_ {A = ℕ} 0 1 = cc in absurd (omega arith)
-is-start (suc (suc (suc (suc (suc (suc (suc zero))))))) m n v e = let z : _≡_ {A = ℕ} 0 1 = cc in absurd (omega arith)
-is-start (suc (suc (suc (suc (suc (suc (suc (suc k)))))))) m n v e = let z : _≡_ {A = ℕ} 0 1 = cc in absurd (omega arith)
+is-start : {k : ℕ} {m n : Name} {v : List ℕ} {t : Tok} → Kind m v k t → t ≡ start n → k ≡ 1
+is-start of-start e = refl
+is-start of-attr e = let z : _≡_ {A = ℕ} 0 1 = cc in absurd (omega arith)
+is-start of-gt e = let z : _≡_ {A = ℕ} 0 1 = cc in absurd (omega arith)
+is-start of-close e = let z : _≡_ {A = ℕ} 0 1 = cc in absurd (omega arith)
+is-start of-slash e = let z : _≡_ {A = ℕ} 0 1 = cc in absurd (omega arith)
+is-start (of-matter w) e = let z : _≡_ {A = ℕ} 0 1 = cc in absurd (omega arith)
+is-start (of-error w) e = let z : _≡_ {A = ℕ} 0 1 = cc in absurd (omega arith)
 
 -- the row of a start token
 token-row : {body : List ℕ} {p : Place} {rows : List Row} → EachRow body p rows → (j : ℕ) {n : Name} {l : List Tok} → drop j (toksOf body rows) ≡ start n ∷ l → StartRow body (p .position) rows j
@@ -142,7 +140,7 @@ token-row none zero e = absurd (cons≢nil (sym e))
 token-row none (suc j) e = absurd (cons≢nil (sym e))
 token-row {body} (row {p = p} {r = r} {rest = rest} o t) zero {n} e =
     let q : tokOf body r ≡ start n = cc in
-    record { first = r; later = rest; at = refl; starts = is-start (r .kind) _ n _ q; place = p; since = refl; rules = o; each = t }
+    record { first = r; later = rest; at = refl; starts = is-start (kind-of (r .kind) (nameOf body r) (valueOf body r)) q; place = p; since = refl; rules = o; each = t }
 token-row (row o t) (suc j) e =
     let w = token-row t j e in
     record { first = w .first; later = w .later; at = w .at; starts = w .starts; place = w .place; since = w .since; rules = w .rules; each = w .each }

@@ -52,17 +52,6 @@ skip-goes-on s d k (t ∷ l) =
     pick-all (λ p. GoneOn (reader d k (t ∷ l)) (p .reader)) (endsAt s e t) (record { ended = true; reader = reader e (suc k) l }) (skip s e (suc k) l)
     (one-more (still (reader e (suc k) l))) (one-more (skip-goes-on s e (suc k) l))
 
--- the laws of its parts
-pub skip-short : (s : Scope) (d : Depth) (k : ℕ) (l : List Tok) → length (skip s d k l .reader .rest) ≤ length l
-skip-short s d k l = skip-goes-on s d k l .short
-
-pub skip-row : (s : Scope) (d : Depth) (k : ℕ) (l : List Tok) → skip s d k l .reader .row + length (skip s d k l .reader .rest) ≡ k + length l
-skip-row s d k l = skip-goes-on s d k l .rows
-
--- a reader's tokens are always those of the table from its row on
-pub skip-rest : (all : List Tok) (s : Scope) (d : Depth) (k : ℕ) (l : List Tok) → drop k all ≡ l → skip s d k l .reader .rest ≡ drop (skip s d k l .reader .row) all
-skip-rest all s d k l h = sym (skip-goes-on s d k l .stands all h)
-
 -- one that does not meet the scope's end leaves no token
 pub skip-leaves-none : (s : Scope) (d : Depth) (k : ℕ) (l : List Tok) → skip s d k l .ended ≡ false → length (skip s d k l .reader .rest) ≡ 0
 unfolding skip
@@ -117,13 +106,6 @@ next-goes-on s o d k l = leaves-on (next-leaves s o d k l)
 
 pub next-short : (s : Scope) (o : StartEl) (d : Depth) (k : ℕ) (l : List Tok) {el : StartEl} {r : Reader} → next s o d k l ≡ found el r → length (r .rest) < length l
 next-short s o d k l {el} {r} e = leaves-fewer {from = reader d k l} {el = el} {r = r} (rw (← e) (next-leaves s o d k l))
-
-pub next-gone-short : (s : Scope) (o : StartEl) (d : Depth) (k : ℕ) (l : List Tok) {p : Past} → next s o d k l ≡ gone p → length (p .reader .rest) ≤ length l
-next-gone-short s o d k l {p} e = leaves-on {from = reader d k l} {x = gone p} (rw (← e) (next-leaves s o d k l)) .short
-
-pub next-row : (s : Scope) (o : StartEl) (d : Depth) (k : ℕ) (l : List Tok)
-    → afterNext (next s o d k l) .row + length (afterNext (next s o d k l) .rest) ≡ k + length l
-next-row s o d k l = next-goes-on s o d k l .rows
 
 pub next-rest : (all : List Tok) (s : Scope) (o : StartEl) (d : Depth) (k : ℕ) (l : List Tok) → drop k all ≡ l
     → afterNext (next s o d k l) .rest ≡ drop (afterNext (next s o d k l) .row) all

@@ -14,7 +14,8 @@ use Rattle.refusal.specs.Answer.{Answer, gives, refuses}
 use Rattle.reference.specs.Text.{Out, bytes, unescaped}
 use Rattle.reference.specs.Text as text
 use Rattle.reference.proofs.Result.{unescaped-shorter}
-use Rattle.table.specs.Row.{Row, Name, Tok, start, attr, gt, close, slash, Matter, text, misc, referencesIn, matter, bad, cut, tokAs, toksOf}
+use Rattle.table.specs.Row.{Row, Name, Tok, start, attr, gt, close, slash, Matter, text, misc, referencesIn, matter, bad, cut, nameOf, valueOf, toksOf}
+use Rattle.table.proofs.Classes.{Kind, of-start, of-attr, of-gt, of-close, of-slash, of-matter, of-error, kind-of}
 use Rattle.document.specs.declared.Depth.{Depth}
 use Rattle.document.specs.Reader.{Reader, reader, fresh, shallower, depthAfter, Scope, document, isEnd, Past, Attribute, StartEl, blank, addAttribute, onAttribute, onClose, Next, found, gone, takeTurn, next}
 use Rattle.document.specs.Scope.{Child, scopeOf, shut, done, onNext, level, levelIn, children, onRoot, rootOf}
@@ -36,17 +37,14 @@ valueIn bad = []
 abbrev pub ShortValue : ℕ → Tok → Type 0
 ShortValue most t = length (valueIn t) ≤ most
 
-short-value : (most k : ℕ) (n : Name) (v : List ℕ) → length v ≤ most → ShortValue most (tokAs k n v)
-unfolding tokAs
-short-value most zero n v h = omega arith
-short-value most (suc zero) n v h = omega arith
-short-value most (suc (suc zero)) n v h = h
-short-value most (suc (suc (suc zero))) n v h = omega arith
-short-value most (suc (suc (suc (suc zero)))) n v h = omega arith
-short-value most (suc (suc (suc (suc (suc zero))))) n v h = omega arith
-short-value most (suc (suc (suc (suc (suc (suc zero)))))) n v h = h
-short-value most (suc (suc (suc (suc (suc (suc (suc zero))))))) n v h = omega arith
-short-value most (suc (suc (suc (suc (suc (suc (suc (suc k)))))))) n v h = omega arith
+short-value : {most k : ℕ} {n : Name} {v : List ℕ} {t : Tok} → Kind n v k t → length v ≤ most → ShortValue most t
+short-value of-start h = omega arith
+short-value of-attr h = h
+short-value of-gt h = omega arith
+short-value of-close h = omega arith
+short-value of-slash h = omega arith
+short-value (of-matter w) h = omega (arith, w .value, h)
+short-value (of-error w) h = omega arith
 
 pub cut-short : (body : List ℕ) (from len : ℕ) → length (cut body from len) ≤ length body
 cut-short body from len = omega (arith, length-take len (drop from body), length-drop from body)
@@ -54,7 +52,7 @@ cut-short body from len = omega (arith, length-take len (drop from body), length
 -- of any rows over a body
 pub values-short : (body : List ℕ) (rows : List Row) → Every (ShortValue (length body)) (toksOf body rows)
 values-short body [] = none
-values-short body (r ∷ rows) = and (short-value (length body) (r .kind) _ _ (cut-short body (r .valueStart) (r .valueLen))) (values-short body rows)
+values-short body (r ∷ rows) = and (short-value (kind-of (r .kind) (nameOf body r) (valueOf body r)) (cut-short body (r .valueStart) (r .valueLen))) (values-short body rows)
 
 -- ---- attributes of a start element that is found
 abbrev pub ShortAttribute : ℕ → Attribute → Type 0

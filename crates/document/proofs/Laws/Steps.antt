@@ -44,10 +44,3 @@ unfolding firstText
 first-text-token failure s d t l = refl
 
 -- ---- all the texts directly in an element
-pub joined-end : (s : Scope) (d : Depth) → joined s d [] ≡ gives []
-unfolding joined
-joined-end s d = refl
-
-pub joined-token : (s : Scope) (d : Depth) (t : Tok) (l : List Tok) → joined s d (t ∷ l) ≡ textTurn takeEach s (depthAfter t d) t (joined s (depthAfter t d) l)
-unfolding joined
-joined-token s d t l = refl

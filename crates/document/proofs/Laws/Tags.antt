@@ -2,7 +2,7 @@
 -- stands outside of start tags meets each start element at the row of its own start. One that goes on anyhow need not: a search that begins in a start
 -- tag finds an element without a start of its own.
 use Prim.Native.Nat.{ℕ, zero, suc, _≤_, _<_}
-use mathlib.Core.Path.{_≡_, refl, sym}
+use mathlib.Core.Path.{_≡_, refl, sym, _∙_}
 use mathlib.Core.Bool.{Bool, true, false, not}
 use mathlib.Core.List.{List, [], _∷_}
 use native.Mathlib.Omega.{arith}
@@ -13,8 +13,9 @@ use Rattle.lists.specs.Tests.{pick}
 use Rattle.lists.proofs.Tests.{pick-cases, false-true}
 use Rattle.reference.specs.Text.{Out, bytes, unescaped}
 use Rattle.reference.specs.Text as text
-use Rattle.table.specs.Row.{Row, Name, Tok, start, attr, gt, close, slash, matter, bad, tokAs, tokOf, toksOf}
-use Rattle.table.specs.Rules.{among, Place, EachRow, none, row}
+use Rattle.table.specs.Row.{Row, Name, Tok, start, attr, gt, close, slash, matter, bad, nameOf, valueOf, tokOf, toksOf}
+use Rattle.table.proofs.Classes.{Kind, of-start, of-attr, of-gt, of-close, of-slash, of-matter, of-error, kind-of}
+use Rattle.table.specs.Rules.{endsTag, inTagOnly, mayBeInTag, among, Place, EachRow, none, row}
 use Rattle.xml.proofs.Past.{at-next}
 use Rattle.document.specs.declared.Depth.{Depth}
 use Rattle.document.specs.Reader.{Reader, reader, depthAfter, shallower, Scope, isEnd, endsAt, Past, skip, StartEl, addAttribute, asClosed, onAttribute, onClose, Next, found, gone, takeTurn, next}
@@ -35,38 +36,31 @@ not-inside true e = sym e
 not-inside false e = refl
 
 -- by the rules of rows
-module _ (n : Name) (v : List ℕ) where
-  may-stand : (k : ℕ) (b : Bool) → (b ≡ true → among (2 ∷ 3 ∷ 5 ∷ 8 ∷ []) k ≡ true) → (b ≡ false → among (2 ∷ 3 ∷ 5 ∷ []) k ≡ false)
-      → mayStand (tokAs k n v) b ≡ true
-  unfolding tokAs
-  may-stand zero b i o = refl
-  may-stand (suc zero) b i o = is-outside b i
-  may-stand (suc (suc zero)) b i o = is-inside b o
-  may-stand (suc (suc (suc zero))) b i o = is-inside b o
-  may-stand (suc (suc (suc (suc zero)))) b i o = is-outside b i
-  may-stand (suc (suc (suc (suc (suc zero))))) b i o = is-inside b o
-  may-stand (suc (suc (suc (suc (suc (suc zero)))))) b i o = is-outside b i
-  may-stand (suc (suc (suc (suc (suc (suc (suc zero))))))) b i o = is-outside b i
-  may-stand (suc (suc (suc (suc (suc (suc (suc (suc k)))))))) b i o = refl
+module _ {n : Name} {v : List ℕ} where
+  may-stand : {k : ℕ} {t : Tok} → Kind n v k t → (b : Bool) → (b ≡ true → mayBeInTag k ≡ true) → (b ≡ false → inTagOnly k ≡ false)
+      → mayStand t b ≡ true
+  may-stand of-start b i o = is-outside b i
+  may-stand of-attr b i o = is-inside b o
+  may-stand of-gt b i o = is-inside b o
+  may-stand of-close b i o = is-outside b i
+  may-stand of-slash b i o = is-inside b o
+  may-stand (of-matter w) b i o = is-outside b (λ e. sym (w .outside) ∙ i e)
+  may-stand (of-error w) b i o = refl
 
-  tag-after : (k : ℕ) (b : Bool) → inTagAfter (tokAs k n v) b ≡ pick (eqb k 1) true (pick (among (3 ∷ 5 ∷ []) k) false b)
-  unfolding tokAs
-  tag-after zero b = refl
-  tag-after (suc zero) b = refl
-  tag-after (suc (suc zero)) b = refl
-  tag-after (suc (suc (suc zero))) b = refl
-  tag-after (suc (suc (suc (suc zero)))) b = refl
-  tag-after (suc (suc (suc (suc (suc zero))))) b = refl
-  tag-after (suc (suc (suc (suc (suc (suc zero)))))) b = refl
-  tag-after (suc (suc (suc (suc (suc (suc (suc zero))))))) b = refl
-  tag-after (suc (suc (suc (suc (suc (suc (suc (suc k)))))))) b =
-      let m = suc (suc (suc (suc (suc (suc (suc (suc k))))))) in
-      rw (ne-eqb m 1 (λ e. absurd (omega (arith, e))), ne-eqb m 3 (λ e. absurd (omega (arith, e))), ne-eqb m 5 (λ e. absurd (omega (arith, e))))
+  tag-after : {k : ℕ} {t : Tok} → Kind n v k t → (b : Bool) → inTagAfter t b ≡ pick (eqb k 1) true (pick (endsTag k) false b)
+  tag-after of-start b = refl
+  tag-after of-attr b = refl
+  tag-after of-gt b = refl
+  tag-after of-close b = refl
+  tag-after of-slash b = refl
+  tag-after (of-matter w) b = rw (w .loose .start, w .loose .tagEnd)
+  tag-after (of-error w) b = rw (w .loose .start, w .loose .tagEnd)
 
 pub rows-tags : {body : List ℕ} {p : Place} {rows : List Row} → EachRow body p rows → Tags (p .inTag) (toksOf body rows)
 rows-tags none = no-token
 rows-tags {body} (row {p = p} {r = r} {rest = rest} o t) =
-    token {b = p .inTag} {t = tokOf body r} {l = toksOf body rest} (may-stand _ _ (r .kind) (p .inTag) (o .tagOrder .inside) (o .tagOrder .outside)) (rw (tag-after _ _ (r .kind) (p .inTag)) (rows-tags t))
+    let k = kind-of (r .kind) (nameOf body r) (valueOf body r) in
+    token {b = p .inTag} {t = tokOf body r} {l = toksOf body rest} (may-stand k (p .inTag) (o .tagOrder .inside) (o .tagOrder .outside)) (rw (tag-after k (p .inTag)) (rows-tags t))
 
 -- ---- the skip ends outside of start tags: after a close tag, or where the tokens run out
 after-end : (s : Scope) (d : Depth) (t : Tok) (b : Bool) {l : List Tok} → endsAt s d t ≡ true → mayStand t b ≡ true → Tags (inTagAfter t b) l → Tags false l

@@ -8,7 +8,7 @@ use borrow.Author.Tests.{eq-eqb, ne-eqb}
 use lib.ListN.{length}
 use Rattle.lists.specs.Tests.{pick}
 use Rattle.reference.specs.Xml.{EachReference}
-use Rattle.reference.specs.Text.{Out, bytes, unescaped}
+use Rattle.reference.specs.Text.{Out, bytes, unescaped, meaning}
 use Rattle.reference.specs.Text as text
 use Rattle.reference.proofs.Lenient.{valid-unescapes}
 use Rattle.reference.proofs.Grammar.{validate-complete}
@@ -21,10 +21,6 @@ use Rattle.document.specs.Reader.{deeper, Reader, reader, Scope, element
 use Rattle.document.specs.Scope.{Child, shut, dropped, Level, meets, done, level, levelIn, children, endOf, dropping, childrenOf, afterChildren}
 
 -- ---- what a text stands for, where all its references are right
-abbrev pub meaning : Out → List ℕ
-meaning (bytes l) = l
-meaning (text.bad at) = []
-
 pub unescapes : (v : List ℕ) → EachReference v → unescaped v ≡ bytes (meaning (unescaped v))
 unescapes v e = let w = valid-unescapes v (validate-complete v e) in rw (w .1)
 

@@ -120,16 +120,3 @@ module _ (u : Upload) where
         onTable : (d : Dec (TableRules (u .body) (u .rows) (u .end))) → Is AskedAs AskedRefused (withTable d (withSheet sheet))
         onTable (yes rules) = onSheet sheet refl rules
         onTable (no broken) = is-refused (by-table broken)
-
-    pub refused-asked : {r : Refusal} → AskedRefused r → asked u sheet settings depth ≡ refuses r
-    unfolding asked
-    refused-asked (by-table b) = not-obeyed _ (decTable (u .body) (u .rows) (u .end)) b
-    refused-asked (by-sheet t q) = obeyed _ (decTable (u .body) (u .rows) (u .end)) t ∙ rw q
-    refused-asked (by-depth t q h) = obeyed _ (decTable (u .body) (u .rows) (u .end)) t ∙ rw (q, le-leb (settings .maxDepth) (depth .0) h)
-    refused-asked (by-root t q h n) = obeyed _ (decTable (u .body) (u .rows) (u .end)) t ∙ rw (q, lt-leb (settings .maxDepth) (depth .0) h, n)
-
-    pub given-asked : (a : Asked S) → AskedAs a → asked u sheet settings depth ≡ gives a
-    unfolding asked
-    given-asked a w =
-        obeyed _ (decTable (u .body) (u .rows) (u .end)) (w .begun .rules)
-        ∙ rw (w .says, lt-leb (settings .maxDepth) (depth .0) (w .below), given-rooted (isStrict settings depth) (w .begun))

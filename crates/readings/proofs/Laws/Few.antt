@@ -78,12 +78,3 @@ index-below i (y ∷ l) m x = ⊎-elim (λ q. rw q (omega arith)) (λ j. omega (
 pub record FewGroups (order : List ℕ) : Type 0 where
   pub few : length order ≤ mostMembers
   pub each : (i : ℕ) → List·Memᴰ i order → i < mostMembers
-
-pub group-order-few : {s : Structure} {children : List Child} {order : List ℕ} → GroupOrder s children order → length (s .members) ≤ mostMembers → FewGroups order
-group-order-few {s} {order = order} g h = record { few = few-below mostMembers order (g .once) below; each = below }
-  where
-    below : (i : ℕ) → List·Memᴰ i order → i < mostMembers
-    below i m =
-        let c = g .each i .0 m in
-        let w = group-member s i (c .0) (c .1 .1) in
-        omega (arith, index-below zero (s .members) (w .member) (w .inSheet), w .index, h)

@@ -18,7 +18,3 @@ after-entry-goes-on name c = pick-all (λ r. GoneOn (c .inner) r) (isWanted name
 
 pub after-entry-shortens : (name : Option (List ℕ)) → Shortens (afterEntry name)
 after-entry-shortens name c = after-entry-goes-on name c .short
-
--- one turn of the loop
-pub entries-step : (name : Option (List ℕ)) (s : Scope) (r : Reader) → levelFrom (afterEntry name) s r ≡ onNext (afterEntry name) (levelFrom (afterEntry name) s) (nextFrom s r)
-entries-step name s r = level-step (afterEntry name) (after-entry-shortens name) s r
