@@ -21,11 +21,14 @@ use Rattle.table.proofs.Classes.{OfMatter, Kind, of-start, of-attr, of-gt, of-c
 use Rattle.xml.specs.Drain.{sameName, hasName}
 use Rattle.xml.specs.declared.Cause.{Cause}
 use Rattle.decode.specs.declared.drain.Fault.{Fault}
-use Rattle.decode.specs.Rows.{InTable, Readable, nameAt, valueAt, tokAt}
-use Rattle.decode.specs.Drain.{namesBack, asFault, valueFault, isValid, valuePasses, faultIf, LiesIn, faultOf, WellPlaced}
+use Rattle.decode.specs.Rows.{InTable, Readable, nameAt, valueAt}
+use Rattle.decode.specs.Drain.{namesBack, asFault, valueFault, isValid, valuePasses, faultIf, LiesIn, faultOf, FaultIs, WellPlaced, topOf}
 use Rattle.decode.proofs.Names.{value-span}
 
 -- ---- a name that repeats
+pub names-first : (body t : List ℕ) (tag j : ℕ) → tag + 1 < j → namesBack body t tag j ≡ nameAt body t (j - 1) ∷ namesBack body t tag (j - 1)
+names-first body t tag j h = let e : j - (tag + 1) ≡ suc ((j - 1) - (tag + 1)) = omega arith in rw e
+
 -- row k is compared with the rows back to j: those before are to be compared still
 pub record RepeatAt (body t : List ℕ) (tag k j : ℕ) : Type 0 where
   pub low : tag < j
@@ -39,13 +42,10 @@ module _ {body t : List ℕ} {tag k j : ℕ} (at : RepeatAt body t tag k j) (h :
   pub repeat-in : InTable t k → InTable t (j - 1)
   repeat-in i = record { row = omega (arith, i .row, at .high) }
 
-  names-first : namesBack body t tag j ≡ nameAt body t (j - 1) ∷ namesBack body t tag (j - 1)
-  names-first = let e : j - (tag + 1) ≡ suc ((j - 1) - (tag + 1)) = omega arith in rw e
-
   first-seen : hasName (nameAt body t k) (namesBack body t tag j)
       ≡ pick (sameName (nameAt body t k) (nameAt body t (j - 1))) true (hasName (nameAt body t k) (namesBack body t tag (j - 1)))
   unfolding hasName
-  first-seen = ap (hasName (nameAt body t k)) names-first
+  first-seen = ap (hasName (nameAt body t k)) (names-first body t tag j h)
 
   module _ {u : Bool} (e : u ≡ sameName (nameAt body t k) (nameAt body t (j - 1))) where
     pub repeat-yes : u ≡ true → true ≡ hasName (nameAt body t k) (namesBack body t tag k)
@@ -60,31 +60,6 @@ unfolding hasName
 repeat-end {body} {t} {tag} {k} {j} at h = let e : j - (tag + 1) ≡ 0 = omega arith in rw (← at .rest, e)
 
 pub ruleset repeat-laws = (needs, repeat-start, repeat-in, repeat-yes, repeat-no, repeat-end)
-
--- ---- a value
-module _ (v : List ℕ) {x : List ℕ} {r : Validated} (p : x ≡ v) (e : r ≡ validated x) where
-  pub value-good : r ≡ Validated.Valid → true ≡ valuePasses v
-  value-good q = rw (← p, ← e, q)
-
-  pub value-bad : r ≡ Validated.BadReference → false ≡ valuePasses v
-  value-bad q = rw (← p, ← e, q)
-
-pub ruleset reference-laws = (needs, value-span, value-good, value-bad)
-
-pub fault-if : (v : List ℕ) → faultIf (valuePasses v) ≡ valueFault v
-fault-if v = go (validated v)
-  where
-    go : (r : Validated) → faultIf (isValid r) ≡ asFault r
-    go Validated.Valid = refl
-    go Validated.BadReference = refl
-
-pub passes-none : (u : Bool) → u ≡ true → Fault.Nothing ≡ faultIf u
-passes-none u q = rw q
-
-pub passes-not : (u : Bool) → u ≡ false → Fault.Is Cause.BadReference ≡ faultIf u
-passes-not u q = rw q
-
-pub ruleset passes-laws = (needs, passes-none, passes-not)
 
 -- ---- a part without `&`
 pub plain-none : (body : List ℕ) → Clear body 38 0 0
@@ -112,68 +87,92 @@ pub lies : (t : List ℕ) (k : ℕ) {low high from len : ℕ} → from ≡ getD 
     → LiesIn t k low high true
 lies t k e f l m h = record { says = λ q. (omega arith, omega arith) }
 
-pub value-plain : {body t : List ℕ} {k low high : ℕ} {r : Bool} → Clear body 38 low high → LiesIn t k low high r → r ≡ true
-    → Fault.Nothing ≡ valueFault (valueAt body t k)
-value-plain {body} {t} {k} x i q =
-    let h = i .says q in
-    let z = plain-valid (valueAt body t k) (plain-cut x (getD t (k * 8 + 5) 0) (getD t (k * 8 + 6) 0) (h .0) (h .1)) in
-    rw z
-
 pub ruleset plain-laws = (needs, plain-none, plain-next, value-start, lies-not, lies)
 
+-- ---- the fault of a value
+module _ (v : List ℕ) {x : List ℕ} {r : Validated} (p : x ≡ v) (e : r ≡ validated x) where
+  pub value-good : r ≡ Validated.Valid → true ≡ valuePasses v
+  value-good q = rw (← p, ← e, q)
+
+  pub value-bad : r ≡ Validated.BadReference → false ≡ valuePasses v
+  value-bad q = rw (← p, ← e, q)
+
+pub ruleset reference-laws = (needs, value-span, value-good, value-bad)
+
+pub passes-none : (u : Bool) → u ≡ true → Fault.Nothing ≡ faultIf u
+passes-none u q = rw q
+
+pub passes-not : (u : Bool) → u ≡ false → Fault.Is Cause.BadReference ≡ faultIf u
+passes-not u q = rw q
+
+pub ruleset passes-laws = (needs, passes-none, passes-not)
+
+module _ (body t : List ℕ) (k : ℕ) where
+  pub value-plain : {low high : ℕ} {r : Bool} → Clear body 38 low high → LiesIn t k low high r → r ≡ true
+      → Fault.Nothing ≡ valueFault (valueAt body t k)
+  value-plain x i q =
+      let h = i .says q in
+      let z = plain-valid (valueAt body t k) (plain-cut x (getD t (k * 8 + 5) 0) (getD t (k * 8 + 6) 0) (h .0) (h .1)) in
+      rw z
+
+  pub value-read : {u : Bool} {f : Fault} → u ≡ valuePasses (valueAt body t k) → f ≡ faultIf u → f ≡ valueFault (valueAt body t k)
+  value-read e p = p ∙ rw e (go (validated (valueAt body t k)))
+    where
+      go : (r : Validated) → faultIf (isValid r) ≡ asFault r
+      go Validated.Valid = refl
+      go Validated.BadReference = refl
+
+-- ---- the start row of the innermost open element
+pub top-none : (starts : List ℕ) (depth : ℕ) → depth ≡ 0 → 0 ≡ topOf starts depth
+top-none starts depth e = rw e
+
+pub top-some : (starts : List ℕ) (depth : ℕ) → (depth ≡ 0 → ⊥) → getD starts (depth - 1) 0 ≡ topOf starts depth
+top-some starts zero h = absurd (h refl)
+top-some starts (suc d) h = let e : suc d - 1 ≡ d = omega arith in rw e
+
+pub ruleset top-laws = (needs, top-none, top-some)
+
 -- ---- the fault of one row
-module _ (body t : List ℕ) (top : Name) (names : List Name) (k : ℕ) {kind : ℕ} (e : kind ≡ getD t (k * 8 + 0) 0) where
-  pub fault-repeated : {u : Bool} → kind ≡ 2 → u ≡ hasName (nameAt body t k) names → u ≡ true
-      → Fault.Is Cause.RepeatedAttribute ≡ faultOf top names (tokAt body t k)
-  unfolding tokAs
-  fault-repeated h q g = rw (← e, h, ← q, g)
+module _ (body t : List ℕ) (top k : ℕ) {kind : ℕ} (e : kind ≡ getD t (k * 8 + 0) 0) where
+  module _ {x : ℕ} (o : x ≡ top) {u : Bool} where
+    module _ (h : kind ≡ 2) (q : u ≡ hasName (nameAt body t k) (namesBack body t x k)) where
+      pub fault-repeated : u ≡ true → FaultIs body t top k (Fault.Is Cause.RepeatedAttribute)
+      unfolding tokAs
+      fault-repeated g = record { is = rw (← o, ← e, h, ← q, g) }
 
-  pub fault-value : {u v : Bool} {f : Fault} → kind ≡ 2 → u ≡ hasName (nameAt body t k) names → u ≡ false → v ≡ valuePasses (valueAt body t k)
-      → f ≡ faultIf v → f ≡ faultOf top names (tokAt body t k)
-  unfolding tokAs
-  fault-value h q g o p = rw (← e, h, ← q, g, ← fault-if (valueAt body t k), ← o) p
+      pub fault-value : {f : Fault} → u ≡ false → f ≡ valueFault (valueAt body t k) → FaultIs body t top k f
+      unfolding tokAs
+      fault-value g p = record { is = rw (← o, ← e, h, ← q, g) p }
 
-  pub fault-plain : {u v : Bool} {low high : ℕ} → kind ≡ 2 → u ≡ hasName (nameAt body t k) names → u ≡ false → Clear body 38 low high
-      → LiesIn t k low high v → v ≡ true
-      → Fault.Nothing ≡ faultOf top names (tokAt body t k)
-  unfolding tokAs
-  fault-plain h q g c l o = rw (← e, h, ← q, g) (value-plain c l o)
+    module _ (h : kind ≡ 4) (q : u ≡ sameName (nameAt body t k) (nameAt body t x)) where
+      pub fault-matched : u ≡ true → FaultIs body t top k Fault.Nothing
+      unfolding tokAs
+      fault-matched g = record { is = rw (← o, ← e, h, ← q, g) }
 
-  pub fault-matched : {u : Bool} → kind ≡ 4 → u ≡ sameName (nameAt body t k) top → u ≡ true
-      → Fault.Nothing ≡ faultOf top names (tokAt body t k)
-  unfolding tokAs
-  fault-matched h q g = rw (← e, h, ← q, g)
+      pub fault-mismatched : u ≡ false → FaultIs body t top k (Fault.Is Cause.MismatchedEnd)
+      unfolding tokAs
+      fault-mismatched g = record { is = rw (← o, ← e, h, ← q, g) }
 
-  pub fault-mismatched : {u : Bool} → kind ≡ 4 → u ≡ sameName (nameAt body t k) top → u ≡ false
-      → Fault.Is Cause.MismatchedEnd ≡ faultOf top names (tokAt body t k)
+  pub fault-text : {f : Fault} → kind ≡ 6 → f ≡ valueFault (valueAt body t k) → FaultIs body t top k f
   unfolding tokAs
-  fault-mismatched h q g = rw (← e, h, ← q, g)
+  fault-text h p = record { is = rw (← e, h) p }
 
-  pub fault-text : {v : Bool} {f : Fault} → kind ≡ 6 → v ≡ valuePasses (valueAt body t k) → f ≡ faultIf v
-      → f ≡ faultOf top names (tokAt body t k)
+  pub fault-token : kind ≡ 8 → FaultIs body t top k (Fault.Is Cause.TokenError)
   unfolding tokAs
-  fault-text h o p = rw (← e, h, ← fault-if (valueAt body t k), ← o) p
+  fault-token h = record { is = rw (← e, h) }
 
-  pub text-plain : {v : Bool} {low high : ℕ} → kind ≡ 6 → Clear body 38 low high → LiesIn t k low high v → v ≡ true
-      → Fault.Nothing ≡ faultOf top names (tokAt body t k)
+  pub fault-none : WellPlaced t top k → (kind ≡ 2 → ⊥) → (kind ≡ 4 → ⊥) → (kind ≡ 6 → ⊥) → (kind ≡ 8 → ⊥)
+      → FaultIs body t top k Fault.Nothing
   unfolding tokAs
-  text-plain h c l o = rw (← e, h) (value-plain c l o)
-
-  pub fault-token : kind ≡ 8 → Fault.Is Cause.TokenError ≡ faultOf top names (tokAt body t k)
-  unfolding tokAs
-  fault-token h = rw (← e, h)
-
-  pub fault-none : {tag : ℕ} → WellPlaced t tag k → (kind ≡ 2 → ⊥) → (kind ≡ 4 → ⊥) → (kind ≡ 6 → ⊥) → (kind ≡ 8 → ⊥)
-      → Fault.Nothing ≡ faultOf top names (tokAt body t k)
-  unfolding tokAs
-  fault-none p a b c d = rw (← e) (go (kind-of kind (nameAt body t k) (valueAt body t k)) (omega (arith, p .least)) (omega (arith, p .most)) a b c d)
+  fault-none p a b c d =
+      record { is = rw (← e) (go (kind-of kind (nameAt body t k) (valueAt body t k)) (omega (arith, p .least)) (omega (arith, p .most)) a b c d) }
     where
       of : {v : List ℕ} {i : ℕ} (x : Matter) → OfMatter v i x → (i ≡ 6 → ⊥) → Fault.Nothing ≡ valueFault (referencesIn x)
       of (text v) w c = absurd (c (w .isText v refl))
       of misc w c = rw validated-none
 
       go : {n : Name} {v : List ℕ} {i : ℕ} {u : Tok} → Kind n v i u → 1 ≤ i → i ≤ mostKind → (i ≡ 2 → ⊥) → (i ≡ 4 → ⊥) → (i ≡ 6 → ⊥) → (i ≡ 8 → ⊥)
-          → Fault.Nothing ≡ faultOf top names u
+          → Fault.Nothing ≡ faultOf (nameAt body t top) (namesBack body t top k) u
       go of-start l m a b c d = refl
       go of-attr l m a b c d = absurd (a refl)
       go of-gt l m a b c d = refl
@@ -182,19 +181,24 @@ module _ (body t : List ℕ) (top : Name) (names : List Name) (k : ℕ) {kind : 
       go (of-matter {m = x} w) l m a b c d = of x w c
       go (of-error w) l m a b c d = absurd (d (w .eight l m))
 
-pub placed-after : {t : List ℕ} {tag k kind : ℕ} → WellPlaced t tag k → kind ≡ getD t (k * 8 + 0) 0 → kind ≡ 2 → tag < k
-placed-after p e h = p .inTag (sym e ∙ h)
+module _ {t : List ℕ} {top k x : ℕ} (p : WellPlaced t top k) (o : x ≡ top) where
+  pub placed-start : InTable t x
+  placed-start = rw o (p .start)
+
+  pub placed-after : {kind : ℕ} → kind ≡ getD t (k * 8 + 0) 0 → kind ≡ 2 → x < k
+  placed-after e h = rw o (p .inTag (sym e ∙ h))
 
 pub ruleset fault-laws = (
   needs,
+  placed-start,
   placed-after,
+  value-plain,
+  value-read,
   fault-repeated,
   fault-value,
-  fault-plain,
   fault-matched,
   fault-mismatched,
   fault-text,
-  text-plain,
   fault-token,
   fault-none,
 )

@@ -4,148 +4,90 @@ use Prim.Native.Nat.{ℕ, zero, suc, _+_, _-_, _*_, _/_, _≤_, _<_}
 use mathlib.Core.Path.{_≡_, refl, sym, _∙_, ap}
 use mathlib.Core.Bool.{Bool, true, false}
 use mathlib.Core.List.{List, [], _∷_}
-use mathlib.Core.Logic.{⊎-elim}
-use native.Mathlib.Nat.{eq-or-lt-of-le}
 use native.Mathlib.Numerals.{add-one}
 use native.Mathlib.Omega.{arith}
 use borrow.Author.Needs.{needs}
-use borrow.Author.Tests.{eqb-true, eqb-false}
-use lib.Dec.{eqb}
+use borrow.Author.Tests.{eqb-true, ne-eqb, leb-true, leb-false}
+use lib.Dec.{eqb, leb}
 use lib.ListN.{length, getD, set, length-set}
 use lib.Seq.{getD-set-same, getD-set-other}
+use Rattle.lists.specs.Characters.{ampersand}
+use Rattle.lists.specs.Find.{Clear}
 use Rattle.lists.specs.Tests.{pick}
-use Rattle.lists.proofs.Tests.{false-true}
+use Rattle.lists.proofs.Tests.{false-true, pick-all}
 use Rattle.lists.specs.Decide.{isYes}
 use Rattle.reference.specs.Text.{validated}
 use Rattle.reference.specs.declared.Validated.{Validated}
-use Rattle.table.specs.Row.{Row, Name, Tok, start, attr, gt, close, slash, matter, referencesIn, bad, tokAs, toksOf, rowsOf}
-use Rattle.table.specs.Rules.{inTagOnly, Place, atFirst, after, RowRules, EachRow, row, TableRules}
+use Rattle.table.specs.Row.{Row, Name, Tok, referencesIn, bad, tokAs, toksOf, rowsOf}
+use Rattle.table.proofs.Classes.{Kind, of-start, of-attr, of-gt, of-close, of-slash, of-matter, of-error, kind-of}
+use Rattle.table.specs.Rules.{closesElement, endsTag, inTagOnly, mayBeInTag, openCount, Place, atFirst, after, RowRules, EachRow, row, TableRules}
 use Rattle.table.specs.Test.{decTable}
+use Rattle.table.proofs.OrderLaws.{count-within}
 use Rattle.table.proofs.Test.{first}
 use Rattle.table.proofs.Pass.{obeyed}
 use Rattle.table.specs.Flat.{rowAt, rowsFrom}
 use Rattle.table.proofs.Flat.{length-rows, rows-same, rows-whole, unroll, rolled-out, spans-in}
-use Rattle.xml.specs.Drain.{sameName, hasName, drainedBy, drained, State, going, failed, withValue, withAttribute, popped, step, walk, verdict}
+use Rattle.xml.specs.Drain.{sameName, hasName, drainedBy, drained, State, going, failed, withValue, withAttribute, closed, popped, step, walk, verdict}
 use Rattle.xml.specs.Drain.{walked}
-use Rattle.xml.specs.Passed.{openAfter, namesAfter}
+use Rattle.xml.specs.Passed.{namesAfter}
 use Rattle.xml.specs.declared.Cause.{Cause}
 use Rattle.xml.specs.declared.Drained.{Drained}
 use Rattle.decode.specs.declared.drain.Fault.{Fault}
 use Rattle.decode.specs.Rows.{InTable, nameAt, valueAt, tokAt}
-use Rattle.decode.specs.Drain.{namesBack, asFault, valueFault, faultOf, WellPlaced, topOf, Walkable}
-use Rattle.decode.proofs.Faults.{plain-none}
+use Rattle.decode.specs.Drain.{namesBack, asFault, valueFault, faultOf, FaultIs, WellPlaced, topOf, HasRoom, Entered, Walkable}
+use Rattle.decode.proofs.Faults.{names-first, plain-none}
 
 -- ---- the open elements, by the rows in which they start
 abbrev pub stackOf : List ℕ → List ℕ → List ℕ → ℕ → List Name
-stackOf body t opened zero = []
-stackOf body t opened (suc d) = nameAt body t (getD opened d 0) ∷ stackOf body t opened d
-
-pub top-none : (opened : List ℕ) (depth : ℕ) → depth ≡ 0 → 0 ≡ topOf opened depth
-top-none opened depth e = rw e
-
-pub top-some : (opened : List ℕ) (depth : ℕ) → (depth ≡ 0 → ⊥) → getD opened (depth - 1) 0 ≡ topOf opened depth
-top-some opened zero h = absurd (h refl)
-top-some opened (suc d) h = let e : suc d - 1 ≡ d = omega arith in rw e
-
-pub ruleset top-laws = (needs, top-none, top-some)
+stackOf body t starts zero = []
+stackOf body t starts (suc d) = nameAt body t (getD starts d 0) ∷ stackOf body t starts d
 
 -- a row number that is stored above the open ones leaves them
-stack-set : (body t opened : List ℕ) (d i x : ℕ) → d ≤ i → stackOf body t (set opened i x) d ≡ stackOf body t opened d
-stack-set body t opened zero i x h = refl
-stack-set body t opened (suc d) i x h =
-    rw (getD-set-other opened i d x 0 (λ e. omega arith), stack-set body t opened d i x (omega arith))
+stack-set : (body t starts : List ℕ) (d i x : ℕ) → d ≤ i → stackOf body t (set starts i x) d ≡ stackOf body t starts d
+stack-set body t starts zero i x h = refl
+stack-set body t starts (suc d) i x h =
+    rw (getD-set-other starts i d x 0 (λ e. omega arith), stack-set body t starts d i x (omega arith))
 
-stored-stack : (body t opened : List ℕ) (d x : ℕ) → d < length opened
-    → stackOf body t (set opened d x) (d + 1) ≡ nameAt body t x ∷ stackOf body t opened d
-stored-stack body t opened d x h = rw (add-one d, stack-set body t opened d d x (omega arith), getD-set-same opened d x 0)
+-- the start rows after row k, of a kind, where d elements are open
+abbrev stored : List ℕ → ℕ → ℕ → ℕ → List ℕ
+stored starts d k kind = pick (eqb kind 1) (set starts d k) starts
 
-stored-in : (opened : List ℕ) (d x : ℕ) → d < length opened → ((i : ℕ) → i < d → getD opened i 0 < x) → (i : ℕ) → i < d + 1
-    → getD (set opened d x) i 0 < x + 1
-stored-in opened d x h f i l = go (eqb i d) refl
+stored-in : (starts : List ℕ) (d k kind : ℕ) → (kind ≡ 1 → d < length starts) → ((i : ℕ) → i < d → getD starts i 0 < k) → (i : ℕ)
+    → i < openCount d kind
+    → getD (stored starts d k kind) i 0 < k + 1
+stored-in starts d k kind room f i = go (eqb kind 1) (closesElement kind) refl
   where
-    below : (i d : ℕ) → i < d + 1 → (i ≡ d → ⊥) → i < d
-    below i d l z = let m : i ≤ d = omega arith in ⊎-elim (λ e. absurd (z e)) (λ g. g) (eq-or-lt-of-le m)
+    under : d < length starts → (b : Bool) → leb d i ≡ b → i < suc d → getD (set starts d k) i 0 < k + 1
+    under h true q l = let e : i ≡ d = omega (arith, leb-true d i q) in rw (e, getD-set-same starts d k 0 h) (omega arith)
+    under h false q l =
+        let m = leb-false d i q in rw (getD-set-other starts d i k 0 (λ e. omega arith)) (omega (arith, f i m))
 
-    go : (b : Bool) → eqb i d ≡ b → getD (set opened d x) i 0 < x + 1
-    go true q = rw (eqb-true i d q, getD-set-same opened d x 0) (omega arith)
-    go false q =
-        let z : i ≡ d → ⊥ = eqb-false i d q in
-        rw (getD-set-other opened d i x 0 z) (omega (arith, f i (below i d l z)))
+    go : (a b : Bool) → eqb kind 1 ≡ a → i < pick a (suc d) (pick b (d - 1) d) → getD (pick a (set starts d k) starts) i 0 < k + 1
+    go true b q l = under (room (eqb-true kind 1 q)) (leb d i) refl l
+    go false true q l = let x = f i (omega arith) in omega arith
+    go false false q l = let x = f i l in omega arith
 
 -- ---- what a token does, by its fault
--- top is the innermost open name, if a close tag stands there
-Topped : Name → List Name → Tok → Type 0
-Topped top s (start n) = Unit {0}
-Topped top s (attr m v) = Unit {0}
-Topped top s gt = Unit {0}
-Topped top s (close m) = (l : List Name) × (s ≡ top ∷ l)
-Topped top s slash = Unit {0}
-Topped top s (matter b) = Unit {0}
-Topped top s bad = Unit {0}
+abbrev told : Fault → ℕ → State → State
+told Fault.Nothing k st = st
+told (Fault.Is c) k st = failed k c
 
-no-fault {ℓ} : {A : Type ℓ} {c : Cause} → Fault.Is c ≡ Fault.Nothing → A
-no-fault e = let z : _≡_ {A = ℕ} 0 1 = cc in absurd (omega arith)
+told-value : (v : List ℕ) (k : ℕ) (st : State) → withValue (validated v) k st ≡ told (valueFault v) k st
+told-value v k st = go (validated v)
+  where
+    go : (r : Validated) → withValue r k st ≡ told (asFault r) k st
+    go Validated.Valid = refl
+    go Validated.BadReference = refl
 
-is-fault {ℓ} : {A : Type ℓ} {c : Cause} → Fault.Nothing ≡ Fault.Is c → A
-is-fault e = let z : _≡_ {A = ℕ} 0 1 = cc in absurd (omega arith)
+told-attribute : (u : Bool) (v : List ℕ) (k : ℕ) (st : State)
+    → withAttribute u k (withValue (validated v) k st) ≡ told (pick u (Fault.Is Cause.RepeatedAttribute) (valueFault v)) k st
+told-attribute true v k st = refl
+told-attribute false v k st = told-value v k st
 
-value-going : (v : List ℕ) (k : ℕ) (st : State) → valueFault v ≡ Fault.Nothing → withValue (validated v) k st ≡ st
-value-going v k st = go (validated v)
-  where
-    go : (r : Validated) → asFault r ≡ Fault.Nothing → withValue r k st ≡ st
-    go Validated.Valid e = refl
-    go Validated.BadReference e = no-fault e
-
-value-failed : (v : List ℕ) (k : ℕ) (st : State) {c : Cause} → valueFault v ≡ Fault.Is c → withValue (validated v) k st ≡ failed k c
-value-failed v k st {c} = go (validated v)
-  where
-    go : (r : Validated) → asFault r ≡ Fault.Is c → withValue r k st ≡ failed k c
-    go Validated.Valid e = is-fault e
-    go Validated.BadReference e = let q : Cause.BadReference ≡ c = cc in rw q
-
--- a token without a fault goes on
-step-going : (k : ℕ) (top : Name) (s a : List Name) (t : Tok) → Topped top s t → faultOf top a t ≡ Fault.Nothing
-    → step k s a t ≡ going (openAfter s t) (namesAfter a t)
-unfolding Topped
-step-going k top s a (start n) h e = refl
-step-going k top s a (attr m v) h e = go (hasName m a) e
-  where
-    go : (u : Bool) → pick u (Fault.Is Cause.RepeatedAttribute) (valueFault v) ≡ Fault.Nothing
-        → withAttribute u k (withValue (validated v) k (going s (m ∷ a))) ≡ going s (m ∷ a)
-    go true e = no-fault e
-    go false e = value-going v k (going s (m ∷ a)) e
-step-going k top s a gt h e = refl
-step-going k top s a (close m) h e = rw (h .1) (go (sameName m top) e)
-  where
-    go : (u : Bool) → pick u Fault.Nothing (Fault.Is Cause.MismatchedEnd) ≡ Fault.Nothing
-        → pick u (going (h .0) a) (failed k Cause.MismatchedEnd) ≡ going (h .0) a
-    go true e = refl
-    go false e = no-fault e
-step-going k top s a slash h e = refl
-step-going k top s a (matter b) h e = value-going (referencesIn b) k (going s a) e
-step-going k top s a bad h e = no-fault e
-
--- and one with a fault fails
-step-failed : (k : ℕ) (top : Name) (s a : List Name) (t : Tok) {c : Cause} → Topped top s t → faultOf top a t ≡ Fault.Is c
-    → step k s a t ≡ failed k c
-unfolding Topped
-step-failed k top s a (start n) h e = is-fault e
-step-failed k top s a (attr m v) {c} h e = go (hasName m a) e
-  where
-    go : (u : Bool) → pick u (Fault.Is Cause.RepeatedAttribute) (valueFault v) ≡ Fault.Is c
-        → withAttribute u k (withValue (validated v) k (going s (m ∷ a))) ≡ failed k c
-    go true e = let q : Cause.RepeatedAttribute ≡ c = cc in rw q
-    go false e = value-failed v k (going s (m ∷ a)) e
-step-failed k top s a gt h e = is-fault e
-step-failed k top s a (close m) {c} h e = rw (h .1) (go (sameName m top) e)
-  where
-    go : (u : Bool) → pick u Fault.Nothing (Fault.Is Cause.MismatchedEnd) ≡ Fault.Is c
-        → pick u (going (h .0) a) (failed k Cause.MismatchedEnd) ≡ failed k c
-    go true e = is-fault e
-    go false e = let q : Cause.MismatchedEnd ≡ c = cc in rw q
-step-failed k top s a slash h e = is-fault e
-step-failed k top s a (matter b) h e = value-failed (referencesIn b) k (going s a) e
-step-failed k top s a bad {c} h e = let q : Cause.TokenError ≡ c = cc in rw q
+told-close : (u : Bool) (k : ℕ) (st : State)
+    → pick u st (failed k Cause.MismatchedEnd) ≡ told (pick u Fault.Nothing (Fault.Is Cause.MismatchedEnd)) k st
+told-close true k st = refl
+told-close false k st = refl
 
 walk-failed : (j k : ℕ) (c : Cause) (l : List Tok) → walk j (failed k c) l ≡ failed k c
 unfolding walk
@@ -162,51 +104,94 @@ module _ {body : List ℕ} {p : Place} {r : Row} {rest : List Row} (o : RowRules
       go true h = h
       go false h = false-true (sym (o .tagOrder .outside h) ∙ e)
 
-fault-names : (top : Name) (a b : List Name) (kind : ℕ) (n : Name) (v : List ℕ) → (kind ≡ 2 → a ≡ b)
-    → faultOf top a (tokAs kind n v) ≡ faultOf top b (tokAs kind n v)
-unfolding tokAs
-fault-names top a b zero n v h = refl
-fault-names top a b (suc zero) n v h = refl
-fault-names top a b (suc (suc zero)) n v h = rw (h refl)
-fault-names top a b (suc (suc (suc zero))) n v h = refl
-fault-names top a b (suc (suc (suc (suc zero)))) n v h = refl
-fault-names top a b (suc (suc (suc (suc (suc zero))))) n v h = refl
-fault-names top a b (suc (suc (suc (suc (suc (suc zero)))))) n v h = refl
-fault-names top a b (suc (suc (suc (suc (suc (suc (suc zero))))))) n v h = refl
-fault-names top a b (suc (suc (suc (suc (suc (suc (suc (suc k)))))))) n v h = refl
+-- ---- in the start tag of row `top`: the attribute names of the rows after it
+record TagAt (body t : List ℕ) (top k : ℕ) (names : List Name) : Type 0 where
+  before : top < k
+  are : names ≡ namesBack body t top k
 
-topped : (top : Name) (s : List Name) (kind : ℕ) (n : Name) (v : List ℕ) → (kind ≡ 4 → (l : List Name) × (s ≡ top ∷ l))
-    → Topped top s (tokAs kind n v)
-unfolding tokAs Topped
-topped top s zero n v h = tt
-topped top s (suc zero) n v h = tt
-topped top s (suc (suc zero)) n v h = tt
-topped top s (suc (suc (suc zero))) n v h = tt
-topped top s (suc (suc (suc (suc zero)))) n v h = h refl
-topped top s (suc (suc (suc (suc (suc zero))))) n v h = tt
-topped top s (suc (suc (suc (suc (suc (suc zero)))))) n v h = tt
-topped top s (suc (suc (suc (suc (suc (suc (suc zero))))))) n v h = tt
-topped top s (suc (suc (suc (suc (suc (suc (suc (suc k)))))))) n v h = tt
+tag-first : (body t : List ℕ) (k : ℕ) → TagAt body t k (k + 1) []
+tag-first body t k = record { before = omega arith; are = let z : k + 1 - (k + 1) ≡ 0 = omega arith in rw z }
 
--- ---- the walk
-pub record WalkAt (body t : List ℕ) (n : ℕ) (opened : List ℕ) (depth tag k : ℕ) : Type 0 where
+tag-more : {body t : List ℕ} {top k : ℕ} {names : List Name} → TagAt body t top k names → TagAt body t top (k + 1) (nameAt body t k ∷ names)
+tag-more {body} {t} {top} {k} at =
+    let z : k + 1 - 1 ≡ k = omega arith in
+    let y = names-first body t top (k + 1) (omega (arith, at .before)) in
+    record { before = omega (arith, at .before); are = rw (y, z, at .are) }
+
+-- ---- what row k does, by its kind, where d elements are open
+module _ (body t starts : List ℕ) (d k : ℕ) (v : List ℕ) (names : List Name) where
+  more : d < length starts → nameAt body t k ∷ stackOf body t starts d ≡ stackOf body t (set starts d k) (suc d)
+  more room = rw (getD-set-same starts d k 0 room, stack-set body t starts d d k (omega arith))
+
+  less : popped (stackOf body t starts d) ≡ stackOf body t starts (d - 1)
+  less = go d
+    where
+      go : (i : ℕ) → popped (stackOf body t starts i) ≡ stackOf body t starts (i - 1)
+      go zero = refl
+      go (suc i) = let z : suc i - 1 ≡ i = omega arith in rw z
+
+  closes : 0 < d → closed (nameAt body t k) (stackOf body t starts d) names k
+      ≡ pick (sameName (nameAt body t k) (nameAt body t (topOf starts d))) (going (popped (stackOf body t starts d)) names)
+      (failed k Cause.MismatchedEnd)
+  closes h = go d h
+    where
+      go : (i : ℕ) → 0 < i → closed (nameAt body t k) (stackOf body t starts i) names k
+          ≡ pick (sameName (nameAt body t k) (nameAt body t (topOf starts i))) (going (popped (stackOf body t starts i)) names)
+          (failed k Cause.MismatchedEnd)
+      go zero h = absurd (omega arith)
+      go (suc i) h = refl
+
+  row-step : {kind : ℕ} {u : Tok} → Kind (nameAt body t k) v kind u → (kind ≡ 1 → d < length starts)
+      → (kind ≡ 2 → names ≡ namesBack body t (topOf starts d) k)
+      → (kind ≡ 4 → 0 < d)
+      → step k (stackOf body t starts d) names u
+      ≡ told (faultOf (nameAt body t (topOf starts d)) (namesBack body t (topOf starts d) k) u) k
+      (going (stackOf body t (stored starts d k kind) (openCount d kind)) (namesAfter names u))
+  row-step of-start m a o = rw (more (m refl))
+  row-step of-attr m a o =
+      rw (← a refl) (told-attribute (hasName (nameAt body t k) names) v k (going (stackOf body t starts d) (nameAt body t k ∷ names)))
+  row-step of-gt m a o = refl
+  row-step of-close m a o =
+      closes (o refl)
+      ∙ rw (← less)
+      (told-close (sameName (nameAt body t k) (nameAt body t (topOf starts d))) k (going (popped (stackOf body t starts d)) names))
+  row-step of-slash m a o = rw less
+  row-step (of-matter {m = x} w) m a o =
+      rw (w .loose .start, w .loose .closing) (told-value (referencesIn x) k (going (stackOf body t starts d) names))
+  row-step (of-error w) m a o = refl
+
+  -- inside a start tag after it: it starts the tag, or is an attribute of it
+  tag-after : {b : Bool} {kind : ℕ} {u : Tok} → Kind (nameAt body t k) v kind u → (u ≡ bad → ⊥) → (kind ≡ 1 → d < length starts)
+      → (b ≡ true → mayBeInTag kind ≡ true)
+      → (b ≡ true → TagAt body t (topOf starts d) k names)
+      → pick (eqb kind 1) true (pick (endsTag kind) false b) ≡ true
+      → TagAt body t (topOf (stored starts d k kind) (openCount d kind)) (k + 1) (namesAfter names u)
+  tag-after of-start z m f a x = rw (getD-set-same starts d k 0 (m refl)) (tag-first body t k)
+  tag-after of-attr z m f a x = tag-more (a x)
+  tag-after of-gt z m f a x = false-true x
+  tag-after of-close z m f a x = false-true (f x)
+  tag-after of-slash z m f a x = false-true x
+  tag-after (of-matter w) z m f a x = false-true (sym (w .outside) ∙ f (rw (w .loose .start, w .loose .tagEnd) at x))
+  tag-after (of-error w) z m f a x = absurd (z refl)
+
+-- ---- the walk; of its fields `search` reads those that are `pub`
+pub record WalkAt (body t : List ℕ) (n : ℕ) (starts : List ℕ) (depth k low high : ℕ) : Type 0 where
   pub count : n ≡ length t / 8
   pub within : k ≤ n
-  pub place : Place
-  pub each : EachRow body place (rowsFrom t k (n - k))
-  pub deep : place .nesting ≡ depth
+  place : Place
+  each : EachRow body place (rowsFrom t k (n - k))
+  deep : place .nesting ≡ depth
   pub limit : depth ≤ 256
-  pub size : length opened ≡ 256
-  pub rowsIn : (d : ℕ) → d < depth → getD opened d 0 < k
-  pub names : List Name
-  pub tagOpen : place .inTag ≡ true → 0 < depth
-  pub tagRow : place .inTag ≡ true → tag < k
-  pub tagNames : place .inTag ≡ true → names ≡ namesBack body t tag k
-  pub rest : walk k (going (stackOf body t opened depth) names) (toksOf body (rowsFrom t k (n - k)))
+  size : length starts ≡ 256
+  rowsIn : (i : ℕ) → i < depth → getD starts i 0 < k
+  names : List Name
+  tagged : place .inTag ≡ true → TagAt body t (topOf starts depth) k names
+  rest : walk k (going (stackOf body t starts depth) names) (toksOf body (rowsFrom t k (n - k)))
       ≡ walk 0 (going [] []) (toksOf body (rowsOf t))
+  pub clear : Clear body ampersand low high
 
-pub walk-start : {body t : List ℕ} (opened : List ℕ) → Walkable body t → length opened ≡ 256 → WalkAt body t (length t / 8) opened 0 0 0
-walk-start {body} {t} opened w s =
+pub walk-start : {body t : List ℕ} (starts : List ℕ) → Walkable body t → length starts ≡ 256 → WalkAt body t (length t / 8) starts 0 0 0 0
+walk-start {body} {t} starts w s =
     let n = length t / 8 in
     let e : rowsOf t ≡ rowsFrom t 0 n = rows-same n t (rows-whole t (w .whole)) in
     let z : n - 0 ≡ n = omega arith in
@@ -218,15 +203,14 @@ walk-start {body} {t} opened w s =
       deep = refl;
       limit = omega arith;
       size = s;
-      rowsIn = λ d h. absurd (omega arith);
+      rowsIn = λ i l. absurd (omega arith);
       names = [];
-      tagOpen = λ q. false-true q;
-      tagRow = λ q. false-true q;
-      tagNames = λ q. false-true q;
+      tagged = λ q. false-true q;
       rest = rw (z, ← e);
+      clear = plain-none body;
     }
 
-module _ {body t : List ℕ} {n : ℕ} {opened : List ℕ} {depth tag k : ℕ} (w : WalkAt body t n opened depth tag k) (h : k < n) where
+module _ {body t : List ℕ} {n : ℕ} {starts : List ℕ} {depth k low high : ℕ} (w : WalkAt body t n starts depth k low high) (h : k < n) where
   pub row-in : InTable t k
   row-in = record { row = omega (arith, w .count) }
 
@@ -236,222 +220,110 @@ module _ {body t : List ℕ} {n : ℕ} {opened : List ℕ} {depth tag k : ℕ} (
   after-here : EachRow body (after (w .place) (rowAt t k)) (rowsFrom t (k + 1) (n - (k + 1)))
   after-here = first (rw (unroll t k n h) at (w .each)) .1
 
-  pub top-in : {top : ℕ} → top ≡ topOf opened depth → InTable t top
-  top-in {top} e = rw e (go depth (w .rowsIn))
+  pub row-room : HasRoom t depth k
+  row-room = record { row = row-in; limit = w .limit; room = λ i. omega (arith, w .deep, here .openLimit i) }
+
+  room : getD t (k * 8 + 0) 0 ≡ 1 → depth < length starts
+  room i = omega (arith, w .size, row-room .room i)
+
+  top-in : InTable t (topOf starts depth)
+  top-in = go depth (w .rowsIn)
     where
-      go : (d : ℕ) → ((i : ℕ) → i < d → getD opened i 0 < k) → InTable t (topOf opened d)
+      go : (d : ℕ) → ((i : ℕ) → i < d → getD starts i 0 < k) → InTable t (topOf starts d)
       go zero f = record { row = omega (arith, w .count) }
       go (suc d) f = record { row = omega (arith, w .count, f d (omega arith)) }
 
-  pub row-placed : WellPlaced t tag k
+  pub row-placed : WellPlaced t (topOf starts depth) k
   row-placed =
       record {
+        row = row-in;
+        start = top-in;
         least = here .knownKind .0;
         most = here .knownKind .1;
-        inTag = λ e. w .tagRow (in-tag here (rw e));
+        inTag = λ q. w .tagged (in-tag here (rw q)) .before;
       }
 
+  kind-here : Kind (nameAt body t k) (valueAt body t k) (getD t (k * 8 + 0) 0) (tokAt body t k)
+  kind-here = kind-of (getD t (k * 8 + 0) 0) (nameAt body t k) (valueAt body t k)
+
   -- one step of the walk
-  stepped : walk (k + 1) (step k (stackOf body t opened depth) (w .names) (tokAt body t k)) (toksOf body (rowsFrom t (k + 1) (n - (k + 1))))
+  stepped : walk (k + 1) (step k (stackOf body t starts depth) (w .names) (tokAt body t k)) (toksOf body (rowsFrom t (k + 1) (n - (k + 1))))
       ≡ walk 0 (going [] []) (toksOf body (rowsOf t))
   unfolding walk
   stepped =
       rw (add-one k)
       (sym
-      (ap (λ (l : List Row). walk k (going (stackOf body t opened depth) (w .names)) (toksOf body l)) (rw (add-one k) at (unroll t k n h)))
+      (ap (λ (l : List Row). walk k (going (stackOf body t starts depth) (w .names)) (toksOf body l)) (rw (add-one k) at (unroll t k n h)))
       ∙ w .rest)
 
-  -- the innermost open name, where a close tag stands
-  at-close : {top : ℕ} → top ≡ topOf opened depth → getD t (k * 8 + 0) 0 ≡ 4
-      → (l : List Name) × (stackOf body t opened depth ≡ nameAt body t top ∷ l)
-  at-close {top} e q = go depth (omega (arith, w .deep, here .needsOpen (rw q))) e
-    where
-      go : (d : ℕ) → 0 < d → top ≡ topOf opened d → (l : List Name) × (stackOf body t opened d ≡ nameAt body t top ∷ l)
-      go zero g e = absurd (omega arith)
-      go (suc d) g e = (stackOf body t opened d, rw e)
-
-  module _ {top : ℕ} {r : Fault} (e : top ≡ topOf opened depth)
-      (q : r ≡ faultOf (nameAt body t top) (namesBack body t tag k) (tokAt body t k)) where
-    fault-is : faultOf (nameAt body t top) (w .names) (tokAt body t k) ≡ r
-    fault-is =
-        fault-names (nameAt body t top) (w .names) (namesBack body t tag k) (getD t (k * 8 + 0) 0) (nameAt body t k) (valueAt body t k)
-        (λ g. w .tagNames (in-tag here (rw g)))
-        ∙ sym q
-
-    toppedHere : Topped (nameAt body t top) (stackOf body t opened depth) (tokAt body t k)
-    toppedHere =
-        topped (nameAt body t top) (stackOf body t opened depth) (getD t (k * 8 + 0) 0) (nameAt body t k) (valueAt body t k) (at-close e)
+  module _ {r : Fault} (q : FaultIs body t (topOf starts depth) k r) where
+    turned : walk (k + 1)
+        (told r k
+        (going (stackOf body t (stored starts depth k (getD t (k * 8 + 0) 0)) (openCount depth (getD t (k * 8 + 0) 0)))
+        (namesAfter (w .names) (tokAt body t k))))
+        (toksOf body (rowsFrom t (k + 1) (n - (k + 1))))
+        ≡ walk 0 (going [] []) (toksOf body (rowsOf t))
+    turned =
+        let x =
+        row-step body t starts depth k (valueAt body t k) (w .names) kind-here room
+        (λ i. w .tagged (in-tag here (rw i)) .are)
+        (λ i. omega (arith, w .deep, here .needsOpen (rw i))) in
+        rw (x, ← q .is) at stepped
 
     pub walk-fault : {c : Cause} → r ≡ Fault.Is c → Drained.IllFormed k c ≡ walked (toksOf body (rowsOf t))
     unfolding walked
-    walk-fault {c} g =
-        let x = step-failed k (nameAt body t top) (stackOf body t opened depth) (w .names) (tokAt body t k) toppedHere (fault-is ∙ g) in
-        rw (← stepped, x, walk-failed (k + 1) k c (toksOf body (rowsFrom t (k + 1) (n - (k + 1)))))
+    walk-fault {c} g = rw (← turned, g, walk-failed (k + 1) k c (toksOf body (rowsFrom t (k + 1) (n - (k + 1)))))
 
     -- without a fault it goes on
-    goes : r ≡ Fault.Nothing
-        → walk (k + 1) (going (openAfter (stackOf body t opened depth) (tokAt body t k)) (namesAfter (w .names) (tokAt body t k)))
-        (toksOf body (rowsFrom t (k + 1) (n - (k + 1))))
-        ≡ walk 0 (going [] []) (toksOf body (rowsOf t))
-    goes g =
-        rw (step-going k (nameAt body t top) (stackOf body t opened depth) (w .names) (tokAt body t k) toppedHere (fault-is ∙ g)) at stepped
+    module _ (g : r ≡ Fault.Nothing) where
+      no-error : tokAt body t k ≡ bad → ⊥
+      no-error i =
+          let f : Fault.Is Cause.TokenError ≡ Fault.Nothing = sym (rw i at (q .is)) ∙ g in
+          let z : _≡_ {A = ℕ} 0 1 = cc in absurd (omega arith)
 
-    module _ {kind : ℕ} (f : kind ≡ getD t (k * 8 + 0) 0) (g : r ≡ Fault.Nothing) where
-      -- a start row opens an element
-      pub walk-open : kind ≡ 1 → WalkAt body t n (set opened depth k) (depth + 1) k (k + 1)
-      unfolding tokAs
-      walk-open i =
-          let one : getD t (k * 8 + 0) 0 ≡ 1 = sym f ∙ i in
-          let room : depth < 256 = omega (arith, w .deep, here .openLimit one) in
-          record {
+      pub walk-next : {d from to : ℕ} {new : List ℕ} → Clear body ampersand from to → Entered starts depth (getD t (k * 8 + 0) 0) k new d
+          → WalkAt body t n new d (k + 1) from to
+      walk-next c o =
+          rw (o .rows, o .count)
+          (record {
             count = w .count;
             within = omega arith;
             place = after (w .place) (rowAt t k);
             each = after-here;
-            deep = rw one (omega (arith, w .deep));
-            limit = omega arith;
-            size = length-set opened depth k ∙ w .size;
-            rowsIn = stored-in opened depth k (omega (arith, w .size)) (w .rowsIn);
-            names = [];
-            tagOpen = λ x. omega arith;
-            tagRow = λ x. omega arith;
-            tagNames = λ x. let z : k + 1 - (k + 1) ≡ 0 = omega arith in rw z;
-            rest = rw (stored-stack body t opened depth k (omega (arith, w .size))) (rw (one, tokAs) at (goes g));
-          }
+            deep = rw (w .deep);
+            limit = count-within depth (getD t (k * 8 + 0) 0) 256 (w .limit) (row-room .room);
+            size = pick-all (λ l. length l ≡ 256) (eqb (getD t (k * 8 + 0) 0) 1) (set starts depth k) starts
+                (length-set starts depth k ∙ w .size) (w .size);
+            rowsIn = stored-in starts depth k (getD t (k * 8 + 0) 0) room (w .rowsIn);
+            names = namesAfter (w .names) (tokAt body t k);
+            tagged =
+                tag-after body t starts depth k (valueAt body t k) (w .names) kind-here no-error room
+                (here .tagOrder .inside) (w .tagged);
+            rest = rw g at turned;
+            clear = c;
+          })
 
-      -- the element is closed: by kind 4 or 5
-      closed-walk : (c : ℕ) → getD t (k * 8 + 0) 0 ≡ c → 0 < depth
-          → (after (w .place) (rowAt t k)) .nesting ≡ depth - 1 → ((after (w .place) (rowAt t k)) .inTag ≡ true → ⊥)
-          → openAfter (stackOf body t opened depth) (tokAt body t k) ≡ stackOf body t opened (depth - 1)
-          → namesAfter (w .names) (tokAt body t k) ≡ w .names
-          → WalkAt body t n opened (depth - 1) tag (k + 1)
-      closed-walk c i d a b u v =
-          record {
-            count = w .count;
-            within = omega arith;
-            place = after (w .place) (rowAt t k);
-            each = after-here;
-            deep = a;
-            limit = omega (arith, w .limit);
-            size = w .size;
-            rowsIn = λ j l. let x = w .rowsIn j (omega arith) in omega arith;
-            names = w .names;
-            tagOpen = λ x. absurd (b x);
-            tagRow = λ x. absurd (b x);
-            tagNames = λ x. absurd (b x);
-            rest = rw (u, v) at (goes g);
-          }
+-- ---- the start rows after a row
+pub enter-room : {t : List ℕ} {depth k kind : ℕ} → HasRoom t depth k → kind ≡ getD t (k * 8 + 0) 0 → kind ≡ 1 → depth < 256
+enter-room r e q = r .room (sym e ∙ q)
 
-      open-before : (getD t (k * 8 + 0) 0 ≡ 4 → 0 < depth) × (getD t (k * 8 + 0) 0 ≡ 5 → 0 < depth)
-      open-before = (λ i. omega (arith, w .deep, here .needsOpen (rw i)), λ i. w .tagOpen (in-tag here (rw i)))
+module _ (starts : List ℕ) (depth k : ℕ) {kind : ℕ} where
+  pub enter-start : (i : ℕ) → kind ≡ i → kind ≡ 1 → Entered starts depth i k (set starts depth k) (depth + 1)
+  enter-start i e q = rw (← e, q) (record { rows = refl; count = add-one depth })
 
-      popped-stack : (d : ℕ) → 0 < d → popped (stackOf body t opened d) ≡ stackOf body t opened (d - 1)
-      popped-stack zero l = absurd (omega arith)
-      popped-stack (suc d) l = let z : suc d - 1 ≡ d = omega arith in rw z
+  pub enter-other : {r : ℕ} (i : ℕ) → kind ≡ i → (kind ≡ 1 → ⊥) → r ≡ openCount depth kind → Entered starts depth i k starts r
+  enter-other i e f o = rw (← e) (record { rows = rw (ne-eqb kind 1 f); count = o })
 
-      by-close : getD t (k * 8 + 0) 0 ≡ 4 → WalkAt body t n opened (depth - 1) tag (k + 1)
-      unfolding tokAs
-      by-close i =
-          let d : 0 < depth = open-before .0 i in
-          closed-walk 4 i d (rw i (omega (arith, w .deep))) (λ x. outside (rw i at x))
-          (rw (i, tokAs) (popped-stack depth d)) (rw (i, tokAs))
-        where
-          outside : w .place .inTag ≡ true → ⊥
-          outside x = false-true (rw i at (here .tagOrder .inside x))
-
-      by-slash : getD t (k * 8 + 0) 0 ≡ 5 → WalkAt body t n opened (depth - 1) tag (k + 1)
-      unfolding tokAs
-      by-slash i =
-          let d : 0 < depth = open-before .1 i in
-          closed-walk 5 i d (rw i (omega (arith, w .deep))) (λ x. false-true (rw i at x))
-          (rw (i, tokAs) (popped-stack depth d)) (rw (i, tokAs))
-
-      -- a close tag and `/>` close the innermost element
-      pub walk-close : kind ≡ 4 → WalkAt body t n opened (depth - 1) tag (k + 1)
-      walk-close i = by-close (sym f ∙ i)
-
-      pub walk-slash : kind ≡ 5 → WalkAt body t n opened (depth - 1) tag (k + 1)
-      walk-slash i = by-slash (sym f ∙ i)
-
-      -- a row that opens and closes nothing
-      other-walk : (names : List Name) → (after (w .place) (rowAt t k)) .nesting ≡ depth
-          → ((after (w .place) (rowAt t k)) .inTag ≡ true → w .place .inTag ≡ true)
-          → ((after (w .place) (rowAt t k)) .inTag ≡ true → names ≡ namesBack body t tag (k + 1))
-          → openAfter (stackOf body t opened depth) (tokAt body t k) ≡ stackOf body t opened depth
-          → namesAfter (w .names) (tokAt body t k) ≡ names
-          → WalkAt body t n opened depth tag (k + 1)
-      other-walk names a b c u v =
-          record {
-            count = w .count;
-            within = omega arith;
-            place = after (w .place) (rowAt t k);
-            each = after-here;
-            deep = a;
-            limit = w .limit;
-            size = w .size;
-            rowsIn = λ j l. let x = w .rowsIn j l in omega arith;
-            names = names;
-            tagOpen = λ x. w .tagOpen (b x);
-            tagRow = λ x. let y = w .tagRow (b x) in omega arith;
-            tagNames = c;
-            rest = rw (u, v) at (goes g);
-          }
-
-      by-attribute : getD t (k * 8 + 0) 0 ≡ 2 → WalkAt body t n opened depth tag (k + 1)
-      unfolding tokAs
-      by-attribute i =
-          let inside = in-tag here (rw i) in
-          let y = w .tagRow inside in
-          let z : k + 1 - (tag + 1) ≡ suc (k - (tag + 1)) = omega arith in
-          let l : k + 1 - 1 ≡ k = omega arith in
-          let more : nameAt body t k ∷ w .names ≡ namesBack body t tag (k + 1) = rw (z, l)
-          (ap (λ (m : List Name). nameAt body t k ∷ m) (w .tagNames inside)) in
-          other-walk (nameAt body t k ∷ w .names) (rw i (w .deep)) (λ x. inside) (λ x. more) (rw (i, tokAs)) (rw (i, tokAs))
-
-      by-gt : getD t (k * 8 + 0) 0 ≡ 3 → WalkAt body t n opened depth tag (k + 1)
-      unfolding tokAs
-      by-gt i =
-          other-walk (w .names) (rw i (w .deep)) (λ x. false-true (rw i at x)) (λ x. false-true (rw i at x)) (rw (i, tokAs)) (rw (i, tokAs))
-
-      by-text : getD t (k * 8 + 0) 0 ≡ 6 → WalkAt body t n opened depth tag (k + 1)
-      unfolding tokAs
-      by-text i =
-          let out : w .place .inTag ≡ true → ⊥ = λ x. false-true (rw i at (here .tagOrder .inside x)) in
-          other-walk (w .names) (rw i (w .deep)) (λ x. rw i at x) (λ x. absurd (out (rw i at x))) (rw (i, tokAs)) (rw (i, tokAs))
-
-      by-misc : getD t (k * 8 + 0) 0 ≡ 7 → WalkAt body t n opened depth tag (k + 1)
-      unfolding tokAs
-      by-misc i =
-          let out : w .place .inTag ≡ true → ⊥ = λ x. false-true (rw i at (here .tagOrder .inside x)) in
-          other-walk (w .names) (rw i (w .deep)) (λ x. rw i at x) (λ x. absurd (out (rw i at x))) (rw (i, tokAs)) (rw (i, tokAs))
-
-      no-error : getD t (k * 8 + 0) 0 ≡ 8 → ⊥
-      unfolding tokAs
-      no-error i = no-fault (rw (i, tokAs) at (fault-is ∙ g))
-
-      pub walk-on : (kind ≡ 1 → ⊥) → (kind ≡ 4 → ⊥) → (kind ≡ 5 → ⊥) → WalkAt body t n opened depth tag (k + 1)
-      walk-on a b c = cases kind f a b c
-        where
-          cases : (i : ℕ) → i ≡ getD t (k * 8 + 0) 0 → (i ≡ 1 → ⊥) → (i ≡ 4 → ⊥) → (i ≡ 5 → ⊥) → WalkAt body t n opened depth tag (k + 1)
-          cases zero e a b c = absurd (omega (arith, here .knownKind .0))
-          cases (suc zero) e a b c = absurd (a refl)
-          cases (suc (suc zero)) e a b c = by-attribute (sym e)
-          cases (suc (suc (suc zero))) e a b c = by-gt (sym e)
-          cases (suc (suc (suc (suc zero)))) e a b c = absurd (b refl)
-          cases (suc (suc (suc (suc (suc zero))))) e a b c = absurd (c refl)
-          cases (suc (suc (suc (suc (suc (suc zero)))))) e a b c = by-text (sym e)
-          cases (suc (suc (suc (suc (suc (suc (suc zero))))))) e a b c = by-misc (sym e)
-          cases (suc (suc (suc (suc (suc (suc (suc (suc zero)))))))) e a b c = absurd (no-error (sym e))
-          cases (suc (suc (suc (suc (suc (suc (suc (suc (suc i))))))))) e a b c = absurd (omega (arith, here .knownKind .1))
+pub ruleset enter-laws = (needs, enter-room, enter-start, enter-other)
 
 -- ---- the end of the rows
 pub length-toks : (body : List ℕ) (l : List Row) → length (toksOf body l) ≡ length l
 length-toks body [] = refl
 length-toks body (r ∷ l) = ap suc (length-toks body l)
 
-module _ {body t : List ℕ} {n : ℕ} {opened : List ℕ} {depth tag k : ℕ} (q : Walkable body t) (w : WalkAt body t n opened depth tag k)
+module _ {body t : List ℕ} {n : ℕ} {starts : List ℕ} {depth k low high : ℕ} (q : Walkable body t) (w : WalkAt body t n starts depth k low high)
     (h : n ≤ k) where
-  ended : walk 0 (going [] []) (toksOf body (rowsOf t)) ≡ going (stackOf body t opened depth) (w .names)
+  ended : walk 0 (going [] []) (toksOf body (rowsOf t)) ≡ going (stackOf body t starts depth) (w .names)
   unfolding walk
   ended = sym (rw (rolled-out t k n h) at (w .rest))
 
@@ -466,39 +338,20 @@ module _ {body t : List ℕ} {n : ℕ} {opened : List ℕ} {depth tag k : ℕ} (
   unfolding walked
   walk-unclosed e = rw (ended, rows-are) (go depth e)
     where
-      go : (d : ℕ) → (d ≡ 0 → ⊥) → Drained.IllFormed n Cause.UnclosedElement ≡ verdict n (going (stackOf body t opened d) (w .names))
+      go : (d : ℕ) → (d ≡ 0 → ⊥) → Drained.IllFormed n Cause.UnclosedElement ≡ verdict n (going (stackOf body t starts d) (w .names))
       go zero e = absurd (e refl)
       go (suc d) e = refl
-
-pub open-room : {body t : List ℕ} {n : ℕ} {opened : List ℕ} {depth tag k kind : ℕ} → WalkAt body t n opened depth tag k → k < n
-    → kind ≡ getD t (k * 8 + 0) 0 → kind ≡ 1 → depth < 256
-open-room w h f i = let x = here w h .openLimit (sym f ∙ i) in omega (arith, w .deep)
-
-pub close-room : {body t : List ℕ} {n : ℕ} {opened : List ℕ} {depth tag k kind : ℕ} → WalkAt body t n opened depth tag k → k < n
-    → kind ≡ getD t (k * 8 + 0) 0 → kind ≡ 4 → 1 ≤ depth
-close-room w h f i = let e = sym f ∙ i in let x = here w h .needsOpen (rw e) in omega (arith, w .deep)
-
-pub slash-room : {body t : List ℕ} {n : ℕ} {opened : List ℕ} {depth tag k kind : ℕ} → WalkAt body t n opened depth tag k → k < n
-    → kind ≡ getD t (k * 8 + 0) 0 → kind ≡ 5 → 1 ≤ depth
-slash-room w h f i = let e = sym f ∙ i in w .tagOpen (in-tag (here w h) (rw e))
 
 pub ruleset walk-laws = (
   needs,
   walk-start,
   row-in,
-  top-in,
   row-placed,
+  row-room,
   walk-fault,
-  walk-open,
-  walk-close,
-  walk-slash,
-  close-room,
-  slash-room,
-  walk-on,
+  walk-next,
   walk-passes,
   walk-unclosed,
-  open-room,
-  plain-none,
 )
 
 -- ---- a table that obeys the rules can be walked

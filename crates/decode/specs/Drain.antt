@@ -3,16 +3,17 @@ use Prim.Native.Nat.{ℕ, zero, suc, _+_, _-_, _*_, _%_, _≤_, _<_}
 use mathlib.Core.Path.{_≡_}
 use mathlib.Core.Bool.{Bool, true, false}
 use mathlib.Core.List.{List, [], _∷_}
-use lib.ListN.{length, getD}
+use lib.Dec.{eqb}
+use lib.ListN.{length, getD, set}
 use Rattle.lists.specs.Tests.{pick}
 use Rattle.reference.specs.Text.{validated}
 use Rattle.reference.specs.declared.Validated.{Validated}
 use Rattle.table.specs.Row.{Name, Tok, start, attr, gt, close, slash, matter, referencesIn, bad, rowsOf}
-use Rattle.table.specs.Rules.{mostKind, atFirst, EachRow}
+use Rattle.table.specs.Rules.{mostKind, openCount, atFirst, EachRow}
 use Rattle.xml.specs.Drain.{sameName, hasName}
 use Rattle.xml.specs.declared.Cause.{Cause}
 use Rattle.decode.specs.declared.drain.Fault.{Fault}
-use Rattle.decode.specs.Rows.{Readable, nameAt}
+use Rattle.decode.specs.Rows.{InTable, Readable, nameAt, tokAt}
 
 -- ---- names: of the m rows before row k, the nearest first; and of those back to the row after row `tag`
 abbrev pub back : List ℕ → List ℕ → ℕ → ℕ → List Name
@@ -55,16 +56,33 @@ faultOf top names slash = Fault.Nothing
 faultOf top names (matter b) = valueFault (referencesIn b)
 faultOf top names bad = Fault.Is Cause.TokenError
 
--- row k has a kind, and where it is an attribute it stands after the start row `tag`
-pub record WellPlaced (t : List ℕ) (tag k : ℕ) : Type 0 where
+-- the fault of row k, where the innermost open element starts in row `top`: an attribute stands in that element's start tag
+pub record FaultIs (body t : List ℕ) (top k : ℕ) (r : Fault) : Type 0 where
+  pub is : r ≡ faultOf (nameAt body t top) (namesBack body t top k) (tokAt body t k)
+
+-- row k and the start row `top` are rows of the table; row k has a kind, and where it is an attribute it stands after row `top`
+pub record WellPlaced (t : List ℕ) (top k : ℕ) : Type 0 where
+  pub row : InTable t k
+  pub start : InTable t top
   pub least : 1 ≤ getD t (k * 8 + 0) 0
   pub most : getD t (k * 8 + 0) 0 ≤ mostKind
-  pub inTag : getD t (k * 8 + 0) 0 ≡ 2 → tag < k
+  pub inTag : getD t (k * 8 + 0) 0 ≡ 2 → top < k
 
--- ---- the innermost of the open elements, which are kept by the rows in which they start
+-- ---- the start rows of the open elements, the innermost last: the last of so many, or row 0
 abbrev pub topOf : List ℕ → ℕ → ℕ
-topOf opened zero = 0
-topOf opened (suc d) = getD opened d 0
+topOf starts zero = 0
+topOf starts (suc d) = getD starts d 0
+
+-- row k is a row of the table, and where so many are open and it starts an element, there is room for it
+pub record HasRoom (t : List ℕ) (depth k : ℕ) : Type 0 where
+  pub row : InTable t k
+  pub limit : depth ≤ 256
+  pub room : getD t (k * 8 + 0) 0 ≡ 1 → depth < 256
+
+-- after row k, of a kind, where so many were open: it is put after them if it starts an element
+pub record Entered (starts : List ℕ) (depth kind k : ℕ) (after : List ℕ) (r : ℕ) : Type 0 where
+  pub rows : after ≡ pick (eqb kind 1) (set starts depth k) starts
+  pub count : r ≡ openCount depth kind
 
 -- ---- whole rows, each of which obeys its rules where it stands
 pub record Walkable (body t : List ℕ) : Type 0 where

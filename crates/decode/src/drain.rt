@@ -1,8 +1,9 @@
 // The strict drain: one walk over the rows, with the open elements by the rows in which they start.
-ghost use Prim.Native.Nat.{_<_, _≤_};
+ghost use Prim.Native.Nat.{_+_, _*_, _<_, _≤_};
 ghost use mathlib.Core.Path.{_≡_};
-ghost use Rattle.decode.specs.Rows.{InTable, Readable, nameAt, tokAt, valueAt};
-ghost use Rattle.decode.specs.Drain.{LiesIn, WellPlaced, Walkable, faultIf, faultOf, namesBack, topOf, valuePasses};
+ghost use Rattle.decode.specs.Rows.{InTable, Readable, nameAt, valueAt};
+ghost use Rattle.decode.specs.Drain.{Entered, FaultIs, HasRoom, LiesIn, WellPlaced, Walkable, faultIf, namesBack, topOf, valuePasses};
+ghost use lib.ListN.{getD};
 ghost use Rattle.lists.specs.Characters.{ampersand};
 ghost use Rattle.lists.specs.Find.{Clear};
 ghost use Rattle.table.specs.Row.{rowsOf, toksOf};
@@ -14,12 +15,12 @@ use table::field;
 use table::kind::ATTRIBUTE;
 use table::kind::CLOSE;
 use table::kind::ERROR;
-use table::kind::SLASH;
 use table::kind::START;
 use table::kind::TEXT;
 use table::number::KIND;
 use table::number::VALUE;
 use table::number::VALUE_LEN;
+use table::open_after;
 use xml::Cause;
 use xml::Drained;
 
@@ -44,18 +45,6 @@ fn is_repeated(body: &[u8], rows: &[u32], tag: usize, k: usize) -> bool
         }
     }
     false
-}
-
-// Whether each reference in the value of a row is right.
-fn references_pass(body: &[u8], rows: &[u32], k: usize) -> bool
-    requires { ⌜ Readable (now body) (now rows) ⌝ }
-    requires { ⌜ InTable (now rows) k ⌝ }
-    ensures { λ r. ⌜ r ≡ valuePasses (valueAt (now (body .entry)) (now (rows .entry)) k) ⌝ }
-{
-    match unescape::validate_references(span(body, rows, k, VALUE)) {
-        Validated::Valid => true,
-        Validated::BadReference => false,
-    }
 }
 
 // A part of the body where no `&` stands.
@@ -97,6 +86,18 @@ fn lies_in(rows: &[u32], k: usize, plain: Plain) -> bool
     true
 }
 
+// Whether each reference in the value of row k is right.
+fn references_pass(body: &[u8], rows: &[u32], k: usize) -> bool
+    requires { ⌜ Readable (now body) (now rows) ⌝ }
+    requires { ⌜ InTable (now rows) k ⌝ }
+    ensures { λ r. ⌜ r ≡ valuePasses (valueAt (now (body .entry)) (now (rows .entry)) k) ⌝ }
+{
+    match unescape::validate_references(span(body, rows, k, VALUE)) {
+        Validated::Valid => true,
+        Validated::BadReference => false,
+    }
+}
+
 // What is wrong with a value that passes or does not.
 fn value_fault(passes: bool) -> Fault
     ensures { λ r. ⌜ r ≡ faultIf passes ⌝ }
@@ -107,18 +108,35 @@ fn value_fault(passes: bool) -> Fault
     Fault::Is(Cause::BadReference)
 }
 
-// What is wrong with row k, of this kind, in or after the start tag of row `tag`, where the innermost open element starts in row `top`.
-fn row_fault(body: &[u8], rows: &[u32], k: usize, tag: usize, top: usize, plain: Plain) -> Fault
-    requires { ⌜ Readable (now body) (now rows) ⌝ }
-    requires { ⌜ InTable (now rows) k × InTable (now rows) top ⌝ }
-    requires { ⌜ WellPlaced (now rows) tag k ⌝ }
-    requires { ⌜ Clear (now body) ampersand (plain .from) (plain .to) ⌝ }
-    ensures { λ r. ⌜ r ≡ faultOf (nameAt (now (body .entry)) (now (rows .entry)) top)
-        (namesBack (now (body .entry)) (now (rows .entry)) tag k) (tokAt (now (body .entry)) (now (rows .entry)) k) ⌝ }
+// The start row of the innermost open element, or row 0.
+fn top_of(starts: &[usize; 256], depth: usize) -> usize
+    requires { ⌜ depth ≤ 256 ⌝ }
+    ensures { λ r. ⌜ r ≡ topOf (now (starts .entry)) depth ⌝ }
 {
+    if depth == 0 {
+        return 0;
+    }
+    starts[depth - 1]
+}
+
+// What is wrong with row k, where so many elements are open, by their start rows: an attribute stands in the start tag of the innermost.
+fn row_fault(
+    body: &[u8],
+    rows: &[u32],
+    k: usize,
+    starts: &[usize; 256],
+    depth: usize,
+    plain: Plain,
+) -> Fault
+    requires { ⌜ Readable (now body) (now rows) ⌝ }
+    requires { ⌜ (depth ≤ 256) × WellPlaced (now rows) (topOf (now starts) depth) k ⌝ }
+    requires { ⌜ Clear (now body) ampersand (plain .from) (plain .to) ⌝ }
+    ensures { λ r. ⌜ FaultIs (now (body .entry)) (now (rows .entry)) (topOf (now (starts .entry)) depth) k r ⌝ }
+{
+    let top = top_of(starts, depth);
     let kind = field(rows, k, KIND);
     if kind == ATTRIBUTE {
-        if is_repeated(body, rows, tag, k) {
+        if is_repeated(body, rows, top, k) {
             return Fault::Is(Cause::RepeatedAttribute);
         }
         if lies_in(rows, k, plain) {
@@ -144,15 +162,17 @@ fn row_fault(body: &[u8], rows: &[u32], k: usize, tag: usize, top: usize, plain:
     Fault::Nothing
 }
 
-// The start row of the innermost open element, or row 0.
-fn top_of(opened: &[usize; 256], depth: usize) -> usize
-    requires { ⌜ depth ≤ 256 ⌝ }
-    ensures { λ r. ⌜ r ≡ topOf (now (opened .entry)) depth ⌝ }
+// How many elements are open after row k; where it starts one, it is put among their start rows.
+fn enter(rows: &[u32], k: usize, starts: &mut [usize; 256], depth: usize) -> usize
+    requires { ⌜ HasRoom (now rows) depth k ⌝ }
+    ensures { λ r. ⌜ Entered (now (starts .entry)) depth (getD (now (rows .entry)) (k * 8 + 0) 0) k (now (starts .exit)) r ⌝ }
 {
-    if depth == 0 {
-        return 0;
+    let kind = field(rows, k, KIND);
+    if kind == START {
+        starts[depth] = k;
+        return depth + 1;
     }
-    opened[depth - 1]
+    open_after(kind, depth)
 }
 
 // The walk of the drain, over the rows of a table that obeys the rules.
@@ -161,34 +181,19 @@ pub fn walk(body: &[u8], rows: &[u32]) -> Drained
     ensures { λ r. ⌜ r ≡ walked (toksOf (now (body .entry)) (rowsOf (now (rows .entry)))) ⌝ }
 {
     let n = rows.len() / 8;
-    let mut opened = [0usize; 256];
+    let mut starts = [0usize; 256];
     let mut depth = 0;
-    let mut tag = 0;
     let mut k = 0;
     let mut plain = Plain { from: 0, to: 0 };
     while k < n {
-        let top = top_of(&opened, depth);
         plain = plain_for(body, rows, k, plain);
-        match row_fault(body, rows, k, tag, top, plain) {
+        match row_fault(body, rows, k, &starts, depth, plain) {
             Fault::Is(cause) => {
                 return Drained::IllFormed { row: k, cause };
             }
             Fault::Nothing => {
-                let kind = field(rows, k, KIND);
-                if kind == START {
-                    opened[depth] = k;
-                    depth += 1;
-                    tag = k;
-                    k += 1;
-                } else if kind == CLOSE {
-                    depth -= 1;
-                    k += 1;
-                } else if kind == SLASH {
-                    depth -= 1;
-                    k += 1;
-                } else {
-                    k += 1;
-                }
+                depth = enter(rows, k, &mut starts, depth);
+                k += 1;
             }
         }
     }

@@ -3,7 +3,6 @@ use Prim.Native.Nat.{ℕ, zero, suc, _+_, _-_, _*_, _/_, _≤_, _<_, _^_}
 use mathlib.Core.Path.{_≡_, refl, sym, _∙_, ap}
 use mathlib.Core.Bool.{Bool, true, false}
 use mathlib.Core.List.{List, [], _∷_}
-use native.Mathlib.Numerals.{add-one}
 use native.Mathlib.Omega.{arith}
 use borrow.Author.Needs.{needs}
 use borrow.Author.Tests.{eq-eqb, ne-eqb, leb-true, leb-false}
@@ -14,9 +13,10 @@ use Rattle.lists.specs.Tests.{pick}
 use Rattle.lists.specs.Decide.{Says}
 use Rattle.lists.proofs.Decide.{says-no, says-same, says-not, says-ltb}
 use Rattle.table.specs.Row.{Row}
-use Rattle.table.specs.Rules.{closesElement, openCount}
+use Rattle.table.specs.Rules.{openCount}
 use Rattle.table.specs.Flat.{rowAt, rowsFrom}
 use Rattle.table.proofs.Flat.{length-rows, unroll, rolled-out}
+use Rattle.table.proofs.OrderLaws.{count-low}
 use Rattle.table.specs.Piece.{closing}
 use Rattle.element.specs.Rows.{StartsAfter, FirstAfter, movedTable, OwnRows}
 
@@ -58,22 +58,6 @@ module _ {t : List ℕ} {place k : ℕ} (s : Seeking t place k) where
 
 pub ruleset seeking-laws = (needs, row-in, seeking-start, seeking-on, seeking-found, seeking-out)
 
--- ---- how many are open
-module _ (kind n : ℕ) where
-  pub opens : kind ≡ 1 → n + 1 ≡ openCount n kind
-  opens e = rw (eq-eqb kind 1 e) (add-one n)
-
-  pub stays : (kind ≡ 1 → ⊥) → (kind ≡ 4 → ⊥) → (kind ≡ 5 → ⊥) → n ≡ openCount n kind
-  stays a b c = rw (ne-eqb kind 1 a, ne-eqb kind 4 b, ne-eqb kind 5 c)
-
-  pub closes : {r : ℕ} → (kind ≡ 1 → ⊥) → kind ≡ 4 → r ≡ n - 1 → r ≡ openCount n kind
-  closes a b e = rw (ne-eqb kind 1 a, eq-eqb kind 4 b) e
-
-  pub closes-empty : {r : ℕ} → (kind ≡ 1 → ⊥) → (kind ≡ 4 → ⊥) → kind ≡ 5 → r ≡ n - 1 → r ≡ openCount n kind
-  closes-empty a b c e = rw (ne-eqb kind 1 a, ne-eqb kind 4 b, eq-eqb kind 5 c) e
-
-pub ruleset open-laws = (needs, opens, stays, closes, closes-empty)
-
 -- ---- how many rows: j - k of them are counted, and n elements are open after them
 pub record Counting (t : List ℕ) (k n j : ℕ) : Type 0 where
   pub low : k ≤ j
@@ -91,14 +75,6 @@ closing-here n r rest e = rw (eq-eqb (openCount n (r .kind)) 0 e)
 closing-on : (n : ℕ) (r : Row) (rest : List Row) → (openCount n (r .kind) ≡ 0 → ⊥) → closing n (r ∷ rest) ≡ suc (closing (openCount n (r .kind)) rest)
 unfolding closing
 closing-on n r rest f = rw (ne-eqb (openCount n (r .kind)) 0 f)
-
-open-low : (kind n : ℕ) → openCount n kind ≤ suc n
-open-low kind n = go (eqb kind 1) (closesElement kind)
-  where
-    go : (a b : Bool) → pick a (suc n) (pick b (n - 1) n) ≤ suc n
-    go true b = omega arith
-    go false true = omega arith
-    go false false = omega arith
 
 module _ {t : List ℕ} {k n j : ℕ} (c : Counting t k n j) where
   pub counting-out : length t / 8 ≤ j → j - k ≡ closing 0 (rowsFrom t k (length t / 8 - k))
@@ -120,7 +96,7 @@ module _ {t : List ℕ} {k n j : ℕ} (c : Counting t k n j) where
 
     pub counting-more : (m ≡ 0 → ⊥) → Counting t k m (j + 1)
     counting-more f =
-        let low : m ≤ suc n = rw o (open-low kind n) in
+        let low : m ≤ suc n = rw o (count-low n kind) in
         let z : (j + 1) - k ≡ suc (j - k) = omega (arith, c .low) in
         record {
           low = omega (arith, c .low);

@@ -1,22 +1,19 @@
 // The rows of an element, counted from its first byte: a table of its own, with the element's bytes as body and their number as final
 // position (01, the end of "Token table"). What they are is defined in `table` (Piece.antt); the crate rests on it for the numbers of rows.
 ghost use mathlib.Core.Path.{_≡_};
-ghost use Prim.Native.Nat.{_+_, _-_, _*_, _/_, _≤_, _<_, _^_};
+ghost use Prim.Native.Nat.{_+_, _-_, _*_, _/_, _≤_, _<_};
 ghost use lib.ListN.{length, getD};
 ghost use lib.Seq.{sets};
 ghost use Rattle.lists.specs.Tests.{pick};
 ghost use Rattle.lists.specs.Decide.{Says};
-ghost use Rattle.table.specs.Rules.{openCount};
 ghost use Rattle.table.specs.Flat.{rowAt, rowsFrom};
 ghost use Rattle.table.specs.Piece.{moved, movedSpan, closing};
 ghost use Rattle.element.specs.Rows.{eightNumbers, movedTable, StartsAfter, FirstAfter, OwnRows};
 use table::field;
-use table::kind::CLOSE;
-use table::kind::SLASH;
 use table::kind::START;
 use table::number::KIND;
 use table::number::LOCAL;
-use table::one_less;
+use table::open_after;
 use table::uses_name;
 
 // ---- where an element's rows are
@@ -45,23 +42,6 @@ fn start_row(rows: &[u32], place: usize) -> usize
         k += 1;
     }
     k
-}
-
-// How many elements are open after a row of this kind, where n are before it.
-fn open_after(kind: usize, n: usize) -> usize
-    requires { ⌜ n + 1 < 2 ^ 64 ⌝ }
-    ensures { λ r. ⌜ r ≡ openCount n kind ⌝ }
-{
-    if kind == START {
-        return n + 1;
-    }
-    if kind == CLOSE {
-        return one_less(n);
-    }
-    if kind == SLASH {
-        return one_less(n);
-    }
-    n
 }
 
 // How many rows an element has that starts in row k: up to the row after which no element of its is open, or to the last.

@@ -1,5 +1,5 @@
 -- Laws of the functions that test the rules on the order of kinds, and of the place after a row: one for each way through them.
-use Prim.Native.Nat.{ℕ, _+_, _-_, _≤_, _<_}
+use Prim.Native.Nat.{ℕ, suc, _+_, _-_, _≤_, _<_}
 use mathlib.Core.Path.{_≡_, sym, _∙_}
 use mathlib.Core.Bool.{Bool, true, false, not}
 use mathlib.Core.List.{[], _∷_}
@@ -7,12 +7,13 @@ use native.Mathlib.Numerals.{add-one}
 use native.Mathlib.Omega.{arith}
 use borrow.Author.Needs.{needs}
 use borrow.Author.Tests.{not-true, not-false}
-use borrow.Author.Tests.{ne-eqb}
+use borrow.Author.Tests.{eqb-true, eq-eqb, ne-eqb}
 use lib.Dec.{eqb, ltb}
-use Rattle.lists.proofs.Tests.{false-true}
+use Rattle.lists.specs.Tests.{pick}
+use Rattle.lists.proofs.Tests.{false-true, pick-all, pick-cases}
 use Rattle.lists.specs.Decide.{Says}
 use Rattle.lists.proofs.Decide.{says-yes, says-no, says-same, says-not, says-eqb, says-ltb, says-flag, says-not-flag}
-use Rattle.table.specs.Rules.{mostKind, inTagOnly, mayBeInTag, mayFollowRoot, needsElement}
+use Rattle.table.specs.Rules.{mostKind, closesElement, inTagOnly, mayBeInTag, mayFollowRoot, needsElement, openCount}
 use Rattle.table.proofs.SpanLaws.{filled}
 use Rattle.table.specs.Order.{InOrder, OpenOrder, Order, place, StepsTo}
 
@@ -56,7 +57,7 @@ module _ {inTag : Bool} {nesting : ℕ} {rooted : Bool} {kind left : ℕ} where
   pub order-low : kind < 1 → Says (Order inTag nesting rooted kind left) false
   order-low h = says-no (λ o. omega (arith, o .low))
 
-  pub order-high : 8 < kind → Says (Order inTag nesting rooted kind left) false
+  pub order-high : mostKind < kind → Says (Order inTag nesting rooted kind left) false
   order-high h = says-no (λ o. omega (arith, o .high))
 
   pub order-tag : {a : Bool} → Says (InOrder inTag kind) a → a ≡ false → Says (Order inTag nesting rooted kind left) false
@@ -76,6 +77,32 @@ module _ {inTag : Bool} {nesting : ℕ} {rooted : Bool} {kind left : ℕ} where
     order-other f = says-yes (all (λ e. absurd (f e)))
 
 pub ruleset order-laws = (needs, not-true, not-false, order-inside, order-outside, open-none, open-root, open-first, open-one, open-other, order-low, order-high, order-tag, order-open, order-last, order-other)
+
+-- ---- how many are open after a row
+module _ (n kind : ℕ) where
+  pub count-start : kind ≡ 1 → n + 1 ≡ openCount n kind
+  count-start e = rw (eq-eqb kind 1 e, add-one n)
+
+  module _ {a : Bool} (f : kind ≡ 1 → ⊥) (e : a ≡ closesElement kind) where
+    pub count-end : {r : ℕ} → a ≡ true → r ≡ n - 1 → r ≡ openCount n kind
+    count-end y q = rw (ne-eqb kind 1 f, ← e, y) q
+
+    pub count-same : a ≡ false → n ≡ openCount n kind
+    count-same y = rw (ne-eqb kind 1 f, ← e, y)
+
+pub ruleset count-laws = (needs, count-start, count-end, count-same)
+
+-- at most one more, and no more than a limit that an element is opened below
+pub count-low : (n kind : ℕ) → openCount n kind ≤ suc n
+count-low n kind =
+    pick-all (λ x. x ≤ suc n) (eqb kind 1) (suc n) (pick (closesElement kind) (n - 1) n) (omega arith)
+    (pick-all (λ x. x ≤ suc n) (closesElement kind) (n - 1) n (omega arith) (omega arith))
+
+pub count-within : (n kind most : ℕ) → n ≤ most → (kind ≡ 1 → n < most) → openCount n kind ≤ most
+count-within n kind most h f =
+    pick-cases (λ x. x ≤ most) (eqb kind 1) (suc n) (pick (closesElement kind) (n - 1) n)
+    (λ e. omega (arith, f (eqb-true kind 1 e)))
+    (λ e. pick-all (λ x. x ≤ most) (closesElement kind) (n - 1) n (omega arith) h)
 
 -- ---- the place after a row
 module _ {a : ℕ} {b : Bool} {c : ℕ} {d : Bool} {kind own : ℕ} where

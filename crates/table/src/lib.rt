@@ -2,10 +2,10 @@
 // It rests on `lists`, and on `utf8` for the rule on the body.
 ghost use mathlib.Core.Path.{_≡_};
 ghost use mathlib.Core.List.{[], _∷_};
-ghost use Prim.Native.Nat.{_+_, _-_, _*_, _≤_, _<_};
+ghost use Prim.Native.Nat.{_+_, _-_, _*_, _≤_, _<_, _^_};
 ghost use lib.ListN.{length, getD};
 ghost use Rattle.lists.specs.Decide.{isYes, Says};
-ghost use Rattle.table.specs.Rules.{mayBeInTag, among, usesName, usesValue, atFirst};
+ghost use Rattle.table.specs.Rules.{mayBeInTag, among, usesName, usesValue, openCount, atFirst};
 ghost use Rattle.table.specs.Flat.{rowsFrom};
 ghost use Rattle.table.specs.Test.{decTable};
 ghost use Rattle.table.specs.Spans.{Between, Span, SpanAt, LocalSpan, NameSpans, Spans};
@@ -329,6 +329,20 @@ pub fn one_less(n: usize) -> usize
         return 0;
     }
     n - 1
+}
+
+// How many elements are open after a row of this kind, where n are before it.
+pub fn open_after(kind: usize, n: usize) -> usize
+    requires { ⌜ n + 1 < 2 ^ 64 ⌝ }
+    ensures { λ r. ⌜ r ≡ openCount n kind ⌝ }
+{
+    if kind == START {
+        return n + 1;
+    }
+    if one_of(kind, CLOSE, SLASH) {
+        return one_less(n);
+    }
+    n
 }
 
 // The place after a row.

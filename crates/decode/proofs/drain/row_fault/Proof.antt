@@ -4,6 +4,9 @@ use borrow.Author.Needs.{needs}
 use Rattle.decode.proofs.drain.row_fault.Statement.{statement}
 use Rattle.decode.proofs.drain.row_fault.Tie as tie
 
+top-of-requires : tie.Need-top-of-requires
+top-of-requires c κs = search needs
+
 field-requires : tie.Need-field-requires
 field-requires c κs = search needs
 
@@ -62,6 +65,7 @@ pub row-fault-spec : {M : Type 1} → statement M
 row-fault-spec =
     tie.close
     (tie.spec
+    top-of-requires
     field-requires
     is-repeated-requires
     returns

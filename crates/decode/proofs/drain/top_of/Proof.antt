@@ -1,5 +1,5 @@
 -- With none open it is row 0; otherwise the last of the open rows, which the array has.
-use Rattle.decode.proofs.Walking.{top-laws}
+use Rattle.decode.proofs.Faults.{top-laws}
 use borrow.Author.Needs.{needs}
 use Rattle.decode.proofs.drain.top_of.Statement.{statement}
 use Rattle.decode.proofs.drain.top_of.Tie as tie
