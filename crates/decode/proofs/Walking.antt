@@ -34,7 +34,7 @@ use Rattle.xml.specs.declared.Cause.{Cause}
 use Rattle.xml.specs.declared.Drained.{Drained}
 use Rattle.decode.specs.declared.drain.Fault.{Fault}
 use Rattle.decode.specs.Rows.{InTable, nameAt, valueAt, tokAt}
-use Rattle.decode.specs.Drain.{namesBack, asFault, valueFault, faultOf, FaultIs, WellPlaced, topOf, HasRoom, Entered, Walkable}
+use Rattle.decode.specs.Drain.{namesBack, asFault, valueFault, faultOf, FaultIs, WellPlaced, topOf, MayEnter, Entered, Walkable}
 use Rattle.decode.proofs.Faults.{names-first, plain-none}
 
 -- ---- the open elements, by the rows in which they start
@@ -220,7 +220,7 @@ module _ {body t : List ℕ} {n : ℕ} {starts : List ℕ} {depth k low high : �
   after-here : EachRow body (after (w .place) (rowAt t k)) (rowsFrom t (k + 1) (n - (k + 1)))
   after-here = first (rw (unroll t k n h) at (w .each)) .1
 
-  pub row-room : HasRoom t depth k
+  pub row-room : MayEnter t depth k
   row-room = record { row = row-in; limit = w .limit; room = λ i. omega (arith, w .deep, here .openLimit i) }
 
   room : getD t (k * 8 + 0) 0 ≡ 1 → depth < length starts
@@ -304,7 +304,7 @@ module _ {body t : List ℕ} {n : ℕ} {starts : List ℕ} {depth k low high : �
           })
 
 -- ---- the start rows after a row
-pub enter-room : {t : List ℕ} {depth k kind : ℕ} → HasRoom t depth k → kind ≡ getD t (k * 8 + 0) 0 → kind ≡ 1 → depth < 256
+pub enter-room : {t : List ℕ} {depth k kind : ℕ} → MayEnter t depth k → kind ≡ getD t (k * 8 + 0) 0 → kind ≡ 1 → depth < 256
 enter-room r e q = r .room (sym e ∙ q)
 
 module _ (starts : List ℕ) (depth k : ℕ) {kind : ℕ} where

@@ -74,7 +74,7 @@ topOf starts zero = 0
 topOf starts (suc d) = getD starts d 0
 
 -- row k is a row of the table, and where so many are open and it starts an element, there is room for it
-pub record HasRoom (t : List ℕ) (depth k : ℕ) : Type 0 where
+pub record MayEnter (t : List ℕ) (depth k : ℕ) : Type 0 where
   pub row : InTable t k
   pub limit : depth ≤ 256
   pub room : getD t (k * 8 + 0) 0 ≡ 1 → depth < 256

@@ -2,7 +2,8 @@
 ghost use Prim.Native.Nat.{_+_, _*_, _<_, _≤_};
 ghost use mathlib.Core.Path.{_≡_};
 ghost use Rattle.decode.specs.Rows.{InTable, Readable, nameAt, valueAt};
-ghost use Rattle.decode.specs.Drain.{Entered, FaultIs, HasRoom, LiesIn, WellPlaced, Walkable, faultIf, namesBack, topOf, valuePasses};
+ghost use Rattle.decode.specs.Drain.{Entered, FaultIs, MayEnter, LiesIn, WellPlaced};
+ghost use Rattle.decode.specs.Drain.{Walkable, faultIf, namesBack, topOf, valuePasses};
 ghost use lib.ListN.{getD};
 ghost use Rattle.lists.specs.Characters.{ampersand};
 ghost use Rattle.lists.specs.Find.{Clear};
@@ -164,7 +165,7 @@ fn row_fault(
 
 // How many elements are open after row k; where it starts one, it is put among their start rows.
 fn enter(rows: &[u32], k: usize, starts: &mut [usize; 256], depth: usize) -> usize
-    requires { ⌜ HasRoom (now rows) depth k ⌝ }
+    requires { ⌜ MayEnter (now rows) depth k ⌝ }
     ensures { λ r. ⌜ Entered (now (starts .entry)) depth (getD (now (rows .entry)) (k * 8 + 0) 0) k (now (starts .exit)) r ⌝ }
 {
     let kind = field(rows, k, KIND);

@@ -22,6 +22,7 @@ use decode::text::Text;
 use decode::view::View;
 use output::Step;
 use output::Written;
+use table::number::VALUE;
 
 // Writes what a first text came to.
 fn put_text(
@@ -38,7 +39,7 @@ fn put_text(
         (now (texts .exit)) r ⌝ }
 {
     match txt {
-        Text::Row(k) => output::write_text(span(body, rows, k, 5), 0, entries, texts, w),
+        Text::Row(k) => output::write_text(span(body, rows, k, VALUE), 0, entries, texts, w),
         Text::Empty => output::write_text(b"", 0, entries, texts, w),
         Text::Refused(why) => Step::Refused(why, w),
     }

@@ -5,7 +5,7 @@ use mathlib.Core.Bool.{Bool, true, false}
 use mathlib.Core.List.{[], _∷_}
 use lib.Dec.{eqb}
 use Rattle.lists.specs.Tests.{pick}
-use Rattle.table.specs.Rules.{mostKind, closesElement, endsTag, inTagOnly, mayBeInTag, mayFollowRoot, needsElement, Place}
+use Rattle.table.specs.Rules.{openCount, mostKind, endsTag, inTagOnly, mayBeInTag, mayFollowRoot, needsElement, Place}
 
 -- ---- start tags
 pub record InOrder (inTag : Bool) (kind : ℕ) : Type 0 where
@@ -36,7 +36,7 @@ stepTo p kind own =
     record {
       position = own;
       inTag = pick (eqb kind 1) true (pick (endsTag kind) false (p .inTag));
-      nesting = pick (eqb kind 1) (suc (p .nesting)) (pick (closesElement kind) (p .nesting - 1) (p .nesting));
+      nesting = openCount (p .nesting) kind;
       rooted = pick (eqb kind 1) true (p .rooted);
     }
 

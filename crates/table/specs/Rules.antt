@@ -1,4 +1,4 @@
--- The rules that a table obeys: one definition for each sentence of 01, "Token table".
+-- The rules that a table obeys: a definition for each sentence of 01, "Token table", over sets of kinds that are named first.
 use Prim.Native.Nat.{ℕ, zero, suc, _+_, _-_, _%_, _≤_, _<_}
 use mathlib.Core.Path.{_≡_}
 use mathlib.Core.Bool.{Bool, true, false}

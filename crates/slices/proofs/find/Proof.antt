@@ -1,4 +1,4 @@
--- Either the first block has the byte and its first hit is the answer, or the answer is that of what follows it.
+-- A short rest is searched byte by byte; else the first block has the byte and its first hit is the answer, or what follows has.
 use Rattle.slices.proofs.Scan.{later-laws}
 use borrow.Author.Needs.{needs}
 use Rattle.slices.proofs.find.Statement.{statement}

@@ -1,4 +1,4 @@
--- A start, `>`, a close tag and `/>` change what is open, each in its way; any other kind changes the position alone.
+-- A start, `>`, a close tag and `/>` change the tag or what is open, each in its way; any other kind the position alone.
 use Rattle.table.proofs.OrderLaws.{step-laws}
 use borrow.Author.Needs.{needs}
 use Rattle.table.proofs.place_after.Statement.{statement}

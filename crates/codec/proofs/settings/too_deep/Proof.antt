@@ -1,4 +1,4 @@
--- A guard enters just below the maximum, so not to enter is to be too deep.
+-- A guard enters at every depth below the maximum and at no other, so not to enter is to be too deep.
 use Rattle.codec.proofs.Depths.{depth-laws}
 use borrow.Author.Needs.{needs}
 use Rattle.codec.proofs.settings.too_deep.Statement.{statement}

@@ -1,4 +1,4 @@
--- A close tag and `/>` take one off, any other kind leaves the depth; so it never grows.
+-- A close tag and `/>` take one off, any other kind but a start leaves the depth; a start is not asked about.
 use Rattle.decode.proofs.Places.{depth-laws}
 use borrow.Author.Needs.{needs}
 use Rattle.decode.proofs.reader.depth_after.Statement.{statement}

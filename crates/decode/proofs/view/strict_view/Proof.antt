@@ -1,4 +1,4 @@
--- Each verdict of the walk is one view; a row that fails lies in the table, so the rows before it are seen.
+-- Each verdict of the walk is one view; the row that fails is one of the table or the row count, so the rows before it are seen.
 use Rattle.decode.proofs.Views.{view-laws}
 use borrow.Author.Needs.{needs}
 use Rattle.decode.proofs.view.strict_view.Statement.{statement}

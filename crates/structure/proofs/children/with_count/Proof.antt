@@ -1,4 +1,4 @@
--- By whether the step is done or refused; the numbers are the step's own.
+-- By whether the step is done, and then has the count that is given, or refused.
 use Rattle.structure.proofs.Taking.{with-laws}
 use borrow.Author.Needs.{needs}
 use Rattle.structure.proofs.children.with_count.Statement.{statement}

@@ -1,4 +1,4 @@
--- A child has two rows, so 256 rows have at most 128 children, and 384 is three numbers for each.
+-- A child has two rows or more, so 256 rows have at most 128 children, and 384 is three numbers for each.
 use Rattle.structure.proofs.Whole.{room-laws}
 use borrow.Author.Needs.{needs}
 use Rattle.structure.proofs.structure.members_of_few.Statement.{statement}
