@@ -157,10 +157,16 @@ fn is_past_a_limit(body: &[u8], rows: &[[u32; 8]]) -> bool {
     body.len() > 65_536 || rows.len() > 8_192 || most > 256
 }
 
-/// The wrapper makes the same table, with the tokenizer as it is packaged.
+/// The wrapper makes the same table, with the tokenizer as it is packaged. Past a limit
+/// it makes the front of it, and that passes a limit too.
 fn wrapper_differs(body: &[u8], table: &oracle::table::Table) -> Option<String> {
     let made = falzheod::table::from_tokens(body);
-    let rows = made.rows.iter().map(Row::numbers);
-    let alike = made.end == table.end && rows.eq(table.rows.iter().copied());
-    (!alike).then(|| "the wrapper's table is not the Rust's".to_string())
+    let rows: Vec<[u32; 8]> = made.rows.iter().map(Row::numbers).collect();
+    let past = is_past_a_limit(body, &table.rows);
+    let alike = if past {
+        table.rows.starts_with(&rows) && is_past_a_limit(body, &rows)
+    } else {
+        table.rows == rows
+    };
+    (!alike || made.end != table.end).then(|| "the wrapper's table is not the Rust's".to_string())
 }

@@ -13,7 +13,8 @@ use crate::lent::Made;
 use crate::reader::{self, Asked, Kind, Told};
 use crate::readings::{enough, Asker};
 use crate::timing::medians;
-use falzheod::{Entry, Lent, Refused, Settings, Written};
+use falzheod::lent::{self, Entry, Lent, Refused, Written};
+use falzheod::Settings;
 use oracle::timed::Codec;
 use std::fmt::Debug;
 use std::hint::black_box;
@@ -39,7 +40,7 @@ fn settings(flags: u32) -> Settings {
     }
 }
 
-fn lent(made: &Made) -> Lent<'_> {
+fn lent_of(made: &Made) -> Lent<'_> {
     Lent {
         body: &made.body,
         rows: &made.numbers,
@@ -65,23 +66,23 @@ fn timed<A, B>(mut ours: impl FnMut() -> A, mut rust: impl FnMut() -> B) -> Time
 /// sides differ.
 pub fn times(name: &str, reading: &Reading, flags: u32, made: &Made) -> Times {
     let (codec, body, how) = (Codec::new(flags), &made.body, settings(flags));
-    let lent = || black_box(lent(made));
+    let lent = || black_box(lent_of(made));
     match reading {
         Reading::BySheet(kind, sheet) => by_sheet(name, *kind, sheet, flags, made),
         Reading::Boolean => of_value(
             name,
-            || falzheod::read_boolean(lent(), how, 0),
+            || lent::read_boolean(lent(), how, 0),
             || codec.boolean(black_box(body)),
         ),
         Reading::Integer => of_value(
             name,
-            || falzheod::read_integer(lent(), how, 0),
+            || lent::read_integer(lent(), how, 0),
             || codec.integer(black_box(body)),
         ),
         Reading::String => of_string(name, how, made, || codec.string(black_box(body))),
         Reading::Find(element) => of_value(
             name,
-            || falzheod::find(lent(), element.as_bytes()).map(|part| place(body, part)),
+            || lent::find(lent(), element.as_bytes()).map(|part| place(body, part)),
             || oracle::find(black_box(body), element).ok_or(13),
         ),
     }
@@ -111,13 +112,13 @@ fn of_string(
     rust: impl Fn() -> Result<String, u32>,
 ) -> Times {
     let mut out = vec![0; made.body.len()];
-    let mut ours = || falzheod::read_string(black_box(lent(made)), how, 0, &mut out);
+    let mut ours = || lent::read_string(black_box(lent_of(made)), how, 0, &mut out);
     let length = ours().unwrap_or_else(|refusal| panic!("{name}: refused: {refusal:?}"));
     assert!(
         rust().is_ok_and(|text| text.as_bytes() == &out[..length]),
         "{name}: another string than the Rust's"
     );
-    let ours = || falzheod::read_string(black_box(lent(made)), how, 0, &mut out);
+    let ours = || lent::read_string(black_box(lent_of(made)), how, 0, &mut out);
     timed(ours, rust)
 }
 
@@ -184,11 +185,11 @@ fn read(
     entries: &mut [Entry],
     texts: &mut [u8],
 ) -> Result<Written, Refused> {
-    let (lent, how) = (black_box(lent(made)), settings(flags));
+    let (lent, how) = (black_box(lent_of(made)), settings(flags));
     match kind {
-        Kind::Struct => falzheod::read_struct(lent, sheet, how, 0, entries, texts),
-        Kind::List => falzheod::read_list(lent, sheet, how, 0, entries),
-        Kind::Map => falzheod::read_map(lent, sheet, how, 0, entries, texts),
-        Kind::Strings => falzheod::read_string_list(lent, sheet, how, 0, entries, texts),
+        Kind::Struct => lent::read_struct(lent, sheet, how, 0, entries, texts),
+        Kind::List => lent::read_list(lent, sheet, how, 0, entries),
+        Kind::Map => lent::read_map(lent, sheet, how, 0, entries, texts),
+        Kind::Strings => lent::read_string_list(lent, sheet, how, 0, entries, texts),
     }
 }

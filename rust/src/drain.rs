@@ -1,56 +1,13 @@
 //! The strict drain: whether a token table stands for a well-formed document.
 
-use crate::{sys, Refusal};
+use crate::{sys, Refusal, Row};
 use std::fmt;
-use std::mem::size_of;
-
-/// One row of a token table: a token's kind, its spans in the body and the
-/// position right after it. `include/falzheod.h` has the kinds and the rules.
-#[derive(Clone, Copy, Debug, Default, PartialEq, Eq, Hash)]
-#[repr(C)]
-pub struct Row {
-    /// 1 start, 2 attribute, 3 `>`, 4 end tag, 5 `/>`, 6 text, 7 all others,
-    /// 8 token error.
-    pub kind: u32,
-    /// Where the prefix starts (kinds 1, 2, 4), 0 where it is empty.
-    pub prefix_start: u32,
-    /// How many bytes the prefix has.
-    pub prefix_len: u32,
-    /// Where the local name starts (kinds 1, 2, 4), even where it is empty.
-    pub local_start: u32,
-    /// How many bytes the local name has.
-    pub local_len: u32,
-    /// Where the value starts (kinds 2, 6), 0 where it is empty.
-    pub value_start: u32,
-    /// How many bytes the value has.
-    pub value_len: u32,
-    /// The position in the body right after the token.
-    pub position: u32,
-}
-
-/// The numbers of a row in the library's tables.
-const NUMBERS: usize = 8;
-
-impl Row {
-    /// The eight numbers of the row, in the order of its fields.
-    pub fn numbers(&self) -> [u32; NUMBERS] {
-        [
-            self.kind,
-            self.prefix_start,
-            self.prefix_len,
-            self.local_start,
-            self.local_len,
-            self.value_start,
-            self.value_len,
-            self.position,
-        ]
-    }
-}
-
-// the library reads a row as eight numbers in a line
-const _: () = assert!(size_of::<Row>() == NUMBERS * size_of::<u32>());
 
 /// Why a document is ill-formed.
+///
+/// ```
+/// assert_eq!(falzheod::Cause::Unclosed.to_string(), "an element is not closed");
+/// ```
 #[derive(Clone, Copy, Debug, PartialEq, Eq, Hash)]
 #[repr(u32)]
 pub enum Cause {
@@ -107,8 +64,9 @@ impl fmt::Display for Cause {
 /// The tests come in this order: the rules ([`Refusal::Table`]), then the rows one by
 /// one ([`Refusal::IllFormed`] with the first that fails). A table that obeys the rules
 /// and has no element passes: `Ok` does not say that there is a root, and a body that is
-/// not UTF-8, which has no rows, passes so. Any rows are taken, whoever made them; with the feature `xmlparser`,
-/// `table::from_tokens` makes them from a body.
+/// not UTF-8, which has no rows, passes so. Any rows are taken, whoever made them.
+/// [`Upload::of_table`](crate::Upload::of_table) drains, wants a root and tells the place
+/// of a fault.
 ///
 /// ```
 /// use falzheod::{drain, Cause, Refusal, Row};
@@ -124,10 +82,7 @@ impl fmt::Display for Cause {
 /// assert_eq!(drain(b"<a", &[end], 2), Err(Refusal::Table));
 /// ```
 pub fn drain(body: &[u8], rows: &[Row], end: u32) -> Result<(), Refusal> {
-    // SAFETY: a row is `NUMBERS` numbers without padding (`repr(C)`, and its size is
-    // asserted above), so the rows are this many initialised numbers in a line.
-    let numbers = unsafe { std::slice::from_raw_parts(rows.as_ptr().cast(), rows.len() * NUMBERS) };
-    drain_numbers(body, numbers, end)
+    drain_numbers(body, sys::numbers(rows), end)
 }
 
 /// [`drain`] of a table that is held as plain numbers, eight a row in the order of
@@ -139,20 +94,7 @@ pub fn drain(body: &[u8], rows: &[Row], end: u32) -> Result<(), Refusal> {
 /// assert_eq!(falzheod::drain_numbers(b"<a/>", &numbers[..9], 4), Err(falzheod::Refusal::Table));
 /// ```
 pub fn drain_numbers(body: &[u8], rows: &[u32], end: u32) -> Result<(), Refusal> {
-    let (mut row, mut cause) = (0, 0);
-    // SAFETY: the pointers are those of live slices, never null, with their
-    // lengths; `row` and `cause` are borrowed mutably, so nothing overlaps them.
-    let number = unsafe {
-        sys::falzheod_drain(
-            body.as_ptr(),
-            body.len(),
-            rows.as_ptr(),
-            rows.len(),
-            end,
-            &mut row,
-            &mut cause,
-        )
-    };
+    let (number, row, cause) = sys::drain(body, rows, end);
     match number {
         0 => Ok(()),
         1 => Err(Refusal::Table),

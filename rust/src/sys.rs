@@ -1,10 +1,22 @@
 //! The functions of the static library, as include/falzheod.h declares and
-//! describes them. The functions of the crate are the safe way to call them.
+//! describes them, and the only unsafe code of the crate: the safe calls that the rest
+//! of it makes. Whoever uses the crate has no need of this module.
 //!
 //! # Safety
 //!
 //! Each pointer is valid for its length, aligned and not null, not even where the
 //! length is 0; what a function writes overlaps nothing else that is lent to it.
+//!
+//! ```
+//! let text = b"&lt;";
+//! // SAFETY: the pointer is that of a live slice, with its length.
+//! let number = unsafe { falzheod::sys::falzheod_validate_references(text.as_ptr(), text.len()) };
+//! assert_eq!(number, 0);
+//! ```
+#![allow(unsafe_code)]
+
+use crate::lent::{self, Entry, Lent};
+use crate::{row, Row, Settings};
 
 extern "C" {
     /// Replaces references. Answers 0, 7 or 10 and sets `length`.
@@ -179,4 +191,244 @@ extern "C" {
         out_len: usize,
         length: *mut usize,
     ) -> u32;
+}
+
+// ---- The safe calls. In each, the pointers are those of live slices or variables, never
+// null, with their lengths; what is written is borrowed mutably, so nothing overlaps it.
+
+/// The rows as numbers in a line.
+pub(crate) fn numbers(rows: &[Row]) -> &[u32] {
+    // SAFETY: a row is `row::NUMBERS` numbers without padding (`repr(C)`, and its size is
+    // asserted beside it), so the rows are this many initialised numbers in a line.
+    unsafe { std::slice::from_raw_parts(rows.as_ptr().cast(), rows.len() * row::NUMBERS) }
+}
+
+/// The number and the length.
+pub(crate) fn unescape(text: &[u8], out: &mut [u8]) -> (u32, usize) {
+    let mut length = 0;
+    // SAFETY: as said above.
+    let number = unsafe {
+        falzheod_unescape(
+            text.as_ptr(),
+            text.len(),
+            out.as_mut_ptr(),
+            out.len(),
+            &mut length,
+        )
+    };
+    (number, length)
+}
+
+pub(crate) fn validate_references(text: &[u8]) -> u32 {
+    // SAFETY: as said above.
+    unsafe { falzheod_validate_references(text.as_ptr(), text.len()) }
+}
+
+pub(crate) fn is_utf8(text: &[u8]) -> bool {
+    // SAFETY: as said above.
+    unsafe { falzheod_is_utf8(text.as_ptr(), text.len()) == 1 }
+}
+
+/// The number, the row and the cause.
+pub(crate) fn drain(body: &[u8], rows: &[u32], end: u32) -> (u32, usize, u32) {
+    let (mut row, mut cause) = (0, 0);
+    // SAFETY: as said above.
+    let number = unsafe {
+        falzheod_drain(
+            body.as_ptr(),
+            body.len(),
+            rows.as_ptr(),
+            rows.len(),
+            end,
+            &mut row,
+            &mut cause,
+        )
+    };
+    (number, row, cause)
+}
+
+/// The four readings by a sheet.
+#[derive(Clone, Copy)]
+pub(crate) enum Shape {
+    Struct,
+    List,
+    Map,
+    StringList,
+}
+
+/// The number, and how many entries and text bytes were written.
+pub(crate) fn read(
+    shape: Shape,
+    lent: Lent<'_>,
+    sheet: &[u8],
+    settings: Settings,
+    depth: u32,
+    entries: &mut [Entry],
+    texts: &mut [u8],
+) -> (u32, lent::Written) {
+    let call = match shape {
+        Shape::Struct => falzheod_read_struct,
+        Shape::List => falzheod_read_list,
+        Shape::Map => falzheod_read_map,
+        Shape::StringList => falzheod_read_string_list,
+    };
+    let mut written = lent::Written::default();
+    // SAFETY: as said above; an entry is `lent::NUMBERS` numbers without padding
+    // (`repr(C)`, and its size is asserted beside it).
+    let number = unsafe {
+        call(
+            lent.body.as_ptr(),
+            lent.body.len(),
+            lent.rows.as_ptr(),
+            lent.rows.len(),
+            lent.end,
+            sheet.as_ptr(),
+            sheet.len(),
+            settings.flags(),
+            settings.max_depth,
+            depth,
+            entries.as_mut_ptr().cast(),
+            entries.len() * lent::NUMBERS,
+            texts.as_mut_ptr(),
+            texts.len(),
+            &mut written.count,
+            &mut written.length,
+        )
+    };
+    (number, written)
+}
+
+/// The number, and the value where it is 0.
+pub(crate) fn read_boolean(lent: Lent<'_>, settings: Settings, depth: u32) -> (u32, bool) {
+    let mut value = 0;
+    // SAFETY: as said above.
+    let number = unsafe {
+        falzheod_read_boolean(
+            lent.body.as_ptr(),
+            lent.body.len(),
+            lent.rows.as_ptr(),
+            lent.rows.len(),
+            lent.end,
+            settings.flags(),
+            depth,
+            &mut value,
+        )
+    };
+    (number, value == 1)
+}
+
+/// The number, and the value where it is 0.
+pub(crate) fn read_integer(lent: Lent<'_>, settings: Settings, depth: u32) -> (u32, i32) {
+    let mut value = 0;
+    // SAFETY: as said above.
+    let number = unsafe {
+        falzheod_read_integer(
+            lent.body.as_ptr(),
+            lent.body.len(),
+            lent.rows.as_ptr(),
+            lent.rows.len(),
+            lent.end,
+            settings.flags(),
+            depth,
+            &mut value,
+        )
+    };
+    (number, value)
+}
+
+/// The number and the length.
+pub(crate) fn read_string(
+    lent: Lent<'_>,
+    settings: Settings,
+    depth: u32,
+    out: &mut [u8],
+) -> (u32, usize) {
+    let mut length = 0;
+    // SAFETY: as said above.
+    let number = unsafe {
+        falzheod_read_string(
+            lent.body.as_ptr(),
+            lent.body.len(),
+            lent.rows.as_ptr(),
+            lent.rows.len(),
+            lent.end,
+            settings.flags(),
+            depth,
+            out.as_mut_ptr(),
+            out.len(),
+            &mut length,
+        )
+    };
+    (number, length)
+}
+
+/// The number and the length.
+pub(crate) fn whole_text(lent: Lent<'_>, out: &mut [u8]) -> (u32, usize) {
+    let mut length = 0;
+    // SAFETY: as said above.
+    let number = unsafe {
+        falzheod_whole_text(
+            lent.body.as_ptr(),
+            lent.body.len(),
+            lent.rows.as_ptr(),
+            lent.rows.len(),
+            lent.end,
+            out.as_mut_ptr(),
+            out.len(),
+            &mut length,
+        )
+    };
+    (number, length)
+}
+
+/// The number, and the start and the length of the part.
+pub(crate) fn find(lent: Lent<'_>, name: &[u8]) -> (u32, usize, usize) {
+    let (mut start, mut length) = (0, 0);
+    // SAFETY: as said above.
+    let number = unsafe {
+        falzheod_find(
+            lent.body.as_ptr(),
+            lent.body.len(),
+            lent.rows.as_ptr(),
+            lent.rows.len(),
+            lent.end,
+            name.as_ptr(),
+            name.len(),
+            &mut start,
+            &mut length,
+        )
+    };
+    (number, start, length)
+}
+
+/// The number, and the value where it is 0.
+pub(crate) fn text_boolean(text: &[u8]) -> (u32, bool) {
+    let mut value = 0;
+    // SAFETY: as said above.
+    let number = unsafe { falzheod_text_boolean(text.as_ptr(), text.len(), &mut value) };
+    (number, value == 1)
+}
+
+/// The number, and the value where it is 0.
+pub(crate) fn text_integer(text: &[u8]) -> (u32, i32) {
+    let mut value = 0;
+    // SAFETY: as said above.
+    let number = unsafe { falzheod_text_integer(text.as_ptr(), text.len(), &mut value) };
+    (number, value)
+}
+
+/// The number and the length.
+pub(crate) fn text_string(text: &[u8], out: &mut [u8]) -> (u32, usize) {
+    let mut length = 0;
+    // SAFETY: as said above.
+    let number = unsafe {
+        falzheod_text_string(
+            text.as_ptr(),
+            text.len(),
+            out.as_mut_ptr(),
+            out.len(),
+            &mut length,
+        )
+    };
+    (number, length)
 }

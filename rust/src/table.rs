@@ -2,11 +2,19 @@
 //! `xmlparser`). The tokenizer is not proved; [`drain`](crate::drain) tests every
 //! rule of the table it gives.
 
-use crate::Row;
+use crate::row::open_after;
+use crate::{Limit, Row};
 use std::ops::Range;
-use xmlparser::{ElementEnd, StrSpan, Token, Tokenizer};
+use xmlparser::{ElementEnd, Error, StrSpan, Token, Tokenizer};
 
 /// A token table: what [`drain`](crate::drain) takes beside the body.
+///
+/// ```
+/// use falzheod::table::{from_tokens, Table};
+///
+/// let Table { rows, end } = from_tokens(b"<core/>");
+/// assert_eq!((rows.len(), end), (2, 7));
+/// ```
 #[derive(Clone, Debug, Default, PartialEq, Eq)]
 pub struct Table {
     /// One row for each token.
@@ -16,30 +24,55 @@ pub struct Table {
 }
 
 /// The table of `body`: a row for each token that xmlparser gives, up to its first
-/// error, and the body's length as final position. A body that is not UTF-8 has no
-/// rows and the final position 0.
+/// error, which is a row of kind 8, and the body's length as final position. A body that
+/// is not UTF-8 has no rows and the final position 0.
 ///
-/// It allocates 32 bytes for each token, the error among them as a row of kind 8,
-/// whatever the limits of the drain: a body of more than 65,536 bytes is tokenized all
-/// the same, for the drain to refuse; its positions are cut to the largest `u32` where it has more bytes than that.
+/// It stops where a limit is passed ([`Limit`]), so it never has more than 8,193 rows; a
+/// body of more than 65,536 bytes is not tokenized at all. The drain refuses each of
+/// these as it would the whole table. `check` says which limit it is, and where.
 ///
 /// ```
 /// let body = b"<core id='7'>larch &amp; pine</core>";
 /// let table = falzheod::table::from_tokens(body);
 /// assert_eq!((table.rows.len(), table.end), (5, 36));
 /// assert_eq!(falzheod::drain(body, &table.rows, table.end), Ok(()));
+///
+/// let deep = "<a>".repeat(1_000_000);
+/// let table = falzheod::table::from_tokens(deep.as_bytes());
+/// assert_eq!(table.rows.len(), 0);
+/// let refused = falzheod::drain(deep.as_bytes(), &table.rows, table.end);
+/// assert_eq!(refused, Err(falzheod::Refusal::Table));
 /// ```
 pub fn from_tokens(body: &[u8]) -> Table {
-    let Ok(text) = std::str::from_utf8(body) else {
-        return Table::default();
-    };
-    let rows = Tokenizer::from(text)
-        .map(|token| token.map_or_else(|_| error(text), row))
-        .collect();
-    Table {
-        rows,
-        end: number(text.len()),
+    let mut table = Table::default();
+    if let Ok(text) = std::str::from_utf8(body) {
+        table.end = number(text.len());
+        if text.len() <= Limit::Bytes.most() {
+            fill(text, &mut table.rows);
+        }
     }
+    table
+}
+
+/// Puts the rows of a text in the place of those that are there, up to the first past a
+/// limit, and gives the tokenizer's error, if it had one.
+pub(crate) fn fill(text: &str, rows: &mut Vec<Row>) -> Option<Error> {
+    rows.clear();
+    let mut open = 0;
+    for token in Tokenizer::from(text) {
+        match token {
+            Ok(token) => rows.push(row(token)),
+            Err(failed) => {
+                rows.push(error(text));
+                return Some(failed);
+            }
+        }
+        open = open_after(open, &rows[rows.len() - 1]);
+        if rows.len() > Limit::Rows.most() || open > Limit::Open.most() {
+            break;
+        }
+    }
+    None
 }
 
 /// The tokenizer jumps to the end of the body where it cannot go on.
