@@ -50,7 +50,7 @@ decode strict at zero (b ∷ s) =
       | false ↦ before (b ∷ []) (decode strict (suc at) zero s)
     ]
 
--- the bytes that a text unescapes to, or none
+-- the bytes that a text unescapes to; no bytes where it does not
 abbrev pub meaning : Out → List ℕ
 meaning (bytes l) = l
 meaning (bad at) = []

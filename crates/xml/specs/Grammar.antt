@@ -23,7 +23,7 @@ mutual
     full-element : (n : Name) {l m r : List Tok} → Attributes [] l (gt ∷ m) → Content m (close n ∷ r) → Element (start n ∷ l) r
 
   -- [43] content ::= CharData? ((element | Reference | CDSect | PI | Comment) CharData?)*; a text is CharData and Reference together,
-  -- and each `&` in it begins a Reference
+  -- and each `&` in it begins a Reference; the other kinds of row between tags have no bytes that are looked at
   pub data Content : List Tok → List Tok → Type 0 where
     no-content : {r : List Tok} → Content r r
     between-tags : {b : Matter} {l r : List Tok} → EachReference (referencesIn b) → Content l r → Content (matter b ∷ l) r
