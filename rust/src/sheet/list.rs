@@ -119,6 +119,28 @@ impl ListSheet {
         self.says.has_member.then_some(name)
     }
 
+    /// Its member's name in XML, if it has one.
+    ///
+    /// ```
+    /// let sheet = falzheod::ListSheet::builder().item_xml_name("d:core").build()?;
+    /// assert_eq!(sheet.item_name_in_xml(), Some(&b"d:core"[..]));
+    /// # Ok::<(), falzheod::SheetError>(())
+    /// ```
+    pub fn item_name_in_xml(&self) -> Option<&[u8]> {
+        self.says.xml_name.as_deref()
+    }
+
+    /// Its member's own name, if it has one.
+    ///
+    /// ```
+    /// let sheet = falzheod::ListSheet::builder().item_xml_name("d:core").build()?;
+    /// assert_eq!(sheet.item_own_name(), None);
+    /// # Ok::<(), falzheod::SheetError>(())
+    /// ```
+    pub fn item_own_name(&self) -> Option<&[u8]> {
+        self.says.member_name.as_deref()
+    }
+
     /// Whether the items stand among other members.
     ///
     /// ```

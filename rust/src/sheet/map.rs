@@ -118,6 +118,37 @@ impl MapSheet {
         self.says.value.as_deref().unwrap_or(b"value")
     }
 
+    /// The keys' name in XML, if the sheet says one.
+    ///
+    /// ```
+    /// assert_eq!(falzheod::MapSheet::builder().build()?.key_name_in_xml(), None);
+    /// # Ok::<(), falzheod::SheetError>(())
+    /// ```
+    pub fn key_name_in_xml(&self) -> Option<&[u8]> {
+        self.says.key.as_deref()
+    }
+
+    /// The values' name in XML, if the sheet says one.
+    ///
+    /// ```
+    /// assert_eq!(falzheod::MapSheet::builder().build()?.value_name_in_xml(), None);
+    /// # Ok::<(), falzheod::SheetError>(())
+    /// ```
+    pub fn value_name_in_xml(&self) -> Option<&[u8]> {
+        self.says.value.as_deref()
+    }
+
+    /// Whether the sheet says something of the values; if not, they are scalars.
+    ///
+    /// ```
+    /// assert!(!falzheod::MapSheet::builder().build()?.has_value());
+    /// assert!(falzheod::MapSheet::builder().scalar_value().build()?.has_value());
+    /// # Ok::<(), falzheod::SheetError>(())
+    /// ```
+    pub fn has_value(&self) -> bool {
+        self.says.has_value
+    }
+
     /// Whether the entries stand among other members.
     ///
     /// ```

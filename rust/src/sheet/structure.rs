@@ -161,6 +161,47 @@ impl StructSheet {
         name.unwrap_or(shape_name)
     }
 
+    /// The shape's name.
+    ///
+    /// ```
+    /// let sheet = falzheod::StructSheet::builder("core").xml_name("d:core").build()?;
+    /// assert_eq!(sheet.shape_name(), b"core");
+    /// # Ok::<(), falzheod::SheetError>(())
+    /// ```
+    pub fn shape_name(&self) -> &[u8] {
+        &self.says.shape_name
+    }
+
+    /// The name in XML, if it has one.
+    ///
+    /// ```
+    /// assert_eq!(falzheod::StructSheet::builder("core").build()?.name_in_xml(), None);
+    /// # Ok::<(), falzheod::SheetError>(())
+    /// ```
+    pub fn name_in_xml(&self) -> Option<&[u8]> {
+        self.says.xml_name.as_deref()
+    }
+
+    /// The original name, if it has one.
+    ///
+    /// ```
+    /// assert_eq!(falzheod::StructSheet::builder("core").build()?.original_name(), None);
+    /// # Ok::<(), falzheod::SheetError>(())
+    /// ```
+    pub fn original_name(&self) -> Option<&[u8]> {
+        self.says.original_name.as_deref()
+    }
+
+    /// The name of the member that it is, if it has one.
+    ///
+    /// ```
+    /// assert_eq!(falzheod::StructSheet::builder("core").build()?.member_name(), None);
+    /// # Ok::<(), falzheod::SheetError>(())
+    /// ```
+    pub fn member_name(&self) -> Option<&[u8]> {
+        self.says.member_name.as_deref()
+    }
+
     /// Whether the root itself is the only member.
     ///
     /// ```
