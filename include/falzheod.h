@@ -2,6 +2,15 @@
  *
  * Link libfalzheod.a, which `rt staticlib falzheod` writes to target/staticlib.
  *
+ * Platform: x86-64 Linux, with the System V calling convention. The archive links into
+ * C and C++, also into static and into freestanding programs, and calls nothing from
+ * outside but what is named here, which every C library has:
+ *
+ *     needs: memcpy memset
+ *
+ * Threads: there is no state, so calls may run at the same time, as long as nothing
+ * that one of them writes is lent to another.
+ *
  * What the library promises: any content of what is lent is taken, and any length
  * up to the size of an object; nothing about the bytes or the numbers is assumed,
  * and `out` need not be initialised. Nothing is kept after the call, nothing is
@@ -9,7 +18,9 @@
  *
  * What the caller sees to, or the behaviour is undefined: each pointer is valid
  * for its length, aligned for its type and not null, not even where the length is
- * 0; what a function writes overlaps nothing else that is lent to it.
+ * 0; what a function writes overlaps nothing else that is lent to it. So no function
+ * works in place: to unescape a text into or across itself may give wrong bytes or a
+ * crash. Each function that writes says what must not overlap what.
  */
 #ifndef FALZHEOD_H
 #define FALZHEOD_H
@@ -79,7 +90,9 @@ extern "C" {
  * this order: a bad reference, then room.
  *
  * `*length` becomes the number of bytes written, 0 for a refusal. The bytes of
- * `out` from `*length` on are untouched, so a refusal writes nothing to `out`. */
+ * `out` from `*length` on are untouched, so a refusal writes nothing to `out`.
+ *
+ * Not in place: `out` and `*length` must not overlap `text` or each other. */
 uint32_t falzheod_unescape(const uint8_t *text, size_t text_len, uint8_t *out,
                            size_t out_len, size_t *length);
 
@@ -145,7 +158,9 @@ uint32_t falzheod_is_utf8(const uint8_t *text, size_t text_len);
  *
  * `*row` and `*cause` become the number of the first failing row, from 0, and why;
  * the row of an unclosed element is the count of rows. Where the answer is not
- * FALZHEOD_ILL_FORMED both become 0. Writes nothing else. */
+ * FALZHEOD_ILL_FORMED both become 0. Writes nothing else.
+ *
+ * Not in place: `*row` and `*cause` must not overlap `body`, `rows` or each other. */
 uint32_t falzheod_drain(const uint8_t *body, size_t body_len, const uint32_t *rows,
                         size_t rows_len, uint32_t end, size_t *row, uint32_t *cause);
 
@@ -216,11 +231,15 @@ uint32_t falzheod_drain(const uint8_t *body, size_t body_len, const uint32_t *ro
  * With FALZHEOD_VALIDATE_ROOT_NAME at depth 0 the root's name is tested
  * (FALZHEOD_ROOT_NAME): the XML name, else the original name, else the member name, else
  * the shape name. A member is found by its XML name, else its member name; attribute
- * members are candidates for children too. Then attribute members come in sheet order, children in body
- * order (a text, a failed text, or, of an aggregate member, a piece), the test of a
- * strict reading, and the groups of flattened aggregate members, in an order that is
- * left open; if all groups together do not fit, none is written. An unwrapped sheet
- * gives, after the test of a strict reading, one piece, the root element, or none. */
+ * members are candidates for children too. Then attribute members come in sheet order,
+ * children in body order (a text, a failed text, or, of an aggregate member, a piece),
+ * the test of a strict reading, and the groups of flattened aggregate members, in an
+ * order that is left open; if all groups together do not fit, none is written. An
+ * unwrapped sheet gives, after the test of a strict reading, one piece, the root
+ * element, or none.
+ *
+ * Not in place: `entries`, `texts`, `*count` and `*length` must not overlap `body`, `rows`,
+ * `sheet` or one another. */
 uint32_t falzheod_read_struct(const uint8_t *body, size_t body_len,
                               const uint32_t *rows, size_t rows_len, uint32_t end,
                               const uint8_t *sheet, size_t sheet_len,
@@ -233,7 +252,10 @@ uint32_t falzheod_read_struct(const uint8_t *body, size_t body_len,
  * its member name (2 and 3 only with 0). With
  * FALZHEOD_STRICT_COLLECTION_ELEMENT_NAMES, children of another name than the member's
  * (XML name, else member name, else `member`) are passed over, unless flattened stands.
- * No text is written. */
+ * No text is written.
+ *
+ * Not in place: `entries`, `texts`, `*count` and `*length` must not overlap `body`, `rows`,
+ * `sheet` or one another. */
 uint32_t falzheod_read_list(const uint8_t *body, size_t body_len,
                             const uint32_t *rows, size_t rows_len, uint32_t end,
                             const uint8_t *sheet, size_t sheet_len,
@@ -250,7 +272,10 @@ uint32_t falzheod_read_list(const uint8_t *body, size_t body_len,
  * as both is a key, and an entry without both gives nothing. A key or value that fails
  * refuses the reading with its number, FALZHEOD_ELEMENT_IN_TEXT to FALZHEOD_ILL_FORMED,
  * as it is met; room is tested at the end of each entry, for key and value together; the
- * key stands before the value. */
+ * key stands before the value.
+ *
+ * Not in place: `entries`, `texts`, `*count` and `*length` must not overlap `body`, `rows`,
+ * `sheet` or one another. */
 uint32_t falzheod_read_map(const uint8_t *body, size_t body_len,
                            const uint32_t *rows, size_t rows_len, uint32_t end,
                            const uint8_t *sheet, size_t sheet_len,
@@ -260,7 +285,10 @@ uint32_t falzheod_read_map(const uint8_t *body, size_t body_len,
                            size_t *count, size_t *length);
 
 /* A list of strings, by a list's sheet: each item a text. One that fails refuses the
- * reading with its number, as it is met. */
+ * reading with its number, as it is met.
+ *
+ * Not in place: `entries`, `texts`, `*count` and `*length` must not overlap `body`, `rows`,
+ * `sheet` or one another. */
 uint32_t falzheod_read_string_list(const uint8_t *body, size_t body_len,
                                    const uint32_t *rows, size_t rows_len, uint32_t end,
                                    const uint8_t *sheet, size_t sheet_len,
@@ -273,19 +301,25 @@ uint32_t falzheod_read_string_list(const uint8_t *body, size_t body_len,
  * trimmed. Answers FALZHEOD_FINISHED, FALZHEOD_TABLE, FALZHEOD_NO_ROOT, the numbers of
  * a text that fails, FALZHEOD_ILL_FORMED or FALZHEOD_NOT_BOOLEAN, in this order.
  * `*value` becomes 1 or 0; a refusal leaves it alone. Of `flags` only
- * FALZHEOD_VALIDATE_DOCUMENT says anything here. */
+ * FALZHEOD_VALIDATE_DOCUMENT says anything here.
+ *
+ * Not in place: `*value` must not overlap `body` or `rows`. */
 uint32_t falzheod_read_boolean(const uint8_t *body, size_t body_len,
                                const uint32_t *rows, size_t rows_len, uint32_t end,
                                uint32_t flags, uint32_t depth, uint32_t *value);
 
 /* The same as an integer: an optional sign and one or more digits, in the range of 32
- * bits; FALZHEOD_NOT_INTEGER else. */
+ * bits; FALZHEOD_NOT_INTEGER else.
+ *
+ * Not in place: `*value` must not overlap `body` or `rows`. */
 uint32_t falzheod_read_integer(const uint8_t *body, size_t body_len,
                                const uint32_t *rows, size_t rows_len, uint32_t end,
                                uint32_t flags, uint32_t depth, int32_t *value);
 
 /* The same as a string, to the front of `out`; FALZHEOD_NO_ROOM where it does not fit.
- * `*length` becomes the number of bytes written, 0 for a refusal. */
+ * `*length` becomes the number of bytes written, 0 for a refusal.
+ *
+ * Not in place: `out` and `*length` must not overlap `body`, `rows` or each other. */
 uint32_t falzheod_read_string(const uint8_t *body, size_t body_len,
                               const uint32_t *rows, size_t rows_len, uint32_t end,
                               uint32_t flags, uint32_t depth,
@@ -294,7 +328,10 @@ uint32_t falzheod_read_string(const uint8_t *body, size_t body_len,
 /* A text, such as an entry's, by the same rules. The first answers FALZHEOD_FINISHED or
  * FALZHEOD_NOT_BOOLEAN, the second FALZHEOD_FINISHED or FALZHEOD_NOT_INTEGER, and both
  * leave `*value` alone where they refuse; the third copies the text and answers
- * FALZHEOD_FINISHED or FALZHEOD_NO_ROOM, with `*length` the number of bytes written. */
+ * FALZHEOD_FINISHED or FALZHEOD_NO_ROOM, with `*length` the number of bytes written.
+ *
+ * Not in place, none of the three: `*value`, and `out` and `*length`, must not overlap
+ * `text` or each other. */
 uint32_t falzheod_text_boolean(const uint8_t *text, size_t text_len, uint32_t *value);
 uint32_t falzheod_text_integer(const uint8_t *text, size_t text_len, int32_t *value);
 uint32_t falzheod_text_string(const uint8_t *text, size_t text_len,
@@ -303,7 +340,10 @@ uint32_t falzheod_text_string(const uint8_t *text, size_t text_len,
 /* The part of the body that has this local name, leniently: the whole body if the root
  * has it, else the first child of the root that has it. `*start` and `*length` become
  * the part. Answers FALZHEOD_FINISHED, FALZHEOD_TABLE or FALZHEOD_NO_SUCH_ELEMENT (also
- * without a root); both become 0 where it refuses. */
+ * without a root); both become 0 where it refuses.
+ *
+ * Not in place: `*start` and `*length` must not overlap `body`, `rows`, `name` or each
+ * other. */
 uint32_t falzheod_find(const uint8_t *body, size_t body_len,
                        const uint32_t *rows, size_t rows_len, uint32_t end,
                        const uint8_t *name, size_t name_len,
@@ -313,7 +353,9 @@ uint32_t falzheod_find(const uint8_t *body, size_t body_len,
  * `out`. Answers FALZHEOD_FINISHED, FALZHEOD_TABLE, FALZHEOD_ILL_FORMED (what the drain
  * does not pass), FALZHEOD_NO_ROOT, FALZHEOD_ELEMENT_IN_TEXT (any element inside the
  * root) or FALZHEOD_NO_ROOM, in this order. `*length` becomes the number of bytes
- * written, 0 for a refusal. */
+ * written, 0 for a refusal.
+ *
+ * Not in place: `out` and `*length` must not overlap `body`, `rows` or each other. */
 uint32_t falzheod_whole_text(const uint8_t *body, size_t body_len,
                              const uint32_t *rows, size_t rows_len, uint32_t end,
                              uint8_t *out, size_t out_len, size_t *length);
