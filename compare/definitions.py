@@ -342,8 +342,8 @@ class World:
         for name, text in texts.items():
             with open(os.path.join(self.specs, name + ".antt"), "w") as out:
                 out.write(text)
-        done = subprocess.run(["rt", "check", "faith"], cwd=self.folder, stdout=subprocess.PIPE, stderr=subprocess.STDOUT, universal_newlines=True,
-                              env=dict(os.environ, RT_CUT="0"))
+        done = subprocess.run(["rt", "check", "faith"], cwd=self.folder, stdout=subprocess.PIPE, stderr=subprocess.STDOUT,
+                              universal_newlines=True, env=dict(os.environ, RT_CUT="0"))
         return done.stdout.split("\n"), done.returncode == 0
 
 
@@ -424,7 +424,8 @@ def main():
             skipped += 1
         else:
             asked.append((case,) + answer)
-    print("%d cases; skipped %d where the Rust has no answer; 01 and the Rust differ by design in %d" % (len(asked), skipped, len(expected.by_design)), flush=True)
+    print("%d cases; skipped %d where the Rust has no answer; 01 and the Rust differ by design in %d"
+          % (len(asked), skipped, len(expected.by_design)), flush=True)
 
     world = World(words.folder)
     passed, differs = collections.Counter(), []

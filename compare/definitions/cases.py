@@ -144,38 +144,56 @@ def defects(rng):
 
 # two defects at once, scopes that run over an outer end, and what stands outside the root
 CHOSEN = [
-    b"", b" ", b"\n\t ", b"\xff", b"<r>\xff</r>", b"<r>\xc3\xa9</r>", b"<\xc3\xa9><a/></\xc3\xa9>", b"\xef\xbb\xbf<r><a>1</a></r>", b"\xef\xbb\xbf",
-    b"<!--c-->", b"<?xml version='1.0'?>", b"<!DOCTYPE r>", b"<!DOCTYPE r [<!ENTITY zz 'y'>]><r><a>&zz;</a></r>", b"<!DOCTYPE r [", b"x", b"<", b">", b"</r>",
-    b"<r", b"<r ", b"<r>", b"<r/", b"<r/>", b"<r />", b"<r/><r/>", b"<r></r><r></r>", b"<r/>x", b"<r/> ", b"<r/><!--c-->", b"<r/></r>", b" <r/>",
-    b"<r></r>\n<!--c--> <?pi?>\n", b"<r></b> ", b"<r></b><!--c-->", b"<a></b> ", b"<r><a></r></a>", b"<r><a></r></a> ", b"<r><a></r>", b"<r><a></r><b>2</b></a></r>",
-    b"<r><a>1</b><c>2</c></r>", b"<r><a x='&zz;'>1</a><b>2</b></r>", b"<r x='1' x='2'/>", b"<r x='1' x='2'><a>1</a></r>", b"<r x='&zz;'><a>1</a></r>",
-    b"<r><a>1</a></r></r>", b"<r><a>1</a></b><c>2</c></r>", b"<r><n>1</n><n>2</n></r>", b"<r><n>1</n><n>2</b><n>3</n></r>", b"<r><n>1</n><a>2</a><n/><n>3</n></r>",
-    b"<r><n>1</n><n>2", b"<r><n>1</n><n>2</n", b"<r><n>1</n><n x='&zz;'/><n>2</n></r>", b"<r><b><b></b></r></b></r>", b"<r><b><r></b></r></b></r>",
+    b"", b" ", b"\n\t ", b"\xff", b"<r>\xff</r>", b"<r>\xc3\xa9</r>", b"<\xc3\xa9><a/></\xc3\xa9>", b"\xef\xbb\xbf<r><a>1</a></r>",
+    b"\xef\xbb\xbf",
+    b"<!--c-->", b"<?xml version='1.0'?>", b"<!DOCTYPE r>", b"<!DOCTYPE r [<!ENTITY zz 'y'>]><r><a>&zz;</a></r>", b"<!DOCTYPE r [", b"x",
+    b"<", b">", b"</r>",
+    b"<r", b"<r ", b"<r>", b"<r/", b"<r/>", b"<r />", b"<r/><r/>", b"<r></r><r></r>", b"<r/>x", b"<r/> ", b"<r/><!--c-->", b"<r/></r>",
+    b" <r/>",
+    b"<r></r>\n<!--c--> <?pi?>\n", b"<r></b> ", b"<r></b><!--c-->", b"<a></b> ", b"<r><a></r></a>", b"<r><a></r></a> ", b"<r><a></r>",
+    b"<r><a></r><b>2</b></a></r>",
+    b"<r><a>1</b><c>2</c></r>", b"<r><a x='&zz;'>1</a><b>2</b></r>", b"<r x='1' x='2'/>", b"<r x='1' x='2'><a>1</a></r>",
+    b"<r x='&zz;'><a>1</a></r>",
+    b"<r><a>1</a></r></r>", b"<r><a>1</a></b><c>2</c></r>", b"<r><n>1</n><n>2</n></r>", b"<r><n>1</n><n>2</b><n>3</n></r>",
+    b"<r><n>1</n><a>2</a><n/><n>3</n></r>",
+    b"<r><n>1</n><n>2", b"<r><n>1</n><n>2</n", b"<r><n>1</n><n x='&zz;'/><n>2</n></r>", b"<r><b><b></b></r></b></r>",
+    b"<r><b><r></b></r></b></r>",
     b"<r><b><c></b></c></b><a>1</a></r>", b"<r><r></r></r>", b"<r><r><a>1</a></r><a>2</a></r>", b"<r><a><r></a></r><a>3</a></r>",
-    b"<r><a>1<c/></a><a><c/>1</a><a>1</a></r>", b"<r><a><!--c-->1<!--d-->2</a><a>1<!--c-->2</a></r>", b"<r><a><![CDATA[1]]>2</a><a><![CDATA[1]]></a><a>1<![CDATA[2]]></a></r>",
-    b"<r><a>&zz;</a><a>1</a></r>", b"<r><a>&#0;</a><a>&#+65;</a><a>&lt;&#x41;</a></r>", b"<r><a>1</a>&zz;<a>2</a></r>", b"<r>&#0;<a>1</a></r>", b"<r><a>1]]></a></r>",
-    b"<r><a/><a></a><a> </a><b/><n/></r>", b"<r>1<a>2</a></r>", b"<r><a>2</a>1</r>", b"<r><![CDATA[1]]></r>", b"<r><![CDATA[1]]>2</r>", b"<r>1<!--c-->2<?pi?>3</r>",
-    b"<r>1&lt;<![CDATA[c]]>&#x41;2</r>", b"<r><!--c--></r>", b"<r>1<a/>2</r>", b"<r>&zz;1</r>", b"<r>1&#0;</r>", b"<r>1</b>2</r>", b"<r><a></b>1</a></r>",
-    b"<r x='1'>5</r>", b"<r x='&zz;'>5</r>", b"<p:r>5</p:r>", b"<p:r>5</r>", b"<:r>5</r>", b"<r>5</:r>", b"<r:>5</r:>", b"<r>5</r >", b"<r >5</r\n>",
+    b"<r><a>1<c/></a><a><c/>1</a><a>1</a></r>", b"<r><a><!--c-->1<!--d-->2</a><a>1<!--c-->2</a></r>",
+    b"<r><a><![CDATA[1]]>2</a><a><![CDATA[1]]></a><a>1<![CDATA[2]]></a></r>",
+    b"<r><a>&zz;</a><a>1</a></r>", b"<r><a>&#0;</a><a>&#+65;</a><a>&lt;&#x41;</a></r>", b"<r><a>1</a>&zz;<a>2</a></r>",
+    b"<r>&#0;<a>1</a></r>", b"<r><a>1]]></a></r>",
+    b"<r><a/><a></a><a> </a><b/><n/></r>", b"<r>1<a>2</a></r>", b"<r><a>2</a>1</r>", b"<r><![CDATA[1]]></r>", b"<r><![CDATA[1]]>2</r>",
+    b"<r>1<!--c-->2<?pi?>3</r>",
+    b"<r>1&lt;<![CDATA[c]]>&#x41;2</r>", b"<r><!--c--></r>", b"<r>1<a/>2</r>", b"<r>&zz;1</r>", b"<r>1&#0;</r>", b"<r>1</b>2</r>",
+    b"<r><a></b>1</a></r>",
+    b"<r x='1'>5</r>", b"<r x='&zz;'>5</r>", b"<p:r>5</p:r>", b"<p:r>5</r>", b"<:r>5</r>", b"<r>5</:r>", b"<r:>5</r:>", b"<r>5</r >",
+    b"<r >5</r\n>",
     b"<r><a>1</a ><a >2</a></r>", b"<r><p:a>1</a><a>2</a></r>", b"<r><p:a>1</p:a><q:a>2</q:a><a>3</a></r>", b"<r><:a>1</a><a:>2</a:></r>",
     b"<r p:x='1' x='2' q:x='3'/>", b"<r q:x='3'><x>1</x></r>", b"<r x='&lt;&#x41;'/>", b"<r x='&#0;'/>", b"<r x=''/>", b"<r p:x=''/>",
 ]
 
 MAP_BODIES = [
-    b"<r><entry><key>k</key></entry></r>", b"<r><entry><value>v</value></entry></r>", b"<r><entry/></r>", b"<r><entry></entry></r>", b"<r/>",
+    b"<r><entry><key>k</key></entry></r>", b"<r><entry><value>v</value></entry></r>", b"<r><entry/></r>", b"<r><entry></entry></r>",
+    b"<r/>",
     b"<r><entry><key/><value/></entry></r>", b"<r><entry><value>v</value><key>k</key></entry></r>",
-    b"<r><entry><key>k</key><key>l</key><value>v</value><value>w</value></entry></r>", b"<r><entry><key>k</key><value>v</value><key>l</key></entry></r>",
+    b"<r><entry><key>k</key><key>l</key><value>v</value><value>w</value></entry></r>",
+    b"<r><entry><key>k</key><value>v</value><key>l</key></entry></r>",
     b"<r><entry><p:key>k</p:key><q:value>v</q:value></entry></r>", b"<r><p:entry><key>k</key><value>v</value></p:entry></r>",
-    b"<r><a><key>k</key><value>v</value></a><entry><key>l</key><value>w</value></entry></r>", b"<r>t<entry>t<key>k</key>t<value>v</value>t</entry>t</r>",
+    b"<r><a><key>k</key><value>v</value></a><entry><key>l</key><value>w</value></entry></r>",
+    b"<r>t<entry>t<key>k</key>t<value>v</value>t</entry>t</r>",
     b"<r><entry><key>&zz;</key><value>v</value></entry></r>", b"<r><entry><key>k</key><value>&zz;</value></entry></r>",
     b"<r><entry><key>&#0;</key><value>&#+65;</value></entry></r>", b"<r><entry><key>&lt;</key><value>&gt;</value></entry></r>",
     b"<r><entry><key><a/></key><value>v</value></entry></r>", b"<r><entry><key>k<a/></key><value>v<a/></value></entry></r>",
-    b"<r><entry><key>k</key><value><a/></value></entry></r>", b"<r><entry><key>k</key><value><a>1</a></value></entry><entry><key>l</key><value/></entry></r>",
+    b"<r><entry><key>k</key><value><a/></value></entry></r>",
+    b"<r><entry><key>k</key><value><a>1</a></value></entry><entry><key>l</key><value/></entry></r>",
     b"<r><entry><key>k</key><value>v</value></entry><entry><key><a/></key></entry></r>",
-    b"<r><entry><key>k</key><value>v</value></entry><entry><key>l</key><value>\x01</value></entry></r>", b"<r><entry><key>\x01</key></entry></r>",
+    b"<r><entry><key>k</key><value>v</value></entry><entry><key>l</key><value>\x01</value></entry></r>",
+    b"<r><entry><key>\x01</key></entry></r>",
     b"<r><entry><key>k</key><value>v</key></value></entry></r>", b"<r><entry><key>k</value><value>v</value></entry></r>",
     b"<r><entry><key>k</entry></key><value>v</value></entry></r>", b"<r><entry><key>k</key><value>v</entry></value></entry></r>",
-    b"<r><entry><key>k</key><value>v</value></r></entry>", b"<r><entry><key>k</key><value>v</value></b><entry><key>l</key><value>w</value></entry></r>",
+    b"<r><entry><key>k</key><value>v</value></r></entry>",
+    b"<r><entry><key>k</key><value>v</value></b><entry><key>l</key><value>w</value></entry></r>",
     b"<r><entry><key>k</key><value>v</value></entry><entry><key>l</key><value>w</value></b></r>",
     b"<r><entry x='&zz;'><key>k</key><value>v</value></entry><entry><key>l</key><value>w</value></entry></r>",
     b"<r><entry><key x='&zz;'>k</key><value>v</value></entry><entry><key>l</key><value>w</value></entry></r>",
@@ -184,15 +202,19 @@ MAP_BODIES = [
     b"<r><entry><key>k</key><value>v</value><c><d x='&zz;'/></c></entry><entry><key>l</key><value>w</value></entry></r>",
     b"<r><entry><key>k</key><value><d x='&zz;'/></value></entry><entry><key>l</key><value>w</value></entry></r>",
     b"<r><entry><key x='1' x='2'>k</key><value>v</value></entry></r>", b"<r><entry><key>k</key><value x='1' x='2'>v</value></entry></r>",
-    b"<r><entry><key>k</key><value>v</value></entry>", b"<r><entry><key>k</key><value>v</value>", b"<r><entry><key>k</key><value>v", b"<r><entry><key>k",
-    b"<r><entry><key>k</key><value>", b"<r><entry><key>k</key><value", b"<r><entry><key></r>", b"<r><entry><key>", b"<r><entry><key/><value/>",
+    b"<r><entry><key>k</key><value>v</value></entry>", b"<r><entry><key>k</key><value>v</value>", b"<r><entry><key>k</key><value>v",
+    b"<r><entry><key>k",
+    b"<r><entry><key>k</key><value>", b"<r><entry><key>k</key><value", b"<r><entry><key></r>", b"<r><entry><key>",
+    b"<r><entry><key/><value/>",
     b"<r><entry><entry><key>k</key><value>v</value></entry></entry></r>", b"<r><entry><a><key>k</key></a><value>v</value></entry></r>",
     b"<r><entry><key><![CDATA[k]]></key><value><!--c-->v</value></entry></r>", b"<r><entry><key>k</key><value>v</value></entry>&zz;</r>",
     b"<r><entry><key>k</key>&zz;<value>v</value></entry></r>", b"<r><entry><key>k</key><value>v</value>&#0;</entry></r>",
 ]
 
-MAP_SHEETS = [fields(0, []), fields(1, []), MAP, PIECES, fields(5, []), fields(21, []), fields(2, [b"value"]), fields(4 | 8, [b"key"]), fields(4 | 8 | 16, [b"key"]),
-              fields(2 | 4 | 8, [b"a", b"a"]), fields(2 | 4 | 8 | 16, [b"c", b"value"]), fields(2 | 4 | 8, [b"value", b"key"]), fields(2 | 4, [b"p:key"])]
+MAP_SHEETS = [fields(0, []), fields(1, []), MAP, PIECES, fields(5, []), fields(21, []), fields(2, [b"value"]), fields(4 | 8, [b"key"]),
+              fields(4 | 8 | 16, [b"key"]),
+              fields(2 | 4 | 8, [b"a", b"a"]), fields(2 | 4 | 8 | 16, [b"c", b"value"]), fields(2 | 4 | 8, [b"value", b"key"]),
+              fields(2 | 4, [b"p:key"])]
 
 
 def chosen(rng):
@@ -223,7 +245,8 @@ def names(rng):
             yield Case("targeted", "name", "struct", body, structure([member(pattern)]), 1, 0)
             yield Case("targeted", "name", "list", body, fields(1 | 4, [pattern]), 4, 0)
             yield Case("targeted", "name", "strings", body, fields(1 | 8, [pattern]), 5, 0)
-            yield Case("targeted", "name", "map", b"<r><entry>" + body[3:-4] + b"<value>2</value></entry></r>", fields(2 | 4, [pattern]), 5, 0)
+            yield Case("targeted", "name", "map", b"<r><entry>" + body[3:-4] + b"<value>2</value></entry></r>", fields(2 | 4, [pattern]), 5,
+                       0)
             yield Case("targeted", "name", "find", body, pattern)
             body = b"<r " + tag + b"='1'/>"
             yield Case("targeted", "name", "struct", body, structure([member(pattern, ATTRIBUTE)]), 1, 0)
@@ -244,11 +267,13 @@ def members(rng):
     for bits in range(32):
         given = [text for bit, text in ((1, b"a"), (2, b"b")) if bits & bit]
         one = fields(bits, given)
-        for sheet in (structure([one]), structure([one, member(b"b"), member(b"a", AGGREGATE)]), structure([member(b"a", ATTRIBUTE | AGGREGATE | FLATTENED), one]),
+        for sheet in (structure([one]), structure([one, member(b"b"), member(b"a", AGGREGATE)]),
+                      structure([member(b"a", ATTRIBUTE | AGGREGATE | FLATTENED), one]),
                       structure([one, one]), structure([one], bits=8)):
             yield Case("targeted", "member", "struct", body, sheet, rng.choice([0, 1]), 0)
         yield Case("targeted", "member", "struct", b"<b><a x='&zz;'/></b>", structure([one], root=b"b", bits=8), 2, 0)
-    many = structure([member(b"a", AGGREGATE | FLATTENED)] + [member(b"n%d" % i, rng.choice([0, AGGREGATE, AGGREGATE | FLATTENED])) for i in range(63)])
+    many = structure([member(b"a", AGGREGATE | FLATTENED)] + [member(b"n%d" % i,
+                                                                     rng.choice([0, AGGREGATE, AGGREGATE | FLATTENED])) for i in range(63)])
     children = b"".join(b"<n%d>%d</n%d>" % (i, i, i) for i in rng.sample(range(63), 12)) * 2
     yield Case("targeted", "member", "struct", b"<r>" + children + b"<a/></r>", many, 1, 0)
     yield Case("targeted", "member", "struct", b"<r>" + children, many, 1, 0)
@@ -263,7 +288,8 @@ def members(rng):
 
 def broken_sheets(rng):
     """Each byte of a valid sheet cut, changed, lost and put in twice."""
-    wholes = [("struct", STRUCT, PLAIN), ("struct", structure([fields(31, [b"a", b"b"]), member(b"n")], bits=15, names=[b"r", b"s", b"t"]), PLAIN),
+    wholes = [("struct", STRUCT, PLAIN),
+              ("struct", structure([fields(31, [b"a", b"b"]), member(b"n")], bits=15, names=[b"r", b"s", b"t"]), PLAIN),
               ("list", fields(15, [b"a", b"bc"]), PLAIN), ("list", NAMED_LIST, PLAIN), ("strings", fields(9, [b"a"]), SAME),
               ("map", fields(31, [b"key", b"value"]), ENTRIES), ("map", MAP, ENTRIES), ("list", ANY_LIST, PLAIN)]
     for kind, sheet, body in wholes:
@@ -271,7 +297,8 @@ def broken_sheets(rng):
         for at in range(len(sheet)):
             changed.append(sheet[:at])
             changed.append(sheet[:at] + sheet[at + 1:])
-            for byte in {0, 1, 64, 65, 127, 128, 255, (sheet[at] + 1) % 256, (sheet[at] - 1) % 256, sheet[at] ^ 0x10, sheet[at] ^ 0x20, sheet[at] ^ 8, sheet[at] ^ 4}:
+            for byte in {0, 1, 64, 65, 127, 128, 255, (sheet[at] + 1) % 256, (sheet[at] - 1) % 256, sheet[at] ^ 0x10, sheet[at] ^ 0x20,
+                         sheet[at] ^ 8, sheet[at] ^ 4}:
                 changed.append(sheet[:at] + bytes([byte]) + sheet[at + 1:])
         for sheet in changed:
             yield Case("targeted", "sheet", kind, body, sheet, rng.choice([0, 1, 4, 5]), 0)
@@ -284,10 +311,12 @@ def broken_sheets(rng):
 
 def order(rng):
     """Which refusal comes first: 2, 3, 4, 5; and the depth beside its maximum."""
-    for kind, sheets in (("struct", [STRUCT, b"", structure([], root=b"a"), UNWRAPPED]), ("list", [ANY_LIST, b"\xff"]), ("strings", [ANY_LIST, b"\xff"]), ("map", [MAP, b"\xff"])):
+    for kind, sheets in (("struct", [STRUCT, b"", structure([], root=b"a"), UNWRAPPED]), ("list", [ANY_LIST, b"\xff"]),
+                         ("strings", [ANY_LIST, b"\xff"]), ("map", [MAP, b"\xff"])):
         for sheet in sheets:
             for body in (b"", b"<r><a>1</a></r>", b"<r x='&zz;'/>", b"<r><a>1</b></r>", b"\xff"):
-                for depth, maximum in ((0, 128), (0, 0), (0, 1), (1, 1), (127, 128), (128, 128), (129, 128), (4294967294, 4294967295), (4294967295, 4294967295)):
+                for depth, maximum in ((0, 128), (0, 0), (0, 1), (1, 1), (127, 128), (128, 128), (129, 128), (4294967294, 4294967295),
+                                       (4294967295, 4294967295)):
                     yield Case("targeted", "order", kind, body, sheet, rng.choice([0, 1, 2, 3]), depth, maximum)
     for kind in ("bool", "int", "string"):
         for depth, maximum in ((0, 0), (0, 1), (5, 1), (128, 128), (4294967295, 0)):
@@ -297,16 +326,22 @@ def order(rng):
 
 # ------------------------------------------------------------ texts
 
-NUMBERS = [b"2147483647", b"2147483648", b"-2147483648", b"-2147483649", b"+5", b"-5", b"-0", b"+0", b"+", b"-", b"", b" 5", b"5 ", b"00012", b"-00012", b"1e3",
-           b"--1", b"+-1", b"-+1", b"++1", b"0", b"1.0", b"0x1", b"1_0", b"\xd9\xa1", b"4294967296", b"99999999999999999999", b"-99999999999999999999",
-           b"00000000000000000002147483647", b"+2147483647", b"+2147483648", b"5a", b"a5", b":", b"/", b"5:", b"\n5", b"&#53;", b"&#x2d;1", b"-&#49;", b"&lt;", b"&#+53;",
-           b"true", b"false", b"True", b"TRUE", b" true", b"true ", b"tru", b"truee", b"t", b"fals", b"falsee", b"1", b"&#116;rue", b"tr&#117;e", b"tr<!--c-->ue",
-           b"<!--c-->true", b"<![CDATA[true]]>", b"<![CDATA[c]]>true", b"true<![CDATA[c]]>", b"true<a/>", b"<a/>true", b"5<a/>", b"5<a>", b"5</b>", b"&zz;", b"&#0;", b"5&zz;", b"5&", b"5]]>"]
+NUMBERS = [b"2147483647", b"2147483648", b"-2147483648", b"-2147483649", b"+5", b"-5", b"-0", b"+0", b"+", b"-", b"", b" 5", b"5 ",
+           b"00012", b"-00012", b"1e3",
+           b"--1", b"+-1", b"-+1", b"++1", b"0", b"1.0", b"0x1", b"1_0", b"\xd9\xa1", b"4294967296", b"99999999999999999999",
+           b"-99999999999999999999",
+           b"00000000000000000002147483647", b"+2147483647", b"+2147483648", b"5a", b"a5", b":", b"/", b"5:", b"\n5", b"&#53;", b"&#x2d;1",
+           b"-&#49;", b"&lt;", b"&#+53;",
+           b"true", b"false", b"True", b"TRUE", b" true", b"true ", b"tru", b"truee", b"t", b"fals", b"falsee", b"1", b"&#116;rue",
+           b"tr&#117;e", b"tr<!--c-->ue",
+           b"<!--c-->true", b"<![CDATA[true]]>", b"<![CDATA[c]]>true", b"true<![CDATA[c]]>", b"true<a/>", b"<a/>true", b"5<a/>", b"5<a>",
+           b"5</b>", b"&zz;", b"&#0;", b"5&zz;", b"5&", b"5]]>"]
 
 
 def texts(rng):
     for text in NUMBERS:
-        for body in (b"<r>" + text + b"</r>", b"<r>" + text, b"<!--c--><r x='1'>" + text + b"</r> ", b"<r>" + text + b"</r>x", b"<r>" + text + b"</p:r>"):
+        for body in (b"<r>" + text + b"</r>", b"<r>" + text, b"<!--c--><r x='1'>" + text + b"</r> ", b"<r>" + text + b"</r>x",
+                     b"<r>" + text + b"</p:r>"):
             for kind in ("bool", "int", "string"):
                 for flags, depth in ((0, 0), (1, 0), (1, 1)):
                     yield Case("targeted", "scalar", kind, body, b"", flags, depth)
@@ -325,11 +360,13 @@ def texts(rng):
         yield Case("targeted", "text", "whole", b"<r>" + text + b"<!--c-->" + text + b"</r>")
     for text in gen.GOOD_REFERENCES + gen.LAX_REFERENCES + gen.BAD_REFERENCES:
         for flags in (0, 1):
-            yield Case("targeted", "reference", "struct", b"<r x='" + text + b"'><a>" + text + b"</a><c>1" + text + b"2</c></r>", STRUCT, flags, 0)
+            yield Case("targeted", "reference", "struct", b"<r x='" + text + b"'><a>" + text + b"</a><c>1" + text + b"2</c></r>", STRUCT,
+                       flags, 0)
             yield Case("targeted", "reference", "struct", b"<r><a>" + text + b"</a><c>1" + text + b"2</c></r>", STRUCT, flags, 0)
             yield Case("targeted", "reference", "string", b"<r>" + text + b"</r>", b"", flags, 0)
             yield Case("targeted", "reference", "strings", b"<r><a y='" + text + b"'>1</a><a>" + text + b"</a></r>", ANY_LIST, flags, 0)
-            yield Case("targeted", "reference", "map", b"<r><entry><key>" + text + b"</key><value>" + text + b"</value></entry></r>", MAP, flags, 0)
+            yield Case("targeted", "reference", "map", b"<r><entry><key>" + text + b"</key><value>" + text + b"</value></entry></r>", MAP,
+                       flags, 0)
         yield Case("targeted", "reference", "whole", b"<r>1" + text + b"<![CDATA[" + text + b"]]>2</r>")
     pieces = [b"1", b"&lt;", b"<![CDATA[c]]>", b"<!--c-->", b"<?pi?>", b"<a/>", b" "]
     for first in pieces:
@@ -337,18 +374,22 @@ def texts(rng):
             for third in pieces[:5]:
                 inside = first + second + third
                 yield Case("targeted", "content", "string", b"<r>" + inside + b"</r>", b"", rng.choice([0, 1]), 0)
-                yield Case("targeted", "content", "struct", b"<r><a>" + inside + b"</a><b>" + inside + b"</b></r>", STRUCT, rng.choice([0, 1]), 0)
+                yield Case("targeted", "content", "struct", b"<r><a>" + inside + b"</a><b>" + inside + b"</b></r>", STRUCT,
+                           rng.choice([0, 1]), 0)
                 yield Case("targeted", "content", "whole", b"<r>" + inside + b"</r>")
 
 
 # ------------------------------------------------------------ room, and tables that break a rule
 
 def rooms(rng):
-    bodies = [PLAIN, ENTRIES, b"<r x='123'><a>45</a><n>1</n><c>678</c><n>2</n><entry>3</entry></r>", b"<r><a>1</a><a>&lt;2</a><a/><a>345</a></r>",
+    bodies = [PLAIN, ENTRIES, b"<r x='123'><a>45</a><n>1</n><c>678</c><n>2</n><entry>3</entry></r>",
+              b"<r><a>1</a><a>&lt;2</a><a/><a>345</a></r>",
               b"<r><a>1</a><c><a/></c><n>1</n></b></r>", b"<r>abc&lt;</r>", b"<r/>",
-              b"<r><entry><key>ab</key><value>cde</value></entry><entry><key>f</key><value>g</value></entry><entry><key>h</key><value>&zz;</value></entry></r>"]
+              b"<r><entry><key>ab</key><value>cde</value></entry><entry><key>f</key><value>g</value></entry>"
+              b"<entry><key>h</key><value>&zz;</value></entry></r>"]
     for body in bodies:
-        for kind, sheet in (("struct", STRUCT), ("struct", OTHER), ("struct", UNWRAPPED), ("list", ANY_LIST), ("strings", ANY_LIST), ("map", MAP), ("map", PIECES)):
+        for kind, sheet in (("struct", STRUCT), ("struct", OTHER), ("struct", UNWRAPPED), ("list", ANY_LIST), ("strings", ANY_LIST),
+                            ("map", MAP), ("map", PIECES)):
             for entries in range(5):
                 yield Case("targeted", "room", kind, body, sheet, rng.choice([0, 1]), 0, room=(entries, 1000))
             for space in (0, 1, 2, 3, 4, 5, 6, 8, 10, 30, 31, 32, 33, 34, 40, 60, 61, 62, 63, 64, 65, 66):
@@ -377,7 +418,8 @@ def unwrapped(rng):
             yield Case("targeted", "unwrapped", "struct", body, UNWRAPPED, 0, 0, room=(0, 0))
     for body in (b"<a/>", b"<r><n/></r>", b"<zz>1</zz>", b"<p:a>1</p:a>"):
         for bits in range(32):
-            yield Case("targeted", "unwrapped", "struct", body, structure([fields(bits, [text for bit, text in ((1, b"a"), (2, b"zz")) if bits & bit]), member(b"r")], bits=8), 1, 0)
+            yield Case("targeted", "unwrapped", "struct", body,
+                       structure([fields(bits, [text for bit, text in ((1, b"a"), (2, b"zz")) if bits & bit]), member(b"r")], bits=8), 1, 0)
 
 
 def broken_tables(rng, tables):
@@ -385,10 +427,13 @@ def broken_tables(rng, tables):
     for body in (PLAIN, b"<r/>", b"<r><a>1</a></r>"):
         rows, final = tables([body])[0]
         numbers = [number for row in rows for number in row]
-        changed = [(numbers[:-1], final), (numbers + [0], final), (numbers, len(body) + 1), (numbers, final - 1), ([9] + numbers[1:], final), ([0] + numbers[1:], final),
-                   ([8] + numbers[1:], final), (numbers[8:], final), (numbers + numbers, final), (numbers[:7] + [numbers[7] + 1] + numbers[8:], final)]
+        changed = [(numbers[:-1], final), (numbers + [0], final), (numbers, len(body) + 1), (numbers, final - 1),
+                   ([9] + numbers[1:], final), ([0] + numbers[1:], final),
+                   ([8] + numbers[1:], final), (numbers[8:], final), (numbers + numbers, final),
+                   (numbers[:7] + [numbers[7] + 1] + numbers[8:], final)]
         for table in changed:
-            for kind, sheet in (("struct", STRUCT), ("struct", b""), ("list", ANY_LIST), ("list", b"\xff"), ("strings", ANY_LIST), ("map", MAP), ("find", b"r"), ("drain", b""),
+            for kind, sheet in (("struct", STRUCT), ("struct", b""), ("list", ANY_LIST), ("list", b"\xff"), ("strings", ANY_LIST),
+                                ("map", MAP), ("find", b"r"), ("drain", b""),
                                 ("bool", b""), ("int", b""), ("string", b""), ("whole", b"")):
                 yield Case("targeted", "table", kind, body, sheet, rng.randrange(8), rng.choice([0, 128]), 128, table=table)
 
@@ -421,9 +466,11 @@ def targeted(seed_rng, tables):
     for family in (chosen, names, members, broken_sheets, order, texts, rooms, unwrapped, defects, told_apart):
         yield from family(seed_rng)
     yield from broken_tables(seed_rng, tables)
-    deep = [(b"<a>" * levels) + (b"</a>" * levels) for levels in (256, 257)] + [b"<a>" * 256 + b"<b/>", b"<a>" * 255 + b"<b/>" + b"</a>" * 255]
+    deep = [(b"<a>" * levels) + (b"</a>" * levels) for levels in (256, 257)] + [b"<a>" * 256 + b"<b/>",
+                                                                                b"<a>" * 255 + b"<b/>" + b"</a>" * 255]
     for body in deep:
-        for kind, sheet in (("struct", STRUCT), ("list", ANY_LIST), ("strings", ANY_LIST), ("map", MAP), ("string", b""), ("find", b"a"), ("drain", b""), ("whole", b"")):
+        for kind, sheet in (("struct", STRUCT), ("list", ANY_LIST), ("strings", ANY_LIST), ("map", MAP), ("string", b""), ("find", b"a"),
+                            ("drain", b""), ("whole", b"")):
             yield Case("targeted", "limit", kind, body, sheet, 1, 0)
 
 
@@ -539,7 +586,8 @@ def random_cases(rng, count, tables):
                 bodies.append(body)
         for body, (rows, _) in zip(bodies, tables(bodies)):
             root, children, attributes = of_body(body, rows)
-            sheets = [("struct", gen.fitting_structure_sheet(rng, root, children, attributes)), ("struct", gen.structure_sheet(rng)), ("list", gen.list_sheet(rng)),
+            sheets = [("struct", gen.fitting_structure_sheet(rng, root, children, attributes)), ("struct", gen.structure_sheet(rng)),
+                      ("list", gen.list_sheet(rng)),
                       ("strings", gen.list_sheet(rng)), ("map", gen.map_sheet(rng)), ("map", rng.choice(MAP_SHEETS)),
                       ("find", rng.choice([root, rng.choice(children) if children else b"a", rng.choice(gen.LOCALS)])),
                       (rng.choice(["bool", "int"]), b""), ("string", b""), ("whole", b""), ("drain", b"")]

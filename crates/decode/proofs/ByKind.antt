@@ -32,7 +32,8 @@ pub record ByKind (kind : ℕ) (u : Tok) : Type 0 where
   pub error : 1 ≤ kind → kind ≤ mostKind → isError u ≡ true → kind ≡ 8
 
 -- what is no text is passed over
-passed : {v : List ℕ} {kind : ℕ} (x : Matter) → OfMatter v kind x → (kind ≡ 6 → ⊥) → (take : List ℕ → Answer (List ℕ) → Answer (List ℕ)) (s : Scope) (d : Depth)
+passed : {v : List ℕ} {kind : ℕ} (x : Matter) → OfMatter v kind x → (kind ≡ 6 → ⊥)
+    → (take : List ℕ → Answer (List ℕ) → Answer (List ℕ)) (s : Scope) (d : Depth)
     → (more : Answer (List ℕ)) → textTurn take s d (matter x) more ≡ more
 passed (text b) w f take s d more = absurd (f (w .isText b refl))
 passed misc w f take s d more = refl

@@ -22,11 +22,13 @@ use Rattle.xml.specs.Drain.{sameName, hasName}
 use Rattle.xml.specs.declared.Cause.{Cause}
 use Rattle.decode.specs.declared.drain.Fault.{Fault}
 use Rattle.decode.specs.Rows.{InTable, Readable, nameAt, valueAt}
-use Rattle.decode.specs.Drain.{namesBack, asFault, valueFault, isValid, valuePasses, faultIf, LiesIn, faultOf, FaultIs, WellPlaced, topOf}
+use Rattle.decode.specs.Drain.{namesBack, asFault, valueFault, isValid, valuePasses, faultIf, LiesIn, faultOf, FaultIs, WellPlaced}
+use Rattle.decode.specs.Drain.{topOf}
 use Rattle.decode.proofs.Names.{value-span}
 
 -- ---- a name that repeats
-pub names-first : (body t : List ℕ) (tag j : ℕ) → tag + 1 < j → namesBack body t tag j ≡ nameAt body t (j - 1) ∷ namesBack body t tag (j - 1)
+pub names-first : (body t : List ℕ) (tag j : ℕ) → tag + 1 < j
+    → namesBack body t tag j ≡ nameAt body t (j - 1) ∷ namesBack body t tag (j - 1)
 names-first body t tag j h = let e : j - (tag + 1) ≡ suc ((j - 1) - (tag + 1)) = omega arith in rw e
 
 -- row k is compared with the rows back to j: those before are to be compared still
@@ -165,13 +167,17 @@ module _ (body t : List ℕ) (top k : ℕ) {kind : ℕ} (e : kind ≡ getD t (k 
       → FaultIs body t top k Fault.Nothing
   unfolding tokAs
   fault-none p a b c d =
-      record { is = rw (← e) (go (kind-of kind (nameAt body t k) (valueAt body t k)) (omega (arith, p .least)) (omega (arith, p .most)) a b c d) }
+      record {
+        is = rw (← e) (go (kind-of kind (nameAt body t k) (valueAt body t k)) (omega (arith, p .least))
+            (omega (arith, p .most)) a b c d);
+      }
     where
       of : {v : List ℕ} {i : ℕ} (x : Matter) → OfMatter v i x → (i ≡ 6 → ⊥) → Fault.Nothing ≡ valueFault (referencesIn x)
       of (text v) w c = absurd (c (w .isText v refl))
       of misc w c = rw validated-none
 
-      go : {n : Name} {v : List ℕ} {i : ℕ} {u : Tok} → Kind n v i u → 1 ≤ i → i ≤ mostKind → (i ≡ 2 → ⊥) → (i ≡ 4 → ⊥) → (i ≡ 6 → ⊥) → (i ≡ 8 → ⊥)
+      go : {n : Name} {v : List ℕ} {i : ℕ} {u : Tok} → Kind n v i u → 1 ≤ i → i ≤ mostKind → (i ≡ 2 → ⊥) → (i ≡ 4 → ⊥) → (i ≡ 6 → ⊥)
+          → (i ≡ 8 → ⊥)
           → Fault.Nothing ≡ faultOf (nameAt body t top) (namesBack body t top k) u
       go of-start l m a b c d = refl
       go of-attr l m a b c d = absurd (a refl)

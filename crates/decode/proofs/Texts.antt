@@ -58,7 +58,8 @@ module _ {body t : List ℕ} {n : ℕ} {f : Failure} {s : ScopeRow} {d₀ k₀ d
   module _ (h : k < n) {kind : ℕ} (g : kind ≡ getD t (k * 8 + 0) 0) where
     -- what one row does
     turned : (u : Tok) → tokAt body t k ≡ u
-        → textTurn takeFirst (scopeAt body t s) (depthAfter u (depth d)) u (firstFrom body t n f s (depthAfter u (depth d)) (suc k)) ≡ answer
+        → textTurn takeFirst (scopeAt body t s) (depthAfter u (depth d)) u
+        (firstFrom body t n f s (depthAfter u (depth d)) (suc k)) ≡ answer
     turned u e =
         sym (first-text-token (failureAt f) (scopeAt body t s) (depth d) u (toksFrom body t n (suc k)))
         ∙ (ap (firstText (failureAt f) (scopeAt body t s) (depth d)) (sym (rw (e, add-one k) at (toks-next body t n k h))) ∙ w .rest)

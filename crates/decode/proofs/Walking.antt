@@ -18,23 +18,26 @@ use Rattle.lists.proofs.Tests.{false-true, pick-all}
 use Rattle.lists.specs.Decide.{isYes}
 use Rattle.reference.specs.Text.{validated}
 use Rattle.reference.specs.declared.Validated.{Validated}
-use Rattle.table.specs.Row.{Row, Name, Tok, referencesIn, bad, tokAs, toksOf, rowsOf}
+use Rattle.table.specs.Row.{Row, Name, Tok, referencesIn, bad, toksOf, rowsOf}
 use Rattle.table.proofs.Classes.{Kind, of-start, of-attr, of-gt, of-close, of-slash, of-matter, of-error, kind-of}
-use Rattle.table.specs.Rules.{closesElement, endsTag, inTagOnly, mayBeInTag, openCount, Place, atFirst, after, RowRules, EachRow, row, TableRules}
+use Rattle.table.specs.Rules.{closesElement, endsTag, inTagOnly, mayBeInTag, openCount, Place, atFirst, after, RowRules, EachRow, row}
+use Rattle.table.specs.Rules.{TableRules}
 use Rattle.table.specs.Test.{decTable}
 use Rattle.table.proofs.OrderLaws.{count-within}
 use Rattle.table.proofs.Test.{first}
 use Rattle.table.proofs.Pass.{obeyed}
 use Rattle.table.specs.Flat.{rowAt, rowsFrom}
 use Rattle.table.proofs.Flat.{length-rows, rows-same, rows-whole, unroll, rolled-out, spans-in}
-use Rattle.xml.specs.Drain.{sameName, hasName, drainedBy, drained, State, going, failed, withValue, withAttribute, closed, popped, step, walk, verdict}
+use Rattle.xml.specs.Drain.{sameName, hasName, drainedBy, drained, State, going, failed, withValue, withAttribute, closed, popped, step}
+use Rattle.xml.specs.Drain.{walk, verdict}
 use Rattle.xml.specs.Drain.{walked}
 use Rattle.xml.specs.Passed.{namesAfter}
 use Rattle.xml.specs.declared.Cause.{Cause}
 use Rattle.xml.specs.declared.Drained.{Drained}
 use Rattle.decode.specs.declared.drain.Fault.{Fault}
 use Rattle.decode.specs.Rows.{InTable, nameAt, valueAt, tokAt}
-use Rattle.decode.specs.Drain.{namesBack, asFault, valueFault, faultOf, FaultIs, WellPlaced, topOf, MayEnter, Entered, Walkable}
+use Rattle.decode.specs.Drain.{namesBack, asFault, valueFault, faultOf, FaultIs, WellPlaced, topOf, MayEnter, startsAfter, Entered}
+use Rattle.decode.specs.Drain.{Walkable}
 use Rattle.decode.proofs.Faults.{names-first, plain-none}
 
 -- ---- the open elements, by the rows in which they start
@@ -48,14 +51,10 @@ stack-set body t starts zero i x h = refl
 stack-set body t starts (suc d) i x h =
     rw (getD-set-other starts i d x 0 (λ e. omega arith), stack-set body t starts d i x (omega arith))
 
--- the start rows after row k, of a kind, where d elements are open
-abbrev stored : List ℕ → ℕ → ℕ → ℕ → List ℕ
-stored starts d k kind = pick (eqb kind 1) (set starts d k) starts
-
-stored-in : (starts : List ℕ) (d k kind : ℕ) → (kind ≡ 1 → d < length starts) → ((i : ℕ) → i < d → getD starts i 0 < k) → (i : ℕ)
+starts-in : (starts : List ℕ) (d k kind : ℕ) → (kind ≡ 1 → d < length starts) → ((i : ℕ) → i < d → getD starts i 0 < k) → (i : ℕ)
     → i < openCount d kind
-    → getD (stored starts d k kind) i 0 < k + 1
-stored-in starts d k kind room f i = go (eqb kind 1) (closesElement kind) refl
+    → getD (startsAfter starts d k kind) i 0 < k + 1
+starts-in starts d k kind room f i = go (eqb kind 1) (closesElement kind) refl
   where
     under : d < length starts → (b : Bool) → leb d i ≡ b → i < suc d → getD (set starts d k) i 0 < k + 1
     under h true q l = let e : i ≡ d = omega (arith, leb-true d i q) in rw (e, getD-set-same starts d k 0 h) (omega arith)
@@ -146,7 +145,7 @@ module _ (body t starts : List ℕ) (d k : ℕ) (v : List ℕ) (names : List Nam
       → (kind ≡ 4 → 0 < d)
       → step k (stackOf body t starts d) names u
       ≡ told (faultOf (nameAt body t (topOf starts d)) (namesBack body t (topOf starts d) k) u) k
-      (going (stackOf body t (stored starts d k kind) (openCount d kind)) (namesAfter names u))
+      (going (stackOf body t (startsAfter starts d k kind) (openCount d kind)) (namesAfter names u))
   row-step of-start m a o = rw (more (m refl))
   row-step of-attr m a o =
       rw (← a refl) (told-attribute (hasName (nameAt body t k) names) v k (going (stackOf body t starts d) (nameAt body t k ∷ names)))
@@ -165,7 +164,7 @@ module _ (body t starts : List ℕ) (d k : ℕ) (v : List ℕ) (names : List Nam
       → (b ≡ true → mayBeInTag kind ≡ true)
       → (b ≡ true → TagAt body t (topOf starts d) k names)
       → pick (eqb kind 1) true (pick (endsTag kind) false b) ≡ true
-      → TagAt body t (topOf (stored starts d k kind) (openCount d kind)) (k + 1) (namesAfter names u)
+      → TagAt body t (topOf (startsAfter starts d k kind) (openCount d kind)) (k + 1) (namesAfter names u)
   tag-after of-start z m f a x = rw (getD-set-same starts d k 0 (m refl)) (tag-first body t k)
   tag-after of-attr z m f a x = tag-more (a x)
   tag-after of-gt z m f a x = false-true x
@@ -259,7 +258,7 @@ module _ {body t : List ℕ} {n : ℕ} {starts : List ℕ} {depth k low high : �
   module _ {r : Fault} (q : FaultIs body t (topOf starts depth) k r) where
     turned : walk (k + 1)
         (told r k
-        (going (stackOf body t (stored starts depth k (getD t (k * 8 + 0) 0)) (openCount depth (getD t (k * 8 + 0) 0)))
+        (going (stackOf body t (startsAfter starts depth k (getD t (k * 8 + 0) 0)) (openCount depth (getD t (k * 8 + 0) 0)))
         (namesAfter (w .names) (tokAt body t k))))
         (toksOf body (rowsFrom t (k + 1) (n - (k + 1))))
         ≡ walk 0 (going [] []) (toksOf body (rowsOf t))
@@ -294,7 +293,7 @@ module _ {body t : List ℕ} {n : ℕ} {starts : List ℕ} {depth k low high : �
             limit = count-within depth (getD t (k * 8 + 0) 0) 256 (w .limit) (row-room .room);
             size = pick-all (λ l. length l ≡ 256) (eqb (getD t (k * 8 + 0) 0) 1) (set starts depth k) starts
                 (length-set starts depth k ∙ w .size) (w .size);
-            rowsIn = stored-in starts depth k (getD t (k * 8 + 0) 0) room (w .rowsIn);
+            rowsIn = starts-in starts depth k (getD t (k * 8 + 0) 0) room (w .rowsIn);
             names = namesAfter (w .names) (tokAt body t k);
             tagged =
                 tag-after body t starts depth k (valueAt body t k) (w .names) kind-here no-error room
@@ -321,7 +320,8 @@ pub length-toks : (body : List ℕ) (l : List Row) → length (toksOf body l) �
 length-toks body [] = refl
 length-toks body (r ∷ l) = ap suc (length-toks body l)
 
-module _ {body t : List ℕ} {n : ℕ} {starts : List ℕ} {depth k low high : ℕ} (q : Walkable body t) (w : WalkAt body t n starts depth k low high)
+module _ {body t : List ℕ} {n : ℕ} {starts : List ℕ} {depth k low high : ℕ} (q : Walkable body t)
+    (w : WalkAt body t n starts depth k low high)
     (h : n ≤ k) where
   ended : walk 0 (going [] []) (toksOf body (rowsOf t)) ≡ going (stackOf body t starts depth) (w .names)
   unfolding walk

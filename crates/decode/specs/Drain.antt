@@ -9,7 +9,7 @@ use Rattle.lists.specs.Tests.{pick}
 use Rattle.reference.specs.Text.{validated}
 use Rattle.reference.specs.declared.Validated.{Validated}
 use Rattle.table.specs.Row.{Name, Tok, start, attr, gt, close, slash, matter, referencesIn, bad, rowsOf}
-use Rattle.table.specs.Rules.{mostKind, openCount, atFirst, EachRow}
+use Rattle.table.specs.Rules.{mostOpen, mostKind, openCount, atFirst, EachRow}
 use Rattle.xml.specs.Drain.{sameName, hasName}
 use Rattle.xml.specs.declared.Cause.{Cause}
 use Rattle.decode.specs.declared.drain.Fault.{Fault}
@@ -76,12 +76,15 @@ topOf starts (suc d) = getD starts d 0
 -- row k is a row of the table, and where so many are open and it starts an element, there is room for it
 pub record MayEnter (t : List ℕ) (depth k : ℕ) : Type 0 where
   pub row : InTable t k
-  pub limit : depth ≤ 256
-  pub room : getD t (k * 8 + 0) 0 ≡ 1 → depth < 256
+  pub limit : depth ≤ mostOpen
+  pub room : getD t (k * 8 + 0) 0 ≡ 1 → depth < mostOpen
 
--- after row k, of a kind, where so many were open: it is put after them if it starts an element
+-- the start rows after row k, of a kind, where so many were open: it is put after them if it starts an element
+abbrev pub startsAfter : List ℕ → ℕ → ℕ → ℕ → List ℕ
+startsAfter starts depth k kind = pick (eqb kind 1) (set starts depth k) starts
+
 pub record Entered (starts : List ℕ) (depth kind k : ℕ) (after : List ℕ) (r : ℕ) : Type 0 where
-  pub rows : after ≡ pick (eqb kind 1) (set starts depth k) starts
+  pub rows : after ≡ startsAfter starts depth k kind
   pub count : r ≡ openCount depth kind
 
 -- ---- whole rows, each of which obeys its rules where it stands

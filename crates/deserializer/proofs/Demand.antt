@@ -20,14 +20,14 @@ use Rattle.output.specs.Held.{roomOf}
 use Rattle.output.specs.Call.{ReadingCall}
 use Rattle.deserializer.specs.declared.Shape.{Shape}
 use Rattle.deserializer.specs.Call.{ShapeCall, SheetCall}
-use Rattle.deserializer.specs.Demand.{MayAnswer, finished, refused, PieceAt, shapeAt, Ordered, Demanded}
+use Rattle.deserializer.specs.Demand.{MayAnswer, finished, refused, PieceEntry, shapeAt, Ordered, Demanded}
 
 -- ---- the numbers of the k-th entry stand at k * 6
-first-piece : {u : Upload} {sheet texts : List ℕ} (y : Entry) (s : List ℕ) → Handed u sheet texts y → PieceAt u (sixNumbers y ++ s) 0
+first-piece : {u : Upload} {sheet texts : List ℕ} (y : Entry) (s : List ℕ) → Handed u sheet texts y → PieceEntry u (sixNumbers y ++ s) 0
 first-piece y s p = record { is = p .piece }
 
-later-piece : {u : Upload} (y : Entry) (s : List ℕ) (i : ℕ) → PieceAt u s i
-    → PieceAt u (sixNumbers y ++ s) (suc (suc (suc (suc (suc (suc i))))))
+later-piece : {u : Upload} (y : Entry) (s : List ℕ) (i : ℕ) → PieceEntry u s i
+    → PieceEntry u (sixNumbers y ++ s) (suc (suc (suc (suc (suc (suc i))))))
 later-piece y s i p =
     let b : suc (suc (suc (suc (suc (suc i))))) + 4 ≡ suc (suc (suc (suc (suc (suc (i + 4)))))) = omega arith in
     let c : suc (suc (suc (suc (suc (suc i))))) + 5 ≡ suc (suc (suc (suc (suc (suc (i + 5)))))) = omega arith in
@@ -41,13 +41,13 @@ six-more : (k : ℕ) → suc k * 6 ≡ suc (suc (suc (suc (suc (suc (k * 6))))))
 six-more k = omega arith
 
 pieces-of : {u : Upload} {sheet texts : List ℕ} (l : List Entry) → Every (Handed u sheet texts) l → (x : List ℕ) (k : ℕ) → k < length l
-    → PieceAt u (numbersOf l ++ x) (k * 6)
+    → PieceEntry u (numbersOf l ++ x) (k * 6)
 pieces-of [] every x k h = absurd (omega arith)
 pieces-of {u} (y ∷ l) every x zero h =
-    subst (λ (s : List ℕ). PieceAt u s 0) (sym (numbers-cons y l x)) (first-piece y (numbersOf l ++ x) (every-first every))
+    subst (λ (s : List ℕ). PieceEntry u s 0) (sym (numbers-cons y l x)) (first-piece y (numbersOf l ++ x) (every-first every))
 pieces-of {u} (y ∷ l) every x (suc k) h =
-    subst (λ (s : List ℕ). PieceAt u s (suc k * 6)) (sym (numbers-cons y l x))
-    (subst (λ (i : ℕ). PieceAt u (sixNumbers y ++ (numbersOf l ++ x)) i) (sym (six-more k))
+    subst (λ (s : List ℕ). PieceEntry u s (suc k * 6)) (sym (numbers-cons y l x))
+    (subst (λ (i : ℕ). PieceEntry u (sixNumbers y ++ (numbersOf l ++ x)) i) (sym (six-more k))
     (later-piece y (numbersOf l ++ x) (k * 6) (pieces-of l (every-rest every) x k (omega arith))))
 
 -- ---- the number

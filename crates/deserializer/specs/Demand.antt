@@ -20,12 +20,12 @@ use Rattle.deserializer.specs.declared.Shape.{Shape}
 
 -- "Each piece it hands out .. is exactly its element's bytes .. and that element's rows .. pass the drain again": the entry whose numbers
 -- stand at i, if it is of kind 2
-pub record PieceAt (u : Upload) (entries : List ℕ) (i : ℕ) : Type 0 where
+pub record PieceEntry (u : Upload) (entries : List ℕ) (i : ℕ) : Type 0 where
   pub is : getD entries i 0 ≡ pieceKind → ElementPiece (u .body) (u .rows) (getD entries (i + 4) 0) (getD entries (i + 5) 0)
 
 -- each of the n entries in the buffer
 pub record PiecesIn (u : Upload) (entries : List ℕ) (n : ℕ) : Type 0 where
-  pub each : (k : ℕ) → k < n → PieceAt u entries (k * 6)
+  pub each : (k : ℕ) → k < n → PieceEntry u entries (k * 6)
 
 -- the reading of the definitions, at an order of the groups where it is a structure's
 abbrev pub shapeAt : Shape → List ℕ → readings.Shape

@@ -31,13 +31,17 @@ met toks = go (rootOf toks)
 pub scopes :
     map met (
     -- <r><a/><p:b>2</p:b></r>
-    (start (plain "r") ∷ gt ∷ start (plain "a") ∷ slash ∷ start (record { prefix = ascii "p"; local = ascii "b" }) ∷ gt ∷ matter (text (ascii "2")) ∷ close (record { prefix = ascii "p"; local = ascii "b" }) ∷ close (plain "r") ∷ [])
+    (start (plain "r") ∷ gt ∷ start (plain "a") ∷ slash ∷ start (record { prefix = ascii "p"; local = ascii "b" }) ∷ gt ∷ matter
+    (text (ascii "2")) ∷ close (record { prefix = ascii "p"; local = ascii "b" }) ∷ close (plain "r") ∷ [])
     -- <r><a><a></a></a><b/></r>: the inner end tag is not the outer one's
-    ∷ (start (plain "r") ∷ gt ∷ start (plain "a") ∷ gt ∷ start (plain "a") ∷ gt ∷ close (plain "a") ∷ close (plain "a") ∷ start (plain "b") ∷ slash ∷ close (plain "r") ∷ [])
+    ∷ (start (plain "r") ∷ gt ∷ start (plain "a") ∷ gt ∷ start (plain "a") ∷ gt ∷ close (plain "a") ∷ close (plain "a") ∷ start
+    (plain "b") ∷ slash ∷ close (plain "r") ∷ [])
     -- <r><a>1</b><c>2</c></r>: the scope of a is ended by no tag, so c is never seen
-    ∷ (start (plain "r") ∷ gt ∷ start (plain "a") ∷ gt ∷ matter (text (ascii "1")) ∷ close (plain "b") ∷ start (plain "c") ∷ gt ∷ matter (text (ascii "2")) ∷ close (plain "c") ∷ close (plain "r") ∷ [])
+    ∷ (start (plain "r") ∷ gt ∷ start (plain "a") ∷ gt ∷ matter (text (ascii "1")) ∷ close (plain "b") ∷ start (plain "c") ∷ gt ∷ matter
+    (text (ascii "2")) ∷ close (plain "c") ∷ close (plain "r") ∷ [])
     -- <r><a x="&zz;">1</a><b>2</b></r>: the level ends at the attribute
-    ∷ (start (plain "r") ∷ gt ∷ start (plain "a") ∷ attr (plain "x") (ascii "&zz;") ∷ gt ∷ matter (text (ascii "1")) ∷ close (plain "a") ∷ start (plain "b") ∷ gt ∷ matter (text (ascii "2")) ∷ close (plain "b") ∷ close (plain "r") ∷ [])
+    ∷ (start (plain "r") ∷ gt ∷ start (plain "a") ∷ attr (plain "x") (ascii "&zz;") ∷ gt ∷ matter (text (ascii "1")) ∷ close
+    (plain "a") ∷ start (plain "b") ∷ gt ∷ matter (text (ascii "2")) ∷ close (plain "b") ∷ close (plain "r") ∷ [])
     -- <r x="&zz;"/>: no root
     ∷ (start (plain "r") ∷ attr (plain "x") (ascii "&zz;") ∷ slash ∷ [])
     ∷ [])

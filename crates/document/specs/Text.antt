@@ -7,7 +7,7 @@ use Rattle.refusal.specs.declared.Refusal.{Refusal}
 use Rattle.refusal.specs.Answer.{Answer, gives, refuses, onward}
 use Rattle.reference.specs.Text.{Out, unescaped}
 use Rattle.reference.specs.Text as text
-use Rattle.table.specs.Row.{Matter, text, misc, Tok, start, attr, gt, close, slash, matter, bad}
+use Rattle.table.specs.Row.{text, misc, Tok, start, attr, gt, close, slash, matter, bad}
 use Rattle.document.specs.declared.Depth.{Depth}
 use Rattle.document.specs.Reader.{depthAfter, Scope, isEnd}
 use Rattle.document.specs.Scope.{Child, scopeOf}

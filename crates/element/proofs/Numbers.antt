@@ -1,13 +1,12 @@
 -- Laws of the numbers of a row counted from a place, and of the stores that write them.
-use Prim.Native.Nat.{ℕ, zero, suc, _+_, _-_, _*_, _/_, _≤_, _<_}
+use Prim.Native.Nat.{ℕ, zero, suc, _+_, _-_, _*_, _≤_, _<_}
 use mathlib.Core.Path.{_≡_, refl, sym, _∙_, ap}
 use mathlib.Core.Bool.{Bool, true, false}
-use mathlib.Core.List.{List, [], _∷_, _++_, map}
-use native.Mathlib.Nat.{add-zero}
+use mathlib.Core.List.{List, [], _∷_, _++_}
 use native.Mathlib.Numerals.{add-one}
 use native.Mathlib.Omega.{arith}
 use borrow.Author.Needs.{needs}
-use lib.ListN.{length, getD, set, take, length-append}
+use lib.ListN.{length, getD, set, take}
 use lib.Seq.{sets, length-sets}
 use Rattle.lists.specs.Tests.{pick}
 use Rattle.lists.proofs.Overwrite.{sets-append}
@@ -129,7 +128,8 @@ unfolding tableOf
 moved-snoc place [] r = refl
 moved-snoc place (x ∷ l) r =
     let m = moved place x in
-    ap {B = List ℕ} (λ q. m .kind ∷ m .prefixStart ∷ m .prefixLen ∷ m .localStart ∷ m .localLen ∷ m .valueStart ∷ m .valueLen ∷ m .position ∷ q)
+    ap {B = List ℕ} (λ q. m .kind ∷ m .prefixStart ∷ m .prefixLen ∷ m .localStart ∷ m .localLen ∷ m .valueStart ∷ m .valueLen ∷ m
+    .position ∷ q)
     (moved-snoc place l r)
 
 pub moved-length : (place : ℕ) (t : List ℕ) (k i : ℕ) → length (movedTable place (rowsFrom t k i)) ≡ i * 8
@@ -146,7 +146,8 @@ copied-more : (t : List ℕ) (k place : ℕ) (old : List ℕ) (i : ℕ)
 copied-more t k place old i =
     let so-far = movedTable place (rowsFrom t k i) in
     let row = eightNumbers (moved place (rowAt t (k + i))) in
-    let all : movedTable place (rowsFrom t k (suc i)) ≡ so-far ++ row = ap (movedTable place) (rows-snoc t k i) ∙ moved-snoc place (rowsFrom t k i) (rowAt t (k + i)) in
+    let all : movedTable place (rowsFrom t k (suc i)) ≡ so-far ++ row = ap (movedTable place) (rows-snoc t k i)
+    ∙ moved-snoc place (rowsFrom t k i) (rowAt t (k + i)) in
     stored-more old so-far row (i * 8) (moved-length place t k i) ∙ ap (λ (l : List ℕ). sets old 0 l) (sym all)
 
 module _ {t : List ℕ} {k n place : ℕ} {old new : List ℕ} {i : ℕ} (c : Copying t k n place old new i) where

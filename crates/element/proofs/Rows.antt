@@ -1,5 +1,5 @@
 -- Laws of where an element's rows are: the row in which it starts, and how many they are.
-use Prim.Native.Nat.{ℕ, zero, suc, _+_, _-_, _*_, _/_, _≤_, _<_, _^_}
+use Prim.Native.Nat.{ℕ, suc, _+_, _-_, _*_, _/_, _≤_, _<_, _^_}
 use mathlib.Core.Path.{_≡_, refl, sym, _∙_, ap}
 use mathlib.Core.Bool.{Bool, true, false}
 use mathlib.Core.List.{List, [], _∷_}
@@ -72,7 +72,8 @@ closing-here : (n : ℕ) (r : Row) (rest : List Row) → openCount n (r .kind) �
 unfolding closing
 closing-here n r rest e = rw (eq-eqb (openCount n (r .kind)) 0 e)
 
-closing-on : (n : ℕ) (r : Row) (rest : List Row) → (openCount n (r .kind) ≡ 0 → ⊥) → closing n (r ∷ rest) ≡ suc (closing (openCount n (r .kind)) rest)
+closing-on : (n : ℕ) (r : Row) (rest : List Row) → (openCount n (r .kind) ≡ 0 → ⊥)
+    → closing n (r ∷ rest) ≡ suc (closing (openCount n (r .kind)) rest)
 unfolding closing
 closing-on n r rest f = rw (ne-eqb (openCount n (r .kind)) 0 f)
 

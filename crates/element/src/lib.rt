@@ -13,6 +13,11 @@ use table::field;
 use table::kind::START;
 use table::number::KIND;
 use table::number::LOCAL;
+use table::number::POSITION;
+use table::number::PREFIX;
+use table::number::PREFIX_LEN;
+use table::number::VALUE;
+use table::number::VALUE_LEN;
 use table::open_after;
 use table::uses_name;
 
@@ -100,17 +105,17 @@ fn moved_number(rows: &[u32], k: usize, j: usize, place: u32) -> u32
     ensures { λ r. ⌜ r ≡ getD (eightNumbers (moved place (rowAt (now (rows .entry)) k))) j 0 ⌝ }
 {
     let at = k * 8;
-    if j == 1 {
-        return moved_span(rows[at + 1], rows[at + 2], place);
+    if j == PREFIX {
+        return moved_span(rows[at + PREFIX], rows[at + PREFIX_LEN], place);
     }
-    if j == 3 {
-        return moved_local(uses_name(field(rows, k, KIND)), rows[at + 3], place);
+    if j == LOCAL {
+        return moved_local(uses_name(field(rows, k, KIND)), rows[at + LOCAL], place);
     }
-    if j == 5 {
-        return moved_span(rows[at + 5], rows[at + 6], place);
+    if j == VALUE {
+        return moved_span(rows[at + VALUE], rows[at + VALUE_LEN], place);
     }
-    if j == 7 {
-        return minus(rows[at + 7], place);
+    if j == POSITION {
+        return minus(rows[at + POSITION], place);
     }
     rows[at + j]
 }

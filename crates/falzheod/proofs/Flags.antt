@@ -19,15 +19,18 @@ use Rattle.scalar.proofs.Calling.{call-boolean, call-integer, call-string}
 use Rattle.deserializer.specs.Call.{SetBy, settingsBy}
 
 module _ (body table : List ℕ) (final : ℕ) {flags : ℕ} {s : codec.Settings} (b : SetBy flags 0 s) (depth : ShapeDepth) where
-  pub read-boolean : {x : Answer Bool} {old new r : ℕ} → BooleanCall x old new r → x ≡ booleanReading (uploaded body table final) (settingsOf s) depth
+  pub read-boolean : {x : Answer Bool} {old new r : ℕ} → BooleanCall x old new r
+      → x ≡ booleanReading (uploaded body table final) (settingsOf s) depth
       → BooleanCall (booleanReading (uploaded body table final) (settingsBy flags 0) depth) old new r
   read-boolean c q = rw (← b .is) (call-boolean c q)
 
-  pub read-integer : {x : Answer ℤ} {old new : ℤ} {r : ℕ} → IntegerCall x old new r → x ≡ integerReading (uploaded body table final) (settingsOf s) depth
+  pub read-integer : {x : Answer ℤ} {old new : ℤ} {r : ℕ} → IntegerCall x old new r
+      → x ≡ integerReading (uploaded body table final) (settingsOf s) depth
       → IntegerCall (integerReading (uploaded body table final) (settingsBy flags 0) depth) old new r
   read-integer c q = rw (← b .is) (call-integer c q)
 
-  pub read-string : {x : Copied} {old new : List ℕ} {n r : ℕ} → CopyIs (stringReading (uploaded body table final) (settingsOf s) depth (length old)) old new x → LengthCall (copiedAs x) n r
+  pub read-string : {x : Copied} {old new : List ℕ} {n r : ℕ}
+      → CopyIs (stringReading (uploaded body table final) (settingsOf s) depth (length old)) old new x → LengthCall (copiedAs x) n r
       → StringCall (stringReading (uploaded body table final) (settingsBy flags 0) depth (length old)) old new n r
   read-string q c = rw (← b .is) (call-string q c)
 

@@ -4,6 +4,7 @@ use mathlib.Core.Path.{_≡_}
 use mathlib.Core.Bool.{Bool, true, false}
 use mathlib.Core.List.{List}
 use borrow.Author.Needs.{needs}
+use Rattle.lists.specs.Tests.{yesNo}
 use Rattle.refusal.specs.declared.Refusal.{Refusal}
 use Rattle.refusal.specs.Numbers.{number}
 use Rattle.reference.specs.Text.{Unescape}
@@ -11,7 +12,7 @@ use Rattle.reference.specs.declared.Validated.{Validated}
 use Rattle.reference.specs.declared.Unescaped.{Unescaped}
 use Rattle.xml.specs.declared.Cause.{Cause}
 use Rattle.xml.specs.declared.Drained.{Drained}
-use Rattle.falzheod.specs.Numbers.{finished, yesNo, validatedNumber, UnescapeCall, causeNumber, DrainCall}
+use Rattle.falzheod.specs.Numbers.{finished, validatedNumber, UnescapeCall, causeNumber, DrainCall}
 
 -- ---- each case, from what the call ensures of its answer and what the match found
 module _ {x : Validated} (y : Validated) (q : x ≡ y) where
@@ -38,7 +39,8 @@ module _ (d : Drained) {x : Drained} (q : x ≡ d) where
   pub call-table : x ≡ Drained.Table → DrainCall d 0 0 (number Refusal.Table)
   call-table e = record { number = rw (← q, e); first = rw (← q, e); why = rw (← q, e) }
 
-  pub call-ill-formed : {row n : ℕ} {cause : Cause} → x ≡ Drained.IllFormed row cause → n ≡ causeNumber cause → DrainCall d row n (number Refusal.IllFormed)
+  pub call-ill-formed : {row n : ℕ} {cause : Cause} → x ≡ Drained.IllFormed row cause → n ≡ causeNumber cause
+      → DrainCall d row n (number Refusal.IllFormed)
   call-ill-formed e c = record { number = rw (← q, e); first = rw (← q, e); why = rw (← q, e) c }
 
 module _ {x : Bool} (y : Bool) (q : x ≡ y) where
@@ -48,4 +50,16 @@ module _ {x : Bool} (y : Bool) (q : x ≡ y) where
   pub call-no : x ≡ false → 0 ≡ yesNo y
   call-no e = rw (← q, e)
 
-pub ruleset call-laws = (needs, call-valid, call-invalid, call-length, call-bad, call-none, call-yes, call-no, call-passes, call-table, call-ill-formed)
+pub ruleset call-laws = (
+  needs,
+  call-valid,
+  call-invalid,
+  call-length,
+  call-bad,
+  call-none,
+  call-yes,
+  call-no,
+  call-passes,
+  call-table,
+  call-ill-formed,
+)

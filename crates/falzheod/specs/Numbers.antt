@@ -1,7 +1,6 @@
 -- Each answer as 01's number (refusal/specs/Numbers.antt) and values: 0 where the operation finished.
 use Prim.Native.Nat.{ℕ}
 use mathlib.Core.Path.{_≡_}
-use mathlib.Core.Bool.{Bool, true, false}
 use mathlib.Core.List.{List}
 use lib.ListN.{length}
 use Rattle.refusal.specs.declared.Refusal.{Refusal}
@@ -18,11 +17,6 @@ finished = 0
 -- how long a buffer is, where `length` is a parameter's name
 abbrev pub sizeOf : List ℕ → ℕ
 sizeOf l = length l
-
--- 1 or 0
-abbrev pub yesNo : Bool → ℕ
-yesNo true = 1
-yesNo false = 0
 
 -- "Validate. 7."
 abbrev pub validatedNumber : Validated → ℕ

@@ -1,10 +1,11 @@
 // The open operations as a static library for C and Rust (include/falzheod.h, rust/): each answers 01's number, 0 where it finished.
 // It only turns the answers of the crates below into numbers; specs/ sets out the number and the values of each case.
 ghost use mathlib.Core.Path.{_≡_};
+ghost use Rattle.lists.specs.Tests.{yesNo};
 ghost use Rattle.reference.specs.Text.{validated};
 ghost use Rattle.utf8.specs.Table.{isUtf8};
 ghost use Rattle.xml.specs.Drain.{drained};
-ghost use Rattle.falzheod.specs.Numbers.{validatedNumber, UnescapeCall, yesNo, causeNumber, DrainCall};
+ghost use Rattle.falzheod.specs.Numbers.{validatedNumber, UnescapeCall, causeNumber, DrainCall};
 
 pub mod aggregates;
 pub mod scalars;

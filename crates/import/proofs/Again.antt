@@ -1,5 +1,5 @@
 -- Laws of a piece that is read again by its own rows, and of the pieces of an upload one after another.
-use Prim.Native.Nat.{ℕ, zero, suc, _+_, _-_, _*_, _/_, _≤_, _<_, _^_}
+use Prim.Native.Nat.{ℕ, _+_, _-_, _*_, _/_, _≤_, _<_, _^_}
 use mathlib.Core.Path.{_≡_, refl, sym, _∙_, ap, subst}
 use mathlib.Core.Bool.{Bool, true, false}
 use mathlib.Core.List.{List}
@@ -7,8 +7,8 @@ use native.Mathlib.Omega.{arith}
 use borrow.Author.Needs.{needs}
 use borrow.Author.Tests.{eqb-true, eqb-false}
 use lib.Dec.{eqb}
-use lib.ListN.{length, getD, set, drop, take, length-set}
-use lib.Seq.{sets, length-sets, getD-set-same, getD-set-other}
+use lib.ListN.{length, getD, set, length-set}
+use lib.Seq.{length-sets, getD-set-same, getD-set-other}
 use Rattle.lists.specs.Parts.{part}
 use Rattle.table.specs.Row.{cut, rowsOf, tableOf}
 use Rattle.table.specs.Rules.{TableRules}
@@ -19,7 +19,7 @@ use Rattle.xml.specs.declared.Drained.{Drained}
 use Rattle.xml.specs.Drain.{drained}
 use Rattle.xml.proofs.Pass.{drained-document-is}
 use Rattle.xml.specs.Piece.{PieceAt, ElementPiece}
-use Rattle.readings.specs.Call.{Upload, Call, uploaded, calling}
+use Rattle.readings.specs.Call.{Upload, Call, uploaded}
 use Rattle.readings.specs.Output.{pieceKind}
 use Rattle.deserializer.specs.declared.Shape.{Shape}
 use Rattle.deserializer.specs.Call.{SheetCall}
@@ -32,7 +32,8 @@ use Rattle.import.specs.Import.{Passes, pieceUpload, Reread, RereadAt, R
 use Rattle.import.proofs.Rows.{few-rows, row-is, piece-table, copied}
 
 -- ---- one piece
-module _ {t : List ℕ} {place : ℕ} {old new : List ℕ} {n : ℕ} (o : OwnRows t place old new n) {body : List ℕ} {end : ℕ} (passed : Passes (uploaded body t end)) where
+module _ {t : List ℕ} {place : ℕ} {old new : List ℕ} {n : ℕ} (o : OwnRows t place old new n) {body : List ℕ} {end : ℕ}
+    (passed : Passes (uploaded body t end)) where
   rules : TableRules body t end
   rules = drained-document-is body t end .0 (passed .is) .0
 
@@ -94,7 +95,8 @@ module _ {t : List ℕ} {place : ℕ} {old new : List ℕ} {n : ℕ} (o : OwnRow
             may = kept .number;
           }
 
-pub piece-inside : {body t : List ℕ} {place len from size : ℕ} → ElementPiece body t place len → from ≡ place → size ≡ len → from + size ≤ length body
+pub piece-inside : {body t : List ℕ} {place len from size : ℕ} → ElementPiece body t place len → from ≡ place → size ≡ len
+    → from + size ≤ length body
 piece-inside x a b = rw (a, b) (x .is .inside)
 
 pub ruleset piece-laws = (needs, own-product, own-end, piece-inside, reread)
@@ -114,12 +116,14 @@ module _ {shape : Shape} {u : Upload} {entries : List ℕ} {call : Call} {room t
   pub entry-other : (getD entries (k * 6) 0 ≡ 2 → ⊥) → RereadOne shape u entries call room texts numbers numbers k
   entry-other f = left (λ a b c. f c)
 
-pub entry-piece : {body t : List ℕ} {end : ℕ} {entries : List ℕ} (k : ℕ) → demand.PieceAt (uploaded body t end) entries (k * 6) → getD entries (k * 6) 0 ≡ 2
+pub entry-piece : {body t : List ℕ} {end : ℕ} {entries : List ℕ} (k : ℕ) → demand.PieceEntry (uploaded body t end) entries (k * 6)
+    → getD entries (k * 6) 0 ≡ 2
     → ElementPiece body t (getD entries (k * 6 + 4) 0) (getD entries (k * 6 + 5) 0)
 entry-piece k p q = p .is q
 
 pub entry-read : {shape : Shape} {u : Upload} (entries : List ℕ) {call : Call} {room texts r : ℕ} (k : ℕ) (numbers : List ℕ)
-    → Reread shape u (getD entries (k * 6 + 4) 0) (getD entries (k * 6 + 5) 0) call room texts r → getD entries (k * 6) 0 ≡ 2 → k < length numbers
+    → Reread shape u (getD entries (k * 6 + 4) 0) (getD entries (k * 6 + 5) 0) call room texts r → getD entries (k * 6) 0 ≡ 2
+    → k < length numbers
     → RereadOne shape u entries call room texts numbers (set numbers k r) k
 entry-read entries {r = r} k numbers x q h =
     record {
@@ -143,11 +147,18 @@ pub record Again (shape : Shape) (u : Upload) (entries : List ℕ) (call : Call)
 pub again-start : (shape : Shape) (u : Upload) (entries : List ℕ) (call : Call) (n : ℕ) (en tx numbers : List ℕ)
     → Again shape u entries call (length en) (length tx) n numbers en tx numbers 0
 again-start shape u entries call n en tx numbers =
-    record { few = omega arith; done = record { each = λ k h. absurd (omega arith); others = λ k h. refl }; entryRoom = refl; textRoom = refl; long = refl }
+    record {
+      few = omega arith;
+      done = record { each = λ k h. absurd (omega arith); others = λ k h. refl };
+      entryRoom = refl;
+      textRoom = refl;
+      long = refl;
+    }
 
 module _ {shape : Shape} {u : Upload} {entries : List ℕ} {call : Call} {room texts n : ℕ} {before en tx numbers : List ℕ} {k : ℕ}
     (a : Again shape u entries call room texts n before en tx numbers k) where
-  pub again-more : {en′ tx′ numbers′ : List ℕ} → RereadOne shape u entries call (length en) (length tx) numbers numbers′ k → length en′ ≡ length en
+  pub again-more : {en′ tx′ numbers′ : List ℕ} → RereadOne shape u entries call (length en) (length tx) numbers numbers′ k
+      → length en′ ≡ length en
       → length tx′ ≡ length tx → k < n → Again shape u entries call room texts n before en′ tx′ numbers′ (k + 1)
   again-more {en′} {tx′} {numbers′} o p q l =
       record {
@@ -185,7 +196,7 @@ pub again-long : {shape : Shape} {u : Upload} {entries : List ℕ} {call : Call}
     → Again shape u entries call room texts n before en tx numbers k → length numbers ≡ length before
 again-long a = a .long
 
-pub pieces-at : {u : Upload} {entries : List ℕ} {count k : ℕ} → PiecesIn u entries count → k < count → demand.PieceAt u entries (k * 6)
+pub pieces-at : {u : Upload} {entries : List ℕ} {count k : ℕ} → PiecesIn u entries count → k < count → demand.PieceEntry u entries (k * 6)
 pieces-at p h = p .each _ h
 
 pub ruleset again-laws = (needs, again-start, again-more, again-done, again-long, pieces-at)

@@ -1,23 +1,23 @@
--- The rows of a piece: the row that is found for it is its element's, and what is copied is that element's rows, counted from its first byte.
+-- The rows of a piece: the row that is found for it is its element's, and what is copied is that element's rows, counted from its first
+-- byte.
 use Prim.Native.Nat.{ℕ, zero, suc, _+_, _-_, _*_, _/_, _≤_, _<_}
 use mathlib.Core.Path.{_≡_, refl, sym, _∙_, ap}
 use mathlib.Core.Bool.{Bool, true, false}
-use mathlib.Core.List.{List, [], _∷_, map, cons≢nil, head-eq-of-cons-eq}
+use mathlib.Core.List.{List, _∷_, cons≢nil, head-eq-of-cons-eq}
 use native.Mathlib.Omega.{arith}
 use borrow.Author.Tests.{leb-true, leb-false}
-use lib.Dec.{eqb, leb}
+use lib.Dec.{leb}
 use lib.ListN.{length, getD, take, drop}
 use lib.Seq.{sets}
-use Rattle.lists.specs.Tests.{pick}
 use Rattle.lists.proofs.Overwrite.{take-sets}
 use Rattle.table.specs.Row.{Row, rowsOf, tableOf}
-use Rattle.table.specs.Rules.{Place, atFirst, lastLt, EachRow, none, row, TableRules}
+use Rattle.table.specs.Rules.{Place, atFirst, lastLt, EachRow, row, TableRules}
 use Rattle.table.specs.Flat.{rowAt, rowsFrom}
 use Rattle.table.proofs.Flat.{length-rows, rows-same, rows-whole, here-or-later, drop-from}
 use Rattle.table.specs.Piece.{closing, elementRows, pieceStart, pieceRows, ElementAt}
 use Rattle.table.proofs.Element.{element-is}
 use Rattle.decode.proofs.Seen.{take-rows}
-use Rattle.element.specs.Rows.{movedTable, StartsAfter, FirstAfter}
+use Rattle.element.specs.Rows.{movedTable, FirstAfter}
 use Rattle.element.proofs.Numbers.{moved-length}
 use Rattle.element.proofs.Rows.{closing-low}
 
@@ -32,7 +32,8 @@ module _ (body t : List ℕ) where
   begun (suc m) s k {p} (row o r) l u =
       here-or-later (Begun (p .position)) s k l
       (record { late = λ q. o .tagBegins (rw q) .late; before = λ q. o .tagBegins (rw q) .before })
-      (λ h. let b = begun m (suc s) k r h (omega arith) in record { late = λ q. omega (arith, o .positionRises, b .late q); before = b .before })
+      (λ h. let b = begun m (suc s) k r h (omega arith) in
+      record { late = λ q. omega (arith, o .positionRises, b .late q); before = b .before })
 
   -- the local name of an earlier start row stands before it
   pub record Early (k i : ℕ) : Type 0 where
@@ -46,7 +47,8 @@ module _ (body t : List ℕ) where
       (λ h. early m (suc s) i k r h (omega arith))
 
 -- the row at a number
-at-row : (t : List ℕ) (s i m : ℕ) {first : Row} {rest : List Row} → drop i (rowsFrom t s m) ≡ first ∷ rest → (i < m) × (rowAt t (s + i) ≡ first)
+at-row : (t : List ℕ) (s i m : ℕ) {first : Row} {rest : List Row} → drop i (rowsFrom t s m) ≡ first ∷ rest
+    → (i < m) × (rowAt t (s + i) ≡ first)
 at-row t s i m {first} {rest} e = go (m - i) refl (sym (drop-from t s i m) ∙ e)
   where
     go : (n : ℕ) → m - i ≡ n → rowsFrom t (s + i) n ≡ first ∷ rest → (i < m) × (rowAt t (s + i) ≡ first)
@@ -87,7 +89,8 @@ module _ {body t : List ℕ} {end : ℕ} (rules : TableRules body t end) where
         go true p y q =
             let h = leb-true (suc r) k p in
             let s = f .found (omega (arith, there .0)) in
-            let l = rw begin-is at (early body t (length t / 8) 0 r k each (omega arith) (omega (arith, there .0)) .is h (s .starts) kind-is) in
+            let l = rw begin-is at (early body t (length t / 8) 0 r k each (omega arith) (omega (arith, there .0)) .is h
+            (s .starts) kind-is) in
             absurd (omega (arith, l, s .after))
         go false p true q = absurd (f .first k (leb-true (suc k) r q) (record { starts = kind-is; after = after }))
         go false p false q = omega (arith, leb-false (suc r) k p, leb-false (suc k) r q)
@@ -98,15 +101,18 @@ module _ {body t : List ℕ} {end : ℕ} (rules : TableRules body t end) where
         let z : 0 + k ≡ k = omega arith in
         let d : drop k (rowsOf t) ≡ rowsFrom t k (length t / 8 - k) = ap (drop k) flat ∙ rw z at (drop-from t 0 k (length t / 8)) in
         let low = closing-low 0 (rowsFrom t k (length t / 8 - k)) in
-        rw d (take-rows t k (closing 0 (rowsFrom t k (length t / 8 - k))) (length t / 8 - k) (omega (arith, low, length-rows t k (length t / 8 - k))))
+        rw d (take-rows t k (closing 0 (rowsFrom t k (length t / 8 - k))) (length t / 8 - k)
+        (omega (arith, low, length-rows t k (length t / 8 - k))))
 
     -- counted from its first byte
-    pub piece-table : movedTable from (rowsFrom t k (closing 0 (rowsFrom t k (length t / 8 - k)))) ≡ tableOf (pieceRows body (elementRows (rowsOf t) k))
+    pub piece-table : movedTable from (rowsFrom t k (closing 0 (rowsFrom t k (length t / 8 - k)))) ≡ tableOf
+        (pieceRows body (elementRows (rowsOf t) k))
     piece-table =
         let b : pieceStart body (elementRows (rowsOf t) k) ≡ from = rw (element-is (rowsOf t) k (a .cut-at) (a .starts)) (a .begins) in
         rw (b, element-rows)
 
-pub copied : (old t : List ℕ) (from k n : ℕ) → n * 8 ≤ length old → take (n * 8) (sets old 0 (movedTable from (rowsFrom t k n))) ≡ movedTable from (rowsFrom t k n)
+pub copied : (old t : List ℕ) (from k n : ℕ) → n * 8 ≤ length old
+    → take (n * 8) (sets old 0 (movedTable from (rowsFrom t k n))) ≡ movedTable from (rowsFrom t k n)
 copied old t from k n h =
     let x = movedTable from (rowsFrom t k n) in
     let z : 0 + length x ≡ n * 8 = omega (arith, moved-length from t k n) in

@@ -6,8 +6,9 @@ ghost use lib.ListN.{length};
 ghost use Rattle.xml.specs.Piece.{ElementPiece};
 ghost use Rattle.readings.specs.Call.{uploaded, calling};
 ghost use Rattle.deserializer.specs.Call.{settingsBy, shapeDepth, shapeOf};
-ghost use Rattle.deserializer.specs.Demand.{PieceAt, PiecesIn};
+ghost use Rattle.deserializer.specs.Demand.{PieceEntry, PiecesIn};
 ghost use Rattle.import.specs.Import.{Passes, Reread, RereadOne, EachReread, ImportCall};
+use output::kind::PIECE;
 
 // What came of an upload: the drain's number; where that is 0, the reading's number and how many entries and text bytes it wrote.
 pub struct Imported {
@@ -82,7 +83,7 @@ fn read_entry(
     piece_texts: &mut [u8],
 )
     requires { ⌜ Passes (uploaded (now body) (now rows) end) ⌝ }
-    requires { ⌜ PieceAt (uploaded (now body) (now rows) end) (now entries) (k * 6) ⌝ }
+    requires { ⌜ PieceEntry (uploaded (now body) (now rows) end) (now entries) (k * 6) ⌝ }
     ensures { λ _. ⌜ RereadOne (shapeOf kind) (uploaded (now (body .entry)) (now (rows .entry)) end) (now (entries .entry))
         (calling (now (sheet .entry)) (settingsBy flags «max_depth») (shapeDepth 1)) (length (now («piece_entries» .entry)))
         (length (now («piece_texts» .entry))) (now (numbers .entry)) (now (numbers .exit)) k ⌝ }
@@ -93,7 +94,7 @@ fn read_entry(
     if numbers.len() <= k {
         return;
     }
-    if entries[k * 6] != 2 {
+    if entries[k * 6] != PIECE {
         return;
     }
     let start = entries[k * 6 + 4];

@@ -15,11 +15,13 @@ unfolding overwritten
 overwrite-none old = refl
 
 -- more bytes, stored where the written ones end
-pub overwrite-more : (old acc new : List ℕ) → length (acc ++ new) ≤ length old → sets (overwritten old acc) (length acc) new ≡ overwritten old (acc ++ new)
+pub overwrite-more : (old acc new : List ℕ) → length (acc ++ new) ≤ length old
+    → sets (overwritten old acc) (length acc) new ≡ overwritten old (acc ++ new)
 unfolding overwritten
 overwrite-more old acc new h =
     let n : length acc + length new ≡ length (acc ++ new) = sym (length-append acc new) in
-    let room : length acc + length new ≤ length (acc ++ drop (length acc) old) = omega (arith, n, length-append acc (drop (length acc) old), length-drop (length acc) old) in
+    let room : length acc + length new ≤ length (acc ++ drop (length acc) old) =
+    omega (arith, n, length-append acc (drop (length acc) old), length-drop (length acc) old) in
     rw (sets-eq new (acc ++ drop (length acc) old) (length acc) room, take-append-seam, drop-append-add, drop-drop, n)
 
 -- a run of stores after another

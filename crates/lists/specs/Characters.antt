@@ -17,6 +17,9 @@ abbrev pub plus : ℕ
 plus = 0x2B
 
 -- `/`
+abbrev pub hyphen : ℕ
+hyphen = 0x2D
+
 abbrev pub solidus : ℕ
 solidus = 0x2F
 

@@ -1,4 +1,4 @@
--- A choice by a test, whether a number lies in a range, and one less.
+-- A choice by a test, a test as a number, whether a number lies in a range, and one less.
 use Prim.Native.Nat.{ℕ, zero, suc}
 use mathlib.Core.Bool.{Bool, true, false}
 use lib.Dec.{leb}
@@ -7,6 +7,11 @@ use lib.Dec.{leb}
 abbrev pub pick {ℓ} : {A : Type ℓ} → Bool → A → A → A
 pick true a b = a
 pick false a b = b
+
+-- yes as 1, no as 0
+abbrev pub yesNo : Bool → ℕ
+yesNo true = 1
+yesNo false = 0
 
 -- from ≤ x ≤ to
 abbrev pub within : ℕ → ℕ → ℕ → Bool

@@ -43,7 +43,7 @@ use Rattle.opening.proofs.Children.{element-tested}
 use Rattle.map.specs.declared.field.Fields.{Fields}
 use Rattle.map.specs.declared.entry.Entry.{Entry}
 use Rattle.map.specs.Field.{FieldsIn}
-use Rattle.map.specs.Entry.{Passed, entryNamed, EntryIs, FieldsWrite}
+use Rattle.map.specs.Entry.{EntryPassed, entryNamed, EntryIs, FieldsWrite}
 use Rattle.map.specs.Map.{MapIs}
 
 -- ---- the loop
@@ -70,7 +70,7 @@ module _ {body t : List ℕ} {v : View} {m : MapSheet} {named : Bool} {st : Star
       record { does = does-as same (record { is = λ h. stays h }); adds = rw same (record { most = λ room out. omega arith }) }
 
   module _ {f : Fields} {u : Cursor} (q : got ≡ Entry.Read f u) where
-    entry-passed : Passed body t v (afterEntry (entryNamed named) (childAt body t (v .count) st i)) i f u
+    entry-passed : EntryPassed body t v (afterEntry (entryNamed named) (childAt body t (v .count) st i)) i f u
     entry-passed = rw q at (z .met)
 
     pub entry-kept : FieldsIn body f

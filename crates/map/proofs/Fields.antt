@@ -11,7 +11,7 @@ use Rattle.lists.specs.Tests.{pick}
 use Rattle.lists.specs.Bytes.{sameb}
 use Rattle.refusal.specs.declared.Refusal.{Refusal}
 use Rattle.refusal.specs.Answer.{Answer, gives, onward}
-use Rattle.reference.specs.Text.{Out, bytes, bad, decode, unescaped, meaning}
+use Rattle.reference.specs.Text.{Out, bytes, bad, decode, unescaped}
 use Rattle.reference.specs.declared.Unescaped.{Unescaped}
 use Rattle.unescape.specs.Loops.{sizeOf}
 use Rattle.document.specs.Scope as doc

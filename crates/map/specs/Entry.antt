@@ -34,18 +34,18 @@ entryAt body (Entry.Refused r) = refuses r
 entryAt body (Entry.Read f c) = gives (fieldsAt body f)
 
 -- what is known of one that was read from place k on, after which the reader is `after`
-pub record Passed (body t : List ℕ) (v : View) (after : Reader) (k : Cursor) (f : Fields) (c : Cursor) : Type 0 where
+pub record EntryPassed (body t : List ℕ) (v : View) (after : Reader) (k : Cursor) (f : Fields) (c : Cursor) : Type 0 where
   pub kept : FieldsIn body f
   pub stands : AfterIs body t (v .count) k after c
 
-abbrev pub PassedIn : List ℕ → List ℕ → View → Reader → Cursor → Entry → Type 0
-PassedIn body t v after k (Entry.Refused r) = Unit {0}
-PassedIn body t v after k (Entry.Read f c) = Passed body t v after k f c
+abbrev pub EntryPassedIn : List ℕ → List ℕ → View → Reader → Cursor → Entry → Type 0
+EntryPassedIn body t v after k (Entry.Refused r) = Unit {0}
+EntryPassedIn body t v after k (Entry.Read f c) = EntryPassed body t v after k f c
 
 -- an element with this level of children
 pub record ReadIs (body t : List ℕ) (v : View) (m : MapSheet) (s : StartRow) (c : Cursor) (l : Level) (r : Entry) : Type 0 where
   pub same : entryAt body r ≡ readFields body (viewAt t v) m (children l) noFields
-  pub met : PassedIn body t v (leave (childAt body t (v .count) s c) (endOf l)) c r
+  pub met : EntryPassedIn body t v (leave (childAt body t (v .count) s c) (endOf l)) c r
 
 -- with the children of a scope from a place on
 pub record FieldsFrom (body t : List ℕ) (v : View) (m : MapSheet) (s : StartRow) (scope : ScopeRow) (c : Cursor) (r : Entry) : Type 0 where
@@ -62,7 +62,7 @@ entryNamed named = nameIf named (ascii "entry")
 -- a child of a map: an entry, or one that is dropped, of which there are no fields
 pub record EntryIs (body t : List ℕ) (v : View) (m : MapSheet) (named : Bool) (s : StartRow) (c : Cursor) (r : Entry) : Type 0 where
   pub same : entryPlan body (viewAt t v) m (entryNamed named) (childAt body t (v .count) s c) ≡ readPlan (entryAt body r)
-  pub met : PassedIn body t v (afterEntry (entryNamed named) (childAt body t (v .count) s c)) c r
+  pub met : EntryPassedIn body t v (afterEntry (entryNamed named) (childAt body t (v .count) s c)) c r
 
 -- ---- written
 -- a key that was measured

@@ -172,7 +172,8 @@ module _ {body t : List ℕ} {final : ℕ} {ok deep strict : Bool} {r : Opening}
   module _ (settings : Settings) (depth : ShapeDepth) (d : deep ≡ tooDeep settings depth) (i : strict ≡ isStrict settings depth)
       {S : Type 0} {sheet : Option S} {said : S}
       (there : ok ≡ true → sheet ≡ some said) where
-    pub asked-early : (ok ≡ false → sheet ≡ none) → {why : Refusal} → r ≡ Opening.Refused why → asked (uploaded body t final) sheet settings depth
+    pub asked-early : (ok ≡ false → sheet ≡ none) → {why : Refusal} → r ≡ Opening.Refused why
+        → asked (uploaded body t final) sheet settings depth
         ≡ refuses why
     asked-early broken {why} q = go ok refl
       where

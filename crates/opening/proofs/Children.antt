@@ -69,7 +69,8 @@ pub record ChildrenAt (body t : List ℕ) (v : View) (f : Child → Plan) (most 
   pub viewed : Viewed body t v
   pub stands : Outside body t (v .count) (c .depth .0) (c .row)
   pub few : w .used ≤ c .row * most
-  pub mid : Midway (oneByOne f (children (levelAt past body t (v .count) s c₀))) (oneByOne f (children (levelAt past body t (v .count) s c)))
+  pub mid : Midway (oneByOne f (children (levelAt past body t (v .count) s c₀)))
+      (oneByOne f (children (levelAt past body t (v .count) s c)))
       en tx none-written en′ tx′ w
 
 module _ {past : Child → Reader} (short : Shortens past) {body t : List ℕ} {v : View} (f : Child → Plan) (most : ℕ)

@@ -29,9 +29,13 @@ openingOf body table final ok deep strict =
     (rooted body (view strict body (rowsOf table) final))))
 
 -- ---- what the functions answer
+-- a root by its row, in a view by number
+abbrev pub openedAt : List ℕ → List ℕ → View → StartRow → Cursor → Opened
+openedAt body t v s c = record { seen = viewAt t v; root = childAt body t (v .count) s c }
+
 abbrev pub answerOf : List ℕ → List ℕ → Opening → Answer Opened
 answerOf body t (Opening.Refused why) = refuses why
-answerOf body t (Opening.Found v s c) = gives (record { seen = viewAt t v; root = childAt body t (v .count) s c })
+answerOf body t (Opening.Found v s c) = gives (openedAt body t v s c)
 
 -- what is known of a root
 pub record RootAt (body t : List ℕ) (v : View) (s : StartRow) (c : Cursor) : Type 0 where

@@ -15,7 +15,8 @@ use Rattle.readings.specs.Output.{Entry, Room, Output, Reading, finished, refus
 use Rattle.readings.specs.Plan.{end, perform, followedBy, oneByOne, allOrNone}
 use Rattle.readings.specs.Structure.{groupOf, groupPlan}
 use Rattle.readings.specs.Demand.{Reaches, here, later, Exceeds, too-many, too-long}
-use Rattle.readings.proofs.Plans.Perform.{Within, within-not, Ended, all-done, at-stop, no-room, perform-ended, perform-reaches, reaches-one}
+use Rattle.readings.proofs.Plans.Perform.{Within, within-not, Ended, all-done, at-stop, no-room, perform-ended, perform-reaches}
+use Rattle.readings.proofs.Plans.Perform.{reaches-one}
 use Rattle.readings.proofs.Plans.Made.{Made, made-put, made-end, made-each, made-stops}
 use Rattle.output.specs.declared.Written.{Written}
 use Rattle.output.specs.declared.Step.{Step}
@@ -59,7 +60,9 @@ module _ (body : List ℕ) (v : View) (s : Structure) (kids : List Child) where
       }
 
   -- none of them is a stop
-  never-stops : (order : List ℕ) → Made (λ (entry : ℕ → Entry) (bytes : List ℕ). Unit {0}) (λ (r : Refusal). ⊥) (length order) (oneByOne (groupPlan body v s kids) order)
+  never-stops : (order : List ℕ)
+      → Made (λ (entry : ℕ → Entry) (bytes : List ℕ). Unit {0}) (λ (r : Refusal). ⊥) (length order)
+      (oneByOne (groupPlan body v s kids) order)
   unfolding groupPlan
   never-stops order = made-each (groupPlan body v s kids) order (λ i j. made-put (tt {0}) made-end)
 
@@ -102,7 +105,8 @@ module _ (body : List ℕ) (v : View) (s : Structure) (kids : List Child) where
       -- none is refused where all fit together
       pub groups-never : {e′ t′ e″ t″ : List ℕ} {why : Refusal} {w′ : Written} {r : Step} → w .count + length order ≤ length e / 6
           → w .used + together (groupOf body v s kids) order ≤ length t
-          → Does (oneByOne (groupPlan body v s kids) order) e t w e′ t′ (Step.Refused why w′) → DoesWhole (groups body v s kids order) e t w e″ t″ r
+          → Does (oneByOne (groupPlan body v s kids) order) e t w e′ t′ (Step.Refused why w′)
+          → DoesWhole (groups body v s kids order) e t w e″ t″ r
       unfolding perform
       groups-never a b d = record { is = λ {e0} {t0} {out} h. clash e0 t0 out h (d .is h .is) }
         where
@@ -115,4 +119,5 @@ module _ (body : List ℕ) (v : View) (s : Structure) (kids : List Child) where
 
           clash : (e0 t0 : List ℕ) (out : Output) → Holds out e0 t0 e t w → {A : Type 0} {why : Refusal} {last : Output}
               → perform (roomOf e0 t0) (oneByOne (groupPlan body v s kids) order) out ≡ refused why last → A
-          clash e0 t0 out h q = false-true (sym (ap isFinished (sym (perform-reaches (roomOf e0 t0) (all-of order out .reaches) (within h)) ∙ q)))
+          clash e0 t0 out h q = false-true
+              (sym (ap isFinished (sym (perform-reaches (roomOf e0 t0) (all-of order out .reaches) (within h)) ∙ q)))

@@ -106,7 +106,8 @@ module _ {out : Output} {e0 t0 e t : List ℕ} {w : Written} (h : Holds out e0 t
     -- both fit: the entry's numbers and its bytes are stored where those before them end
     pub ends-written : {e′ t′ : List ℕ} → roomFor (length e) (length t) w (length x) ≡ true
         → e′ ≡ sets e (w .count * 6) (sixNumbers (entry (w .used))) → t′ ≡ sets t (w .used) x
-        → Ends (perform (roomOf e0 t0) (one entry x) out) e0 t0 e′ t′ (Step.Done (record { count = w .count + 1; used = w .used + length x }))
+        → Ends (perform (roomOf e0 t0) (one entry x) out) e0 t0 e′ t′
+        (Step.Done (record { count = w .count + 1; used = w .used + length x }))
     unfolding perform
     ends-written {e′} {t′} room p q =
         let m = length (out .texts) in

@@ -32,7 +32,8 @@ pub does-as : {f g : Plan} {e t : List ℕ} {w : Written} {e′ t′ : List ℕ}
 does-as p d = rw p d
 
 -- one that begins with a plan
-begun : (room : Room) {rest : Plan} (step more : Plan) (out : Output) {x : Reading} → rest ≡ followedBy step more → perform room step out ≡ x
+begun : (room : Room) {rest : Plan} (step more : Plan) (out : Output) {x : Reading} → rest ≡ followedBy step more
+    → perform room step out ≡ x
     → perform room rest out ≡ andThen x (perform room more)
 begun room step more out p q =
     ap (λ (z : Plan). perform room z out) p ∙ (perform-followed room step more out ∙ ap (λ (y : Reading). andThen y (perform room more)) q)
@@ -53,7 +54,8 @@ module _ {whole rest : Plan} {e t : List ℕ} {w : Written} {e₁ t₁ : List �
       }
 
   -- the rest begins with a plan
-  module _ {step : Plan} (more : Plan) (begins : rest ≡ followedBy step more) {e₂ t₂ : List ℕ} {r : Step} (d : Does step e₁ t₁ w₁ e₂ t₂ r) where
+  module _ {step : Plan} (more : Plan) (begins : rest ≡ followedBy step more) {e₂ t₂ : List ℕ} {r : Step}
+      (d : Does step e₁ t₁ w₁ e₂ t₂ r) where
     pub midway-goes : {w₂ : Written} → r ≡ Step.Done w₂ → Midway whole more e t w e₂ t₂ w₂
     midway-goes {w₂} q =
         record {
@@ -61,7 +63,12 @@ module _ {whole rest : Plan} {e t : List ℕ} {w : Written} {e₁ t₁ : List �
               let room = roomOf e0 t0 in
               let x = m .is h in
               let y = rw q at (d .is (x .holds)) in
-              record { out = output (perform room step (x .out)); holds = y .holds; goes = x .goes ∙ begun room step more (x .out) begins (y .is) };
+              record {
+                out = output (perform room step (x .out));
+                holds = y .holds;
+                goes = x .goes
+                    ∙ begun room step more (x .out) begins (y .is);
+              };
         }
 
     pub midway-stops : {why : Refusal} {w₂ : Written} → r ≡ Step.Refused why w₂ → Does whole e t w e₂ t₂ (Step.Refused why w₂)
@@ -101,11 +108,13 @@ module _ {A : Type 0} (f : A → Plan) {whole : Plan} {e t : List ℕ} {w : Writ
     each-stops q = midway-stops m (oneByOne f l) refl d q
 
 -- ---- with groups
-pub whole-as : {f g : Whole} {e t : List ℕ} {w : Written} {e′ t′ : List ℕ} {r : Step} → f ≡ g → DoesWhole g e t w e′ t′ r → DoesWhole f e t w e′ t′ r
+pub whole-as : {f g : Whole} {e t : List ℕ} {w : Written} {e′ t′ : List ℕ} {r : Step} → f ≡ g → DoesWhole g e t w e′ t′ r
+    → DoesWhole f e t w e′ t′ r
 whole-as p d = rw p d
 
 -- a plan without any
-pub alone-does : {p : Plan} {e t : List ℕ} {w : Written} {e′ t′ : List ℕ} {r : Step} → Does p e t w e′ t′ r → DoesWhole (withoutGroups p) e t w e′ t′ r
+pub alone-does : {p : Plan} {e t : List ℕ} {w : Written} {e′ t′ : List ℕ} {r : Step} → Does p e t w e′ t′ r
+    → DoesWhole (withoutGroups p) e t w e′ t′ r
 unfolding perform
 alone-does {p} d = record { is = λ {e0} {t0} {out} h. ends-as (same e0 t0 (perform (roomOf e0 t0) p out)) (d .is h) }
   where
@@ -115,7 +124,8 @@ alone-does {p} d = record { is = λ {e0} {t0} {out} h. ends-as (same e0 t0 (perf
 
 -- one that begins with a plan
 module _ {step : Plan} (more groups : Plan) {e t : List ℕ} {w : Written} {e₁ t₁ : List ℕ} {r : Step} (d : Does step e t w e₁ t₁ r) where
-  pub whole-goes : {w₁ : Written} {e₂ t₂ : List ℕ} {last : Step} → r ≡ Step.Done w₁ → DoesWhole (record { asMet = more; groups = groups }) e₁ t₁ w₁ e₂ t₂ last
+  pub whole-goes : {w₁ : Written} {e₂ t₂ : List ℕ} {last : Step} → r ≡ Step.Done w₁
+      → DoesWhole (record { asMet = more; groups = groups }) e₁ t₁ w₁ e₂ t₂ last
       → DoesWhole (record { asMet = followedBy step more; groups = groups }) e t w e₂ t₂ last
   whole-goes q d′ =
       record {
@@ -125,7 +135,8 @@ module _ {step : Plan} (more groups : Plan) {e t : List ℕ} {w : Written} {e₁
             ends-as (ap (thenGroups room groups) (begun room step more out refl (y .is))) (d′ .is (y .holds));
       }
 
-  pub whole-stops : {why : Refusal} {w₁ : Written} → r ≡ Step.Refused why w₁ → DoesWhole (record { asMet = followedBy step more; groups = groups }) e t w e₁ t₁ (Step.Refused why w₁)
+  pub whole-stops : {why : Refusal} {w₁ : Written} → r ≡ Step.Refused why w₁
+      → DoesWhole (record { asMet = followedBy step more; groups = groups }) e t w e₁ t₁ (Step.Refused why w₁)
   whole-stops q =
       record {
         is = λ {e0} {t0} {out} h.

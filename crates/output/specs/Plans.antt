@@ -4,7 +4,7 @@ use mathlib.Core.List.{List, [], _∷_, _++_}
 use lib.ListN.{length}
 use Rattle.refusal.specs.declared.Refusal.{Refusal}
 use Rattle.refusal.specs.Answer.{Answer, gives, refuses}
-use Rattle.reference.specs.Text.{Out, bytes, bad, unescaped, meaning}
+use Rattle.reference.specs.Text.{unescaped, meaning}
 use Rattle.document.specs.View.{View}
 use Rattle.document.specs.Scope.{Child}
 use Rattle.document.specs.Text.{unescapedText}

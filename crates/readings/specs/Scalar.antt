@@ -5,6 +5,7 @@ use mathlib.Core.List.{List, [], _∷_}
 use lib.Dec.{eqb, leb}
 use lib.IntN.{ℤ, pos, negsuc}
 use lib.ListN.{length}
+use Rattle.lists.specs.Characters.{plus, hyphen}
 use Rattle.lists.specs.Tests.{pick}
 use Rattle.lists.specs.Bytes.{ascii, sameb}
 use Rattle.refusal.specs.declared.Refusal.{Refusal}
@@ -52,8 +53,8 @@ unfoldable pub integerOf : List ℕ → Answer ℤ
 unfolding numeral
 integerOf [] = refuses Refusal.NotInteger
 integerOf (b ∷ s) =
-    pick (eqb b 43) (positive (digitsOf s))
-    (pick (eqb b 45) (negative (digitsOf s))
+    pick (eqb b plus) (positive (digitsOf s))
+    (pick (eqb b hyphen) (negative (digitsOf s))
     (positive (digitsOf (b ∷ s))))
 
 -- "10 for a string": the text, where there is room for it

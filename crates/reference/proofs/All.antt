@@ -7,5 +7,6 @@ use Rattle.reference.specs.Entity.{named, numeric, only, first, xmlChar,
 use Rattle.reference.specs.Text.{span, sized, reference, before, decode, references, verdict, validated, unescaped, answer, filled}
 
 unfoldable pub computed : Unit {0}
-unfolding sameb overwritten scalar encode digit numeral limited digits plusDigits named numeric only first xmlChar reader allowed charOf span sized reference before decode references verdict validated unescaped answer filled
+unfolding sameb overwritten scalar encode digit numeral limited digits plusDigits named numeric only first xmlChar reader allowed charOf
+    span sized reference before decode references verdict validated unescaped answer filled
 computed = tt {0}

@@ -20,7 +20,8 @@ unfolding answer
 bad-first at room = refl
 
 -- a length that is answered is that of the result, and fits
-pub length-fits : (o : Out) (room : ℕ) {n : ℕ} → answer o room ≡ Unescaped.Length n → (l : List ℕ) × (o ≡ bytes l) × (n ≡ length l) × (n ≤ room)
+pub length-fits : (o : Out) (room : ℕ) {n : ℕ} → answer o room ≡ Unescaped.Length n
+    → (l : List ℕ) × (o ≡ bytes l) × (n ≡ length l) × (n ≤ room)
 unfolding answer
 length-fits (bad at) room e = let z : _≡_ {A = ℕ} 0 1 = cc in absurd (omega arith)
 length-fits (bytes l) room {n} e = go (leb (length l) room) refl e
@@ -36,7 +37,8 @@ unfolding answer filled
 refusal-keeps (bad at) old f = refl
 refusal-keeps (bytes l) old f = go (leb (length l) (length old)) f
   where
-    go : (t : Bool) → ((n : ℕ) → pick t (Unescaped.Length (length l)) Unescaped.NoRoom ≡ Unescaped.Length n → ⊥) → pick t (overwritten old l) old ≡ old
+    go : (t : Bool) → ((n : ℕ) → pick t (Unescaped.Length (length l)) Unescaped.NoRoom ≡ Unescaped.Length n → ⊥)
+        → pick t (overwritten old l) old ≡ old
     go true f = absurd (f (length l) refl)
     go false f = refl
 

@@ -19,7 +19,8 @@ both s = validated (ascii s) gives unescaped (ascii s)
 
 -- where unescaping takes more than validation, and where it does not: the sign, in each base, once and first; no minus; small x alone
 pub examples :
-    map both ("&#x+41;" ∷ "&#++65;" ∷ "&#+;" ∷ "&#-0;" ∷ "&#+x41;" ∷ "&#X41;" ∷ "&#;" ∷ "&#x;" ∷ "&#0000000000065;" ∷ "&#4294967296;" ∷ "x&lt;&lt" ∷ [])
+    map both ("&#x+41;" ∷ "&#++65;" ∷ "&#+;" ∷ "&#-0;" ∷ "&#+x41;" ∷ "&#X41;" ∷ "&#;" ∷ "&#x;" ∷ "&#0000000000065;" ∷ "&#4294967296;" ∷
+    "x&lt;&lt" ∷ [])
     ≡ (BadReference gives bytes (ascii "A"))
     ∷ (BadReference gives bad 0)
     ∷ (BadReference gives bad 0)

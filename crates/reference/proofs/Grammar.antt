@@ -60,7 +60,8 @@ char-limit c (xml.above-surrogates g h) = omega arith
 char-limit c (xml.supplementary g h) = omega arith
 
 -- ---- digits
-digit-cases : (P : ℕ → Type 0) (b : ℕ) → (48 ≤ b → b ≤ 57 → P (b - 48)) → (65 ≤ b → b ≤ 70 → P (b - 55)) → (97 ≤ b → b ≤ 102 → P (b - 87)) → P 16 → P (digit b)
+digit-cases : (P : ℕ → Type 0) (b : ℕ) → (48 ≤ b → b ≤ 57 → P (b - 48)) → (65 ≤ b → b ≤ 70 → P (b - 55)) → (97 ≤ b → b ≤ 102 → P (b - 87))
+    → P 16 → P (digit b)
 unfolding digit
 digit-cases P b dec cap low none =
     pick-cases P (within 48 57 b) _ _ (λ e. let w = within-is 48 57 b e in dec (w .0) (w .1))
@@ -70,7 +71,8 @@ digit-cases P b dec cap low none =
 decimal-sound : (b : ℕ) → digit b < 10 → Decimal b (digit b)
 decimal-sound b =
     digit-cases (λ (d : ℕ). d < 10 → Decimal b d) b
-    (λ g h l. xml.Decimal.digit (omega arith) (omega arith)) (λ g h l. absurd (omega arith)) (λ g h l. absurd (omega arith)) (λ l. absurd (omega arith))
+    (λ g h l. xml.Decimal.digit (omega arith) (omega arith)) (λ g h l. absurd (omega arith)) (λ g h l. absurd (omega arith))
+    (λ l. absurd (omega arith))
 
 hexadecimal-sound : (b : ℕ) → digit b < 16 → Hexadecimal b (digit b)
 hexadecimal-sound b =
@@ -96,18 +98,40 @@ in-second b g h = rw (lt-leb b 57 (omega arith), le-leb 48 b (omega arith), is-w
 
 in-third : (b : ℕ) → 97 ≤ b → b ≤ 102 → digit b ≡ b - 87
 unfolding digit
-in-third b g h = rw (lt-leb b 57 (omega arith), le-leb 48 b (omega arith), lt-leb b 70 (omega arith), le-leb 65 b (omega arith), is-within 97 102 b g h)
+in-third b g h = rw (
+  lt-leb b 57 (omega arith),
+  le-leb 48 b (omega arith),
+  lt-leb b 70 (omega arith),
+  le-leb 65 b (omega arith),
+  is-within 97 102 b g h,
+)
 
 decimal-complete : (b d : ℕ) → Decimal b d → IsDigit 10 b d
 decimal-complete b d (xml.Decimal.digit g h) =
-    record { value = omega (arith, in-first b (omega arith) (omega arith)); less = omega arith; semicolon = λ e. omega arith; ampersand = λ e. omega arith }
+    record {
+      value = omega (arith, in-first b (omega arith) (omega arith));
+      less = omega arith;
+      semicolon = λ e. omega arith;
+      ampersand = λ e. omega arith;
+    }
 
 hexadecimal-complete : (b d : ℕ) → Hexadecimal b d → IsDigit 16 b d
-hexadecimal-complete b d (xml.Hexadecimal.digit x) = let i = decimal-complete b d x in record { value = i .value; less = omega (arith, i .less); semicolon = i .semicolon; ampersand = i .ampersand }
+hexadecimal-complete b d (xml.Hexadecimal.digit x) = let i = decimal-complete b d x in
+    record { value = i .value; less = omega (arith, i .less); semicolon = i .semicolon; ampersand = i .ampersand }
 hexadecimal-complete b d (xml.small k g h i) =
-    record { value = omega (arith, in-third b (omega arith) (omega arith)); less = omega arith; semicolon = λ e. omega arith; ampersand = λ e. omega arith }
+    record {
+      value = omega (arith, in-third b (omega arith) (omega arith));
+      less = omega arith;
+      semicolon = λ e. omega arith;
+      ampersand = λ e. omega arith;
+    }
 hexadecimal-complete b d (xml.capital k g h i) =
-    record { value = omega (arith, in-second b (omega arith) (omega arith)); less = omega arith; semicolon = λ e. omega arith; ampersand = λ e. omega arith }
+    record {
+      value = omega (arith, in-second b (omega arith) (omega arith));
+      less = omega arith;
+      semicolon = λ e. omega arith;
+      ampersand = λ e. omega arith;
+    }
 
 -- bytes that end no entity
 pub data Clean : List ℕ → Type 0 where
@@ -159,7 +183,8 @@ module _ (Digit : ℕ → ℕ → Type 0) (base : ℕ) (sound : (b : ℕ) → di
   more-digits p (b ∷ s) acc n x e = go (ltb (digit b) base) refl e (more-digits (p ++ (b ∷ [])) s (acc * base + digit b) n)
     where
       go : (t : Bool) → ltb (digit b) base ≡ t → pick t (numeral base (acc * base + digit b) s) No ≡ Value n
-          → (Numeral Digit base (p ++ (b ∷ [])) (acc * base + digit b) → numeral base (acc * base + digit b) s ≡ Value n → Numeral Digit base ((p ++ (b ∷ [])) ++ s) n)
+          → (Numeral Digit base (p ++ (b ∷ [])) (acc * base + digit b) → numeral base (acc * base + digit b) s ≡ Value n
+          → Numeral Digit base ((p ++ (b ∷ [])) ++ s) n)
           → Numeral Digit base (p ++ (b ∷ s)) n
       go true h e ih = rw append-assoc at (ih (xml.more x (sound b (ltb-true _ _ h))) e)
       go false h e ih = no-value e
@@ -177,13 +202,15 @@ module _ (Digit : ℕ → ℕ → Type 0) (base : ℕ) (sound : (b : ℕ) → di
 
 module _ (Digit : ℕ → ℕ → Type 0) (base : ℕ) (complete : (b d : ℕ) → Digit b d → IsDigit base b d) where
   -- one digit more
-  number-snoc : (s : List ℕ) (acc n b d : ℕ) → numeral base acc s ≡ Value n → IsDigit base b d → numeral base acc (s ++ (b ∷ [])) ≡ Value (n * base + d)
+  number-snoc : (s : List ℕ) (acc n b d : ℕ) → numeral base acc s ≡ Value n → IsDigit base b d
+      → numeral base acc (s ++ (b ∷ [])) ≡ Value (n * base + d)
   unfolding numeral
   number-snoc [] acc n b d e i = let q : acc ≡ n = cc in rw (i .value, lt-ltb d base (i .less), q)
   number-snoc (x ∷ s) acc n b d e i = go (ltb (digit x) base) e (number-snoc s (acc * base + digit x) n b d)
     where
       go : (t : Bool) → pick t (numeral base (acc * base + digit x) s) No ≡ Value n
-          → (numeral base (acc * base + digit x) s ≡ Value n → IsDigit base b d → numeral base (acc * base + digit x) (s ++ (b ∷ [])) ≡ Value (n * base + d))
+          → (numeral base (acc * base + digit x) s ≡ Value n → IsDigit base b d
+          → numeral base (acc * base + digit x) (s ++ (b ∷ [])) ≡ Value (n * base + d))
           → pick t (numeral base (acc * base + digit x) (s ++ (b ∷ []))) No ≡ Value (n * base + d)
       go true e ih = ih e i
       go false e ih = no-value e
@@ -252,7 +279,8 @@ unfolding cleanb
 clean-test [] e = clean-none
 clean-test (b ∷ s) e = go (eqb b 59) (eqb b 38) refl refl e (clean-test s)
   where
-    go : (t u : Bool) → eqb b 59 ≡ t → eqb b 38 ≡ u → pick t false (pick u false (cleanb s)) ≡ true → (cleanb s ≡ true → Clean s) → Clean (b ∷ s)
+    go : (t u : Bool) → eqb b 59 ≡ t → eqb b 38 ≡ u → pick t false (pick u false (cleanb s)) ≡ true → (cleanb s ≡ true → Clean s)
+        → Clean (b ∷ s)
     go true u p q e ih = false-true e
     go false true p q e ih = false-true e
     go false false p q e ih = clean-byte (eqb-false b 59 p) (eqb-false b 38 q) (ih e)
@@ -295,7 +323,8 @@ unfolding charOf first named sameb numeric reader allowed
 entity-hexadecimal s {c} m k =
     record {
       value = only-char (digits-value 16 m k) k;
-      clean = clean-byte (eqb-false 35 59 refl) (eqb-false 35 38 refl) (clean-byte (eqb-false 120 59 refl) (eqb-false 120 38 refl) (m .clean));
+      clean = clean-byte (eqb-false 35 59 refl) (eqb-false 35 38 refl)
+          (clean-byte (eqb-false 120 59 refl) (eqb-false 120 38 refl) (m .clean));
     }
 
 -- a Reference has an entity between its `&` and its `;`
@@ -321,7 +350,8 @@ getD-front : (e : List ℕ) (x : ℕ) (r : List ℕ) → getD (e ++ (x ∷ r)) (
 getD-front [] x r = refl
 getD-front (y ∷ e) x r = getD-front e x r
 
-pub reference-complete : {t : List ℕ} {c : ℕ} → xml.Reference t c → (s r : List ℕ) → 0x26 ∷ s ≡ t ++ r → reference true s ≡ Reference.Char c (length t - 1)
+pub reference-complete : {t : List ℕ} {c : ℕ} → xml.Reference t c → (s r : List ℕ) → 0x26 ∷ s ≡ t ++ r
+    → reference true s ≡ Reference.Char c (length t - 1)
 unfolding reference sized entity-front
 reference-complete {t} {c} x s r q =
     let h = entity-complete x in
@@ -393,21 +423,30 @@ nil-append (y ∷ a) x b e = let z : _≡_ {A = ℕ} 0 1 = cc in absurd (omega a
 
 -- a reference that is read begins the text after its `&`
 begins : (s : List ℕ) {c n : ℕ} → reference true s ≡ Reference.Char c n → BeginsReference (0x26 ∷ s)
-begins s {c} {n} q = record { front = 0x26 ∷ take n s; rest = drop n s; cut = ap (λ (l : List ℕ). 0x26 ∷ l) (sym (take-append-drop n s)); char = c; is = reference-sound s q }
+begins s {c} {n} q = record {
+  front = 0x26 ∷ take n s;
+  rest = drop n s;
+  cut = ap (λ (l : List ℕ). 0x26 ∷ l) (sym (take-append-drop n s));
+  char = c;
+  is = reference-sound s q;
+}
 
 -- each `&` of s, once k bytes that hold none are passed
-each-sound : (at k : ℕ) (s l : List ℕ) → NoAmp k s → decode true at k s ≡ bytes l → (a b : List ℕ) → s ≡ a ++ (0x26 ∷ b) → BeginsReference (0x26 ∷ b)
+each-sound : (at k : ℕ) (s l : List ℕ) → NoAmp k s → decode true at k s ≡ bytes l → (a b : List ℕ) → s ≡ a ++ (0x26 ∷ b)
+    → BeginsReference (0x26 ∷ b)
 unfolding decode
 each-sound at k [] l p e a b q = nil-append a 0x26 b q
 each-sound at (suc k) (x ∷ s) l p e [] b q = let z : x ≡ 38 = cc in absurd (p 0 (omega arith) z)
-each-sound at (suc k) (x ∷ s) l p e (y ∷ a) b q = let z : s ≡ a ++ (0x26 ∷ b) = cc in each-sound (suc at) k s l (λ j h. p (suc j) (omega arith)) e a b z
+each-sound at (suc k) (x ∷ s) l p e (y ∷ a) b q = let z : s ≡ a ++ (0x26 ∷ b) = cc in
+    each-sound (suc at) k s l (λ j h. p (suc j) (omega arith)) e a b z
 each-sound at zero (x ∷ s) l p e [] b q =
     let z : x ≡ 38 = cc in
     let w : s ≡ b = cc in
     rw (← w) (go (reference true s) refl (rw (decode, z) at e))
   where
     go : (r : Reference) → reference true s ≡ r
-        → elim r [ Reference.Char c n ↦ before (encode c) (decode true (suc at) n s) | Reference.Bad ↦ bad at ] ≡ bytes l → BeginsReference (0x26 ∷ s)
+        → elim r [ Reference.Char c n ↦ before (encode c) (decode true (suc at) n s) | Reference.Bad ↦ bad at ] ≡ bytes l
+        → BeginsReference (0x26 ∷ s)
     go (Reference.Char c n) h e = begins s h
     go Reference.Bad h e = no-bytes e
 each-sound at zero (x ∷ s) l p e (y ∷ a) b q =
@@ -418,13 +457,19 @@ each-sound at zero (x ∷ s) l p e (y ∷ a) b q =
     Rest = (k : ℕ) (m : List ℕ) → ((j : ℕ) → j < k → getD s j 0 ≡ 38 → ⊥) → decode true (suc at) k s ≡ bytes m → BeginsReference (0x26 ∷ b)
 
     go : (t : Bool) (r : Reference) → reference true s ≡ r
-        → elim t [ true ↦ elim r [ Reference.Char c n ↦ before (encode c) (decode true (suc at) n s) | Reference.Bad ↦ bad at ] | false ↦ before (x ∷ []) (decode true (suc at) zero s) ] ≡ bytes l
+        → elim t [
+          | true ↦ elim r [ Reference.Char c n ↦ before (encode c) (decode true (suc at) n s) | Reference.Bad ↦ bad at ]
+          | false ↦
+              before (x ∷ []) (decode true (suc at) zero s)
+        ] ≡ bytes l
         → Rest → BeginsReference (0x26 ∷ b)
-    go true (Reference.Char c n) h e ih = let w = before-is (encode c) l (decode true (suc at) n s) e in ih n (w .0) (reference-no-amp true s h) (w .1)
+    go true (Reference.Char c n) h e ih = let w = before-is (encode c) l (decode true (suc at) n s) e in
+        ih n (w .0) (reference-no-amp true s h) (w .1)
     go true Reference.Bad h e ih = no-bytes e
     go false r h e ih = let w = before-is (x ∷ []) l (decode true (suc at) zero s) e in ih 0 (w .0) (λ j h e. omega arith) (w .1)
 
-each-complete : (at k : ℕ) (s : List ℕ) → ((a b : List ℕ) → s ≡ a ++ (0x26 ∷ b) → BeginsReference (0x26 ∷ b)) → (l : List ℕ) × (decode true at k s ≡ bytes l)
+each-complete : (at k : ℕ) (s : List ℕ) → ((a b : List ℕ) → s ≡ a ++ (0x26 ∷ b) → BeginsReference (0x26 ∷ b))
+    → (l : List ℕ) × (decode true at k s ≡ bytes l)
 unfolding decode before
 each-complete at k [] h = ([], refl)
 each-complete at (suc k) (x ∷ s) h = each-complete (suc at) k s (λ a b q. h (x ∷ a) b (ap (λ (l : List ℕ). x ∷ l) q))
@@ -437,7 +482,12 @@ each-complete at zero (x ∷ s) h = go (eqb x 38) refl (λ k. each-complete (suc
     front a k ih = let w = ih k in (a ++ w .0, ap (before a) (w .1))
 
     go : (t : Bool) → eqb x 38 ≡ t → ((k : ℕ) → Whole (decode true (suc at) k s))
-        → Whole (elim t [ true ↦ elim (reference true s) [ Reference.Char c n ↦ before (encode c) (decode true (suc at) n s) | Reference.Bad ↦ bad at ] | false ↦ before (x ∷ []) (decode true (suc at) zero s) ])
+        → Whole (elim t [
+          | true ↦ elim (reference true s)
+              [ Reference.Char c n ↦ before (encode c) (decode true (suc at) n s) | Reference.Bad ↦ bad at ]
+          | false ↦ before (x ∷ [])
+              (decode true (suc at) zero s)
+        ])
     go true q ih =
         let w = h [] s (ap (λ (y : ℕ). y ∷ s) (eqb-true x 38 q)) in
         rw (reference-complete (w .is) s (w .rest) (w .cut)) (front (encode (w .char)) (length (w .front) - 1) ih)

@@ -38,7 +38,8 @@ strict-plus base s {n} h e = go (eqb (getD s 0 0) 43) refl
     go true q = no-value (sym (plus-no base s h (eqb-true _ _ q)) ∙ e)
     go false q = e
 
-strict-only : (x y : Number) {n : ℕ} → ((m : ℕ) → x ≡ Value m → y ≡ Value m) → only (allowed true) x ≡ Value n → only (allowed false) y ≡ Value n
+strict-only : (x y : Number) {n : ℕ} → ((m : ℕ) → x ≡ Value m → y ≡ Value m) → only (allowed true) x ≡ Value n
+    → only (allowed false) y ≡ Value n
 unfolding only allowed
 strict-only No y h e = no-value e
 strict-only (Value m) y {n} h e = rw (h m refl) (go (xmlChar m) refl e)
@@ -51,7 +52,8 @@ strict-numeric : (e : List ℕ) (m : ℕ) → numeric (reader true) e ≡ Value 
 unfolding numeric reader
 strict-numeric e m = go (eqb (getD e 0 0) 35) (eqb (getD e 1 0) 120)
   where
-    go : (t u : Bool) → pick t (pick u (digits 16 (drop 2 e)) (digits 10 (drop 1 e))) No ≡ Value m → pick t (pick u (plusDigits 16 (drop 2 e)) (plusDigits 10 (drop 1 e))) No ≡ Value m
+    go : (t u : Bool) → pick t (pick u (digits 16 (drop 2 e)) (digits 10 (drop 1 e))) No ≡ Value m
+        → pick t (pick u (plusDigits 16 (drop 2 e)) (plusDigits 10 (drop 1 e))) No ≡ Value m
     go true true q = strict-plus 16 (drop 2 e) (omega arith) q
     go true false q = strict-plus 10 (drop 1 e) (omega arith) q
     go false u q = no-value q
@@ -60,16 +62,19 @@ strict-char : (e : List ℕ) (c : ℕ) → charOf true e ≡ Value c → charOf 
 unfolding charOf first
 strict-char e c = go (named e)
   where
-    go : (x : Number) → first x (only (allowed true) (numeric (reader true) e)) ≡ Value c → first x (only (allowed false) (numeric (reader false) e)) ≡ Value c
+    go : (x : Number) → first x (only (allowed true) (numeric (reader true) e)) ≡ Value c
+        → first x (only (allowed false) (numeric (reader false) e)) ≡ Value c
     go (Value n) q = q
     go No q = strict-only (numeric (reader true) e) (numeric (reader false) e) (strict-numeric e) q
 
 strict-reference : (s : List ℕ) (c n : ℕ) → reference true s ≡ Reference.Char c n → reference false s ≡ Reference.Char c n
 unfolding reference sized
-strict-reference s c n = go (eqb (getD s (span s) 0) 59) (charOf true (take (span s) s)) (charOf false (take (span s) s)) (strict-char (take (span s) s))
+strict-reference s c n = go (eqb (getD s (span s) 0) 59) (charOf true (take (span s) s)) (charOf false (take (span s) s))
+    (strict-char (take (span s) s))
   where
     go : (t : Bool) (x y : Number) → ((m : ℕ) → x ≡ Value m → y ≡ Value m)
-        → pick t (sized (span s + 1) x) Reference.Bad ≡ Reference.Char c n → pick t (sized (span s + 1) y) Reference.Bad ≡ Reference.Char c n
+        → pick t (sized (span s + 1) x) Reference.Bad ≡ Reference.Char c n
+        → pick t (sized (span s + 1) y) Reference.Bad ≡ Reference.Char c n
     go true (Value m) y h q = rw (h m refl) q
     go true No y h q = no-char q
     go false x y h q = no-char q
@@ -84,7 +89,8 @@ strict-decode : (at k : ℕ) (s l : List ℕ) → decode true at k s ≡ bytes l
 unfolding decode before
 strict-decode at k [] l e = e
 strict-decode at (suc k) (b ∷ s) l e = strict-decode (suc at) k s l e
-strict-decode at zero (b ∷ s) l e = go (eqb b 38) (reference true s) (reference false s) (strict-reference s) (λ k l. strict-decode (suc at) k s l) e
+strict-decode at zero (b ∷ s) l e =
+    go (eqb b 38) (reference true s) (reference false s) (strict-reference s) (λ k l. strict-decode (suc at) k s l) e
   where
     rest : (a : List ℕ) (k : ℕ) → ((k : ℕ) (l : List ℕ) → decode true (suc at) k s ≡ bytes l → decode false (suc at) k s ≡ bytes l)
         → before a (decode true (suc at) k s) ≡ bytes l → before a (decode false (suc at) k s) ≡ bytes l
@@ -92,8 +98,16 @@ strict-decode at zero (b ∷ s) l e = go (eqb b 38) (reference true s) (referenc
 
     go : (t : Bool) (r q : Reference) → ((c n : ℕ) → r ≡ Reference.Char c n → q ≡ Reference.Char c n)
         → ((k : ℕ) (l : List ℕ) → decode true (suc at) k s ≡ bytes l → decode false (suc at) k s ≡ bytes l)
-        → elim t [ true ↦ elim r [ Reference.Char c n ↦ before (encode c) (decode true (suc at) n s) | Reference.Bad ↦ bad at ] | false ↦ before (b ∷ []) (decode true (suc at) zero s) ] ≡ bytes l
-        → elim t [ true ↦ elim q [ Reference.Char c n ↦ before (encode c) (decode false (suc at) n s) | Reference.Bad ↦ bad at ] | false ↦ before (b ∷ []) (decode false (suc at) zero s) ] ≡ bytes l
+        → elim t [
+          | true ↦ elim r [ Reference.Char c n ↦ before (encode c) (decode true (suc at) n s) | Reference.Bad ↦ bad at ]
+          | false ↦
+              before (b ∷ []) (decode true (suc at) zero s)
+        ] ≡ bytes l
+        → elim t [
+          | true ↦ elim q [ Reference.Char c n ↦ before (encode c) (decode false (suc at) n s) | Reference.Bad ↦ bad at ]
+          | false ↦
+              before (b ∷ []) (decode false (suc at) zero s)
+        ] ≡ bytes l
     go true (Reference.Char c n) q h ih e = rw (h c n refl) (rest (encode c) n ih e)
     go true Reference.Bad q h ih e = let z : _≡_ {A = ℕ} 0 1 = cc in absurd (omega arith)
     go false r q h ih e = rest (b ∷ []) zero ih e

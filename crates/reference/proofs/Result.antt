@@ -24,7 +24,8 @@ use Rattle.reference.specs.declared.Validated.{Validated}
 unescaped-plain : (strict : Bool) (at : ℕ) (s : List ℕ) → ((k : ℕ) → getD s k 0 ≡ 38 → ⊥) → decode strict at 0 s ≡ bytes s
 unfolding decode before
 unescaped-plain strict at [] p = refl
-unescaped-plain strict at (b ∷ s) p = rw (decode, ne-eqb b 38 (p 0)) (ap (before (b ∷ [])) (unescaped-plain strict (suc at) s (λ k. p (suc k))))
+unescaped-plain strict at (b ∷ s) p =
+    rw (decode, ne-eqb b 38 (p 0)) (ap (before (b ∷ [])) (unescaped-plain strict (suc at) s (λ k. p (suc k))))
 
 pub plain-unescapes : (t : List ℕ) → ((k : ℕ) → getD t k 0 ≡ 38 → ⊥) → unescaped t ≡ bytes t
 unfolding unescaped
@@ -40,7 +41,8 @@ AtMost n l = length l ≤ n
 
 encode-most : (c : ℕ) → length (encode c) ≤ 4
 unfolding encode AtMost
-encode-most c = pick-all (AtMost 4) (ltb c 0x80) _ _ (lit< tt) (pick-all (AtMost 4) (ltb c 0x800) _ _ (lit< tt) (pick-all (AtMost 4) (ltb c 0x10000) _ _ (lit< tt) (lit< tt)))
+encode-most c = pick-all (AtMost 4) (ltb c 0x80) _ _ (lit< tt)
+    (pick-all (AtMost 4) (ltb c 0x800) _ _ (lit< tt) (pick-all (AtMost 4) (ltb c 0x10000) _ _ (lit< tt) (lit< tt)))
 
 shorter : (strict : Bool) (at k : ℕ) (s l : List ℕ) → k ≤ length s → decode strict at k s ≡ bytes l → length l + k ≤ length s
 unfolding decode
@@ -49,14 +51,20 @@ shorter strict at (suc k) (b ∷ s) l h e = omega (arith, shorter strict (suc at
 shorter strict at zero (b ∷ s) l h e = go (eqb b 38) (reference strict s) refl e (λ k m. shorter strict (suc at) k s m)
   where
     rest : (a : List ℕ) (k : ℕ) → k ≤ length s → length a ≤ 1 + k → before a (decode strict (suc at) k s) ≡ bytes l
-        → ((k : ℕ) (m : List ℕ) → k ≤ length s → decode strict (suc at) k s ≡ bytes m → length m + k ≤ length s) → length l + 0 ≤ suc (length s)
+        → ((k : ℕ) (m : List ℕ) → k ≤ length s → decode strict (suc at) k s ≡ bytes m → length m + k ≤ length s)
+        → length l + 0 ≤ suc (length s)
     rest a k h w e ih =
         let x = before-is a l (decode strict (suc at) k s) e in
         omega (arith, ih k (x .0) h (x .1), ap length (x .2), length-append a (x .0))
 
     go : (t : Bool) (r : Reference) → reference strict s ≡ r
-        → elim t [ true ↦ elim r [ Reference.Char c n ↦ before (encode c) (decode strict (suc at) n s) | Reference.Bad ↦ bad at ] | false ↦ before (b ∷ []) (decode strict (suc at) zero s) ] ≡ bytes l
-        → ((k : ℕ) (m : List ℕ) → k ≤ length s → decode strict (suc at) k s ≡ bytes m → length m + k ≤ length s) → length l + 0 ≤ suc (length s)
+        → elim t [
+          | true ↦ elim r [ Reference.Char c n ↦ before (encode c) (decode strict (suc at) n s) | Reference.Bad ↦ bad at ]
+          | false ↦
+              before (b ∷ []) (decode strict (suc at) zero s)
+        ] ≡ bytes l
+        → ((k : ℕ) (m : List ℕ) → k ≤ length s → decode strict (suc at) k s ≡ bytes m → length m + k ≤ length s)
+        → length l + 0 ≤ suc (length s)
     go true (Reference.Char c n) q e ih =
         let t = taken strict s q in
         rest (encode c) n (t .within) (omega (arith, t .some, encode-most c)) e ih
@@ -75,7 +83,8 @@ Fits rs (bytes l) = walk rs l ≡ true
 Fits rs (bad at) = Unit {0}
 
 -- bytes in front, by what they leave due
-fits-before : (a : List ℕ) (rs next : List Range) (o : Out) → ((m : List ℕ) → walk next m ≡ true → walk rs (a ++ m) ≡ true) → Fits next o → Fits rs (before a o)
+fits-before : (a : List ℕ) (rs next : List Range) (o : Out) → ((m : List ℕ) → walk next m ≡ true → walk rs (a ++ m) ≡ true) → Fits next o
+    → Fits rs (before a o)
 unfolding Fits before
 fits-before a rs next (bytes m) step f = step m f
 fits-before a rs next (bad at) step f = tt
@@ -104,7 +113,8 @@ utf8-copy b s (r ∷ rs) o h w ih = go (inRange r b) refl w
     go false q w = false-true w
 
 -- a reference is replaced by the bytes of a scalar value
-utf8-reference : (strict : Bool) (s : List ℕ) (rs : List Range) (o : Out) {c n : ℕ} → high rs ≡ true → walk rs (38 ∷ s) ≡ true → reference strict s ≡ Reference.Char c n
+utf8-reference : (strict : Bool) (s : List ℕ) (rs : List Range) (o : Out) {c n : ℕ} → high rs ≡ true → walk rs (38 ∷ s) ≡ true
+    → reference strict s ≡ Reference.Char c n
     → (walk [] (drop n s) ≡ true → Fits [] o) → Fits rs (before (encode c) o)
 unfolding isUtf8 high
 utf8-reference strict s rs o {c} {n} h w q ih =
@@ -114,7 +124,8 @@ utf8-reference strict s rs o {c} {n} h w q ih =
     let d : walk [] (drop n s) ≡ true = walk-drop-after [] s n refl (omega (arith, t .some)) (t .within) (rw (t .semicolon) (lit< tt)) v in
     rw e (fits-before (encode c) [] [] o (λ m k. utf8-encode c m (t .char) ∙ k) (ih d))
 
-utf8-decode : (strict : Bool) (at : ℕ) (s : List ℕ) (k : ℕ) (rs : List Range) → high rs ≡ true → walk rs (drop k s) ≡ true → Fits rs (decode strict at k s)
+utf8-decode : (strict : Bool) (at : ℕ) (s : List ℕ) (k : ℕ) (rs : List Range) → high rs ≡ true → walk rs (drop k s) ≡ true
+    → Fits rs (decode strict at k s)
 unfolding decode Fits high
 utf8-decode strict at [] zero rs h w = w
 utf8-decode strict at [] (suc k) rs h w = w
@@ -123,7 +134,10 @@ utf8-decode strict at (b ∷ s) zero rs h w = go (eqb b 38) (reference strict s)
   where
     go : (t : Bool) (r : Reference) → eqb b 38 ≡ t → reference strict s ≡ r
         → ((k : ℕ) (rs : List Range) → high rs ≡ true → walk rs (drop k s) ≡ true → Fits rs (decode strict (suc at) k s))
-        → Fits rs (elim t [ true ↦ elim r [ Reference.Char c n ↦ before (encode c) (decode strict (suc at) n s) | Reference.Bad ↦ bad at ] | false ↦ before (b ∷ []) (decode strict (suc at) zero s) ])
+        → Fits rs (elim t [
+          | true ↦ elim r [ Reference.Char c n ↦ before (encode c) (decode strict (suc at) n s) | Reference.Bad ↦ bad at ]
+          | false ↦ before (b ∷ []) (decode strict (suc at) zero s)
+        ])
     go true (Reference.Char c n) e q ih =
         utf8-reference strict s rs (decode strict (suc at) n s) h (rw (eqb-true b 38 e) at w) q (λ d. ih n [] refl d)
     go true Reference.Bad e q ih = tt

@@ -75,11 +75,27 @@ numeric-some strict e {n} = go (eqb (getD e 0 0) 35) (eqb (getD e 1 0) 120)
 -- ---- which codes are taken
 xml-gap : (n : ℕ) → 0xD7FF < n → n < 0xE000 → xmlChar n ≡ false
 unfolding xmlChar
-xml-gap n g h = simp (ne-eqb n 9 (omega arith), ne-eqb n 10 (omega arith), ne-eqb n 13 (omega arith), lt-leb n 0xD7FF g, lt-leb 0xE000 n h, lt-leb 0x10000 n (omega arith), pick-same)
+xml-gap n g h = simp (
+  ne-eqb n 9 (omega arith),
+  ne-eqb n 10 (omega arith),
+  ne-eqb n 13 (omega arith),
+  lt-leb n 0xD7FF g,
+  lt-leb 0xE000 n h,
+  lt-leb 0x10000 n (omega arith),
+  pick-same,
+)
 
 xml-high : (n : ℕ) → 0x10FFFF < n → xmlChar n ≡ false
 unfolding xmlChar
-xml-high n h = simp (ne-eqb n 9 (omega arith), ne-eqb n 10 (omega arith), ne-eqb n 13 (omega arith), lt-leb n 0xD7FF (omega arith), lt-leb n 0xFFFD (omega arith), lt-leb n 0x10FFFF h, pick-same)
+xml-high n h = simp (
+  ne-eqb n 9 (omega arith),
+  ne-eqb n 10 (omega arith),
+  ne-eqb n 13 (omega arith),
+  lt-leb n 0xD7FF (omega arith),
+  lt-leb n 0xFFFD (omega arith),
+  lt-leb n 0x10FFFF h,
+  pick-same,
+)
 
 -- a character of XML is a scalar value
 pub xml-scalar : (n : ℕ) → xmlChar n ≡ true → scalar n ≡ true
@@ -113,7 +129,8 @@ pub record Known (e : List ℕ) (c : ℕ) : Type 0 where
 
 char-known : (strict : Bool) (e : List ℕ) {c : ℕ} → charOf strict e ≡ Value c → Known e c
 unfolding charOf first scalar
-char-known strict e {c} = named-all Told e (λ q. one 60 q refl refl) (λ q. one 62 q refl refl) (λ q. one 38 q refl refl) (λ q. one 34 q refl refl) (λ q. one 39 q refl refl) other
+char-known strict e {c} = named-all Told e (λ q. one 60 q refl refl) (λ q. one 62 q refl refl) (λ q. one 38 q refl refl)
+    (λ q. one 34 q refl refl) (λ q. one 39 q refl refl) other
   where
     Told : Number → Type 0
     Told x = first x (only (allowed strict) (numeric (reader strict) e)) ≡ Value c → Known e c

@@ -31,7 +31,8 @@ pub decode-skip : (strict : Bool) (at k : ℕ) (s : List ℕ) → decode strict 
 unfolding decode
 decode-skip strict at zero s = rw add-zero
 decode-skip strict at (suc k) [] = refl
-decode-skip strict at (suc k) (b ∷ s) = decode-skip strict (suc at) k s ∙ ap (λ (n : ℕ). decode strict n 0 (drop k s)) (suc-add at k ∙ sym (add-suc at k))
+decode-skip strict at (suc k) (b ∷ s) = decode-skip strict (suc at) k s
+    ∙ ap (λ (n : ℕ). decode strict n 0 (drop k s)) (suc-add at k ∙ sym (add-suc at k))
 
 -- a run of bytes that are no `&` is copied
 pub decode-run : (strict : Bool) (at n : ℕ) (s : List ℕ) → n ≤ length s → ((k : ℕ) → k < n → getD s k 0 ≡ 38 → ⊥)
@@ -58,10 +59,12 @@ module _ {strict : Bool} {t acc : List ℕ} {i : ℕ} (at : DecodeAt strict t ac
   pub decode-plain : {r : ℕ} → Clear t 38 i r → DecodeAt strict t (acc ++ part t i r) r
   decode-plain {r} c =
       let k : i + (r - i) ≡ r = omega (arith, c .low) in
-      let e = decode-run strict i (r - i) (drop i t) (omega (arith, c .low, c .high, length-drop i t)) (λ j l q. c .none (i + j) (omega arith) (omega arith) (rw (getD-drop i t j 0) at q)) in
+      let e = decode-run strict i (r - i) (drop i t) (omega (arith, c .low, c .high, length-drop i t))
+      (λ j l q. c .none (i + j) (omega arith) (omega arith) (rw (getD-drop i t j 0) at q)) in
       record {
         within = c .high;
-        rest = sym (before-before acc (part t i r) (decode strict r 0 (drop r t))) ∙ ap (before acc) (sym (rw (drop-drop (r - i) i t, k) at e)) ∙ at .rest;
+        rest = sym (before-before acc (part t i r) (decode strict r 0 (drop r t)))
+            ∙ ap (before acc) (sym (rw (drop-drop (r - i) i t, k) at e)) ∙ at .rest;
       }
 
   pub decode-end : length t ≤ i → decode strict 0 0 t ≡ bytes acc

@@ -180,7 +180,8 @@ module _ (body t : List ℕ) (final : ℕ) {d : Drained} (e : d ≡ drained body
       through none = refl
       through (some c) = refl
 
-  pub whole-table : (old : List ℕ) → d ≡ Drained.Table → CopyIs (wholeText (uploaded body t final) (length old)) old old (Copied.Refused Refusal.Table)
+  pub whole-table : (old : List ℕ) → d ≡ Drained.Table
+      → CopyIs (wholeText (uploaded body t final) (length old)) old old (Copied.Refused Refusal.Table)
   unfolding wholeText
   whole-table old h = rw (← e, h) (record { number = refl; buffer = refl })
 

@@ -1,5 +1,5 @@
 -- Laws of the loops over the rows of an element: what a row does to its whole text, the length of the text, and its bytes.
-use Prim.Native.Nat.{ℕ, zero, suc, _+_, _*_, _≤_, _<_}
+use Prim.Native.Nat.{ℕ, _+_, _*_, _≤_, _<_}
 use mathlib.Core.Path.{_≡_, refl, sym, _∙_, ap}
 use mathlib.Core.Bool.{Bool, true, false}
 use mathlib.Core.List.{List, [], _++_, append-assoc, append-nil}
@@ -18,9 +18,9 @@ use Rattle.reference.specs.Text.{Out, bytes, bad, unescaped, meaning}
 use Rattle.reference.proofs.Result.{unescaped-shorter}
 use Rattle.reference.specs.declared.Unescaped.{Unescaped}
 use Rattle.unescape.specs.Loops.{sizeOf}
-use Rattle.table.specs.Row.{Name, Tok, tokAs}
+use Rattle.table.specs.Row.{Tok, tokAs}
 use Rattle.document.specs.declared.Depth.{Depth}
-use Rattle.document.specs.Reader.{depth, depthAfter, Scope, endsAt}
+use Rattle.document.specs.Reader.{depth, depthAfter, endsAt}
 use Rattle.document.specs.Text.{takeEach, joined}
 use Rattle.document.proofs.Laws.Short.{cut-short}
 use Rattle.decode.specs.declared.reader.ScopeRow.{ScopeRow}

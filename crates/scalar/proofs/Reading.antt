@@ -38,10 +38,10 @@ use Rattle.decode.specs.View.{failureAt, Viewed}
 use Rattle.decode.specs.Text.{textAt, TextIn, TextIs}
 use Rattle.decode.proofs.Names.{value-span}
 use Rattle.opening.specs.declared.Opening.{Opening}
-use Rattle.opening.specs.Opening.{OpeningIs}
+use Rattle.opening.specs.Opening.{OpeningIs, openedAt}
 use Rattle.scalar.specs.declared.Copied.{Copied}
 use Rattle.scalar.specs.Answers.{CopyIs}
-use Rattle.scalar.specs.Read.{RowIn, RowsAs, RowsIn, TextRead, spoiltBy, openedAt, rootsText, readText}
+use Rattle.scalar.specs.Read.{RowIn, RowsAs, RowsIn, TextRead, spoiltBy, rootsText, readText}
 use Rattle.scalar.proofs.Texts.{string-nothing}
 use Rattle.scalar.proofs.Opened.{opened-laws, opened-why, opened-is}
 use Rattle.scalar.proofs.Unescaping.{size-length, size-bad, size-never, saw-length, saw-bad, saw-over, plain}

@@ -1,9 +1,10 @@
 -- Each answer as 01's number (refusal/specs/Numbers.antt) and values: 0 where the operation finished.
 use Prim.Native.Nat.{ℕ}
 use mathlib.Core.Path.{_≡_}
-use mathlib.Core.Bool.{Bool, true, false}
+use mathlib.Core.Bool.{Bool}
 use mathlib.Core.List.{List}
 use lib.IntN.{ℤ}
+use Rattle.lists.specs.Tests.{yesNo}
 use Rattle.refusal.specs.Answer.{Answer, gives, refuses}
 use Rattle.refusal.specs.Numbers.{number}
 use Rattle.document.specs.Scope as doc
@@ -15,10 +16,6 @@ numberOf (gives a) = 0
 numberOf (refuses r) = number r
 
 -- ---- a boolean as 1 or 0; what stood there where it is refused
-abbrev pub yesNo : Bool → ℕ
-yesNo true = 1
-yesNo false = 0
-
 abbrev pub booleanAfter : Answer Bool → ℕ → ℕ
 booleanAfter (gives b) old = yesNo b
 booleanAfter (refuses r) old = old

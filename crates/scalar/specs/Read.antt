@@ -9,13 +9,8 @@ use Rattle.document.specs.Text.{textOf}
 use Rattle.readings.specs.Call.{uploaded}
 use Rattle.readings.specs.Opening.{Opened, opened}
 use Rattle.readings.specs.Scalar.{unlessIllFormed}
-use Rattle.decode.specs.declared.reader.Cursor.{Cursor}
-use Rattle.decode.specs.declared.reader.StartRow.{StartRow}
-use Rattle.decode.specs.declared.view.View.{View}
 use Rattle.decode.specs.declared.text.Text.{Text}
 use Rattle.decode.specs.Rows.{InTable, Readable}
-use Rattle.decode.specs.Reader.{childAt}
-use Rattle.decode.specs.View.{viewAt}
 use Rattle.decode.specs.Text.{textAt}
 
 -- ---- a text by its row, that can be read: a short one, since the body is short
@@ -42,10 +37,6 @@ abbrev pub spoiltBy : Answer (List ℕ) → Answer (List ℕ)
 spoiltBy a = onward a (unlessIllFormed true)
 
 -- ---- the text of a root, and of a body
--- a root by its row, in a view by number
-abbrev pub openedAt : List ℕ → List ℕ → View → StartRow → Cursor → Opened
-openedAt body t v s c = record { seen = viewAt t v; root = childAt body t (v .count) s c }
-
 abbrev pub rootsText : Opened → Answer (List ℕ)
 rootsText o = onward (textOf (o .seen .failure) (o .root)) (unlessIllFormed (o .seen .illFormed))
 

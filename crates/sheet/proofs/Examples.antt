@@ -12,13 +12,20 @@ use Rattle.sheet.specs.Sheet.{Member, Structure, structureOf, listOf, ma
 -- ---- structure
 -- a sheet of which no bit stands, and a member of which none does
 abbrev plain : List ℕ → List Member → Structure
-plain shape members = record { xmlName = none; originalName = none; memberName = none; unwrapped = false; shapeName = shape; members = members }
+plain shape members = record {
+  xmlName = none;
+  originalName = none;
+  memberName = none;
+  unwrapped = false;
+  shapeName = shape;
+  members = members;
+}
 
 abbrev nameless : Member
 nameless = record { xmlName = none; memberName = none; attribute = false; flattened = false; aggregate = false }
 
--- every bit; some bits; the longest name, and as many members as may be; then broken ones: an empty sheet, a higher bit, a name of length 0, a name
--- that is cut, no count, a member that is missing, a member with a higher bit, bytes left over, and one member more than may be
+-- every bit; some bits; the longest name, and as many members as may be; then broken ones: an empty sheet, a higher bit, a name of length
+-- 0, a name that is cut, no count, a member that is missing, a member with a higher bit, bytes left over, and one member more than may be
 pub structure-examples :
     map structureOf (
     (15 ∷ 1 ∷ 88 ∷ 1 ∷ 79 ∷ 1 ∷ 77 ∷ 2 ∷ 83 ∷ 104 ∷ 2 ∷ 31 ∷ 1 ∷ 97 ∷ 1 ∷ 98 ∷ 6 ∷ 1 ∷ 99 ∷ [])
@@ -59,8 +66,8 @@ unfolding times structureOf
 structure-examples = refl
 
 -- ---- list
--- every bit; a member with no name; no member, flattened; then broken ones: an empty sheet, a higher bit, a name of length 0, a name that is cut, bytes left
--- over, and bits 2 and 3 without 0
+-- every bit; a member with no name; no member, flattened; then broken ones: an empty sheet, a higher bit, a name of length 0, a name that
+-- is cut, bytes left over, and bits 2 and 3 without 0
 pub list-examples :
     map listOf (
     (15 ∷ 1 ∷ 120 ∷ 2 ∷ 109 ∷ 110 ∷ [])
@@ -82,8 +89,8 @@ unfolding listOf
 list-examples = refl
 
 -- ---- map
--- every bit; a value with no name, and no key name; no value, with a key name; then broken ones: an empty sheet, a higher bit, a name of length 0, a name
--- that is cut, bytes left over, and bits 3 and 4 without 2
+-- every bit; a value with no name, and no key name; no value, with a key name; then broken ones: an empty sheet, a higher bit, a name of
+-- length 0, a name that is cut, bytes left over, and bits 3 and 4 without 2
 pub map-examples :
     map mapOf (
     (31 ∷ 1 ∷ 107 ∷ 2 ∷ 118 ∷ 119 ∷ [])
@@ -97,7 +104,11 @@ pub map-examples :
     ∷ (8 ∷ 1 ∷ 118 ∷ [])
     ∷ (16 ∷ [])
     ∷ [])
-    ≡ some (record { flattened = true; keyXmlName = some (ascii "k"); value = some (record { xmlName = some (ascii "vw"); aggregate = true }) })
+    ≡ some (record {
+      flattened = true;
+      keyXmlName = some (ascii "k");
+      value = some (record { xmlName = some (ascii "vw"); aggregate = true });
+    })
     ∷ some (record { flattened = false; keyXmlName = none; value = some (record { xmlName = none; aggregate = false }) })
     ∷ some (record { flattened = false; keyXmlName = some (ascii "k"); value = none })
     ∷ none ∷ none ∷ none ∷ none ∷ none ∷ none ∷ none ∷ []

@@ -13,7 +13,8 @@ use Rattle.lists.specs.Overwrite.{Stored}
 -- one more store at the end of a run of stores
 sets-snoc : (l : List ℕ) (n : ℕ) (xs : List ℕ) (b : ℕ) → sets l n (xs ++ (b ∷ [])) ≡ set (sets l n xs) (n + length xs) b
 sets-snoc l n [] b = rw add-zero
-sets-snoc l n (x ∷ xs) b = sets-snoc (set l n x) (suc n) xs b ∙ ap (λ (k : ℕ). set (sets (set l n x) (suc n) xs) k b) (suc-add n (length xs) ∙ sym (add-suc n (length xs)))
+sets-snoc l n (x ∷ xs) b = sets-snoc (set l n x) (suc n) xs b
+    ∙ ap (λ (k : ℕ). set (sets (set l n x) (suc n) xs) k b) (suc-add n (length xs) ∙ sym (add-suc n (length xs)))
 
 -- a run of stores after another
 sets-append : (l : List ℕ) (n : ℕ) (xs ys : List ℕ) → sets (sets l n xs) (n + length xs) ys ≡ sets l n (xs ++ ys)
@@ -25,14 +26,16 @@ sets-append l n (x ∷ xs) ys =
 -- a store before a run of stores
 set-sets : (l : List ℕ) (n m : ℕ) (xs : List ℕ) (y : ℕ) → n < m → set (sets l m xs) n y ≡ sets (set l n y) m xs
 set-sets l n m [] y h = refl
-set-sets l n m (x ∷ xs) y h = set-sets (set l m x) n (suc m) xs y (omega arith) ∙ ap (λ (k : List ℕ). sets k (suc m) xs) (set-comm l m n x y (λ e. omega arith))
+set-sets l n m (x ∷ xs) y h = set-sets (set l m x) n (suc m) xs y (omega arith)
+    ∙ ap (λ (k : List ℕ). sets k (suc m) xs) (set-comm l m n x y (λ e. omega arith))
 
 -- a run of stores over one that is not longer
 sets-over : (l : List ℕ) (n : ℕ) (xs ys : List ℕ) → length xs ≤ length ys → sets (sets l n xs) n ys ≡ sets l n ys
 sets-over l n [] ys h = refl
 sets-over l n (x ∷ xs) [] h = absurd (omega arith)
 sets-over l n (x ∷ xs) (y ∷ ys) h =
-    ap (λ (k : List ℕ). sets k (suc n) ys) (set-sets (set l n x) n (suc n) xs y (omega arith) ∙ ap (λ (k : List ℕ). sets k (suc n) xs) (set-set l n x y))
+    ap (λ (k : List ℕ). sets k (suc n) ys)
+    (set-sets (set l n x) n (suc n) xs y (omega arith) ∙ ap (λ (k : List ℕ). sets k (suc n) xs) (set-set l n x y))
     ∙ sets-over (set l n y) (suc n) xs ys (omega arith)
 
 pub record CopyAt (src old out : List ℕ) (at k : ℕ) : Type 0 where
@@ -47,7 +50,8 @@ module _ {src old out : List ℕ} {at k : ℕ} (c : CopyAt src old out at k) whe
   pub copy-turn : k < length src → CopyAt src old (set out (at + k) (getD src k 0)) at (k + 1)
   copy-turn h =
       let n : length (take k src) ≡ k = length-take-le k src (c .within) in
-      let e : sets old at (take (k + 1) src) ≡ set out (at + k) (getD src k 0) = rw (add-one, take-suc src k 0, sets-snoc old at (take k src) (getD src k 0), ← c .is, n) in
+      let e : sets old at (take (k + 1) src) ≡ set out (at + k) (getD src k 0) =
+      rw (add-one, take-suc src k 0, sets-snoc old at (take k src) (getD src k 0), ← c .is, n) in
       record { within = omega arith; is = sym e; same = ap length (sym e) ∙ length-sets old at (take (k + 1) src) }
 
   pub copy-write : at + length src ≤ length old → k < length src → at + k < length out
@@ -59,7 +63,8 @@ module _ {src old out : List ℕ} {at k : ℕ} (c : CopyAt src old out at k) whe
       record { next = rw e; is = rw (take-all k src h) at (c .is) }
 
   -- a block more
-  pub copy-block : {b out′ : List ℕ} {r : ℕ} → 32 ≤ length src - k → b ≡ take 32 (drop k src) → Stored out out′ (at + k) b r → CopyAt src old out′ at (k + 32)
+  pub copy-block : {b out′ : List ℕ} {r : ℕ} → 32 ≤ length src - k → b ≡ take 32 (drop k src) → Stored out out′ (at + k) b r
+      → CopyAt src old out′ at (k + 32)
   copy-block h i p =
       let s = rw i at p in
       let n : length (take k src) ≡ k = length-take-le k src (c .within) in
@@ -87,7 +92,8 @@ module _ {src old out : List ℕ} {at k : ℕ} (c : CopyAt src old out at k) whe
       let e : out ≡ sets l (at + m) x =
       c .is ∙ ap (λ (z : List ℕ). sets old at z) t ∙ sym (sets-append old at (take m src) x) ∙ ap (λ (i : ℕ). sets l (at + i) x) n in
       let f : sets l (at + m) y ≡ sets old at src =
-      ap (λ (i : ℕ). sets l (at + i) y) (sym n) ∙ sets-append old at (take m src) y ∙ ap (λ (z : List ℕ). sets old at z) (sym (take-add m 32 src) ∙ take-all (m + 32) src (omega arith)) in
+      ap (λ (i : ℕ). sets l (at + i) y) (sym n) ∙ sets-append old at (take m src) y
+      ∙ ap (λ (z : List ℕ). sets old at z) (sym (take-add m 32 src) ∙ take-all (m + 32) src (omega arith)) in
       record {
         next = omega (arith, s .next, w);
         is = s .is ∙ rw e (sets-over l (at + m) x y (omega (arith, w, length-take (k - m) (drop m src), c .within))) ∙ f;

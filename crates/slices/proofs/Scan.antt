@@ -54,7 +54,13 @@ pub record BlockAt (s : List ℕ) (x from width n k : ℕ) : Type 0 where
   pub clear : n ≡ 0 → Clear s x from (from + k)
 
 pub block-start : (s : List ℕ) (x from width : ℕ) → from + width ≤ length s → BlockAt s x from width 0 0
-block-start s x from width h = record { small = omega arith; within = omega arith; clear = λ e. let q : from ≡ from + 0 = omega arith in rw (← q) (clear-start s x from (omega arith)) }
+block-start s x from width h =
+    record {
+      small = omega arith;
+      within = omega arith;
+      clear = λ e. let q : from ≡ from + 0 = omega arith in
+          rw (← q) (clear-start s x from (omega arith));
+    }
 
 module _ {s : List ℕ} {x from width n k : ℕ} (b : BlockAt s x from width n k) (room : from + width ≤ length s) (h : k < width) where
   pub block-hit : BlockAt s x from width (n + 1) (k + 1)
@@ -92,7 +98,8 @@ module _ {s : List ℕ} {x from width first k : ℕ} (f : FirstAt s x from width
       → FirstAt s x from width m (k + 1)
   first-turn {h} {m} l w p q = go (eqb (getD s (from + k) 0) x) (ltb h first) refl refl p q
     where
-      go : (t u : Bool) → eqb (getD s (from + k) 0) x ≡ t → ltb h first ≡ u → h ≡ pick t k 255 → m ≡ pick u h first → FirstAt s x from width m (k + 1)
+      go : (t u : Bool) → eqb (getD s (from + k) 0) x ≡ t → ltb h first ≡ u → h ≡ pick t k 255 → m ≡ pick u h first
+          → FirstAt s x from width m (k + 1)
       go true true e g p q =
           record {
             within = omega arith;
@@ -158,4 +165,16 @@ pub ruleset first-laws = (needs, first-start, first-turn, first-end)
 
 pub ruleset later-laws = (needs, clear-start, clear-first, found-in, found-later, found-near, found-far)
 
-pub ruleset scan-laws = (needs, clear-start, clear-more, found-at, found-end, block-start, block-hit, block-miss, block-none, block-some, clear-block)
+pub ruleset scan-laws = (
+  needs,
+  clear-start,
+  clear-more,
+  found-at,
+  found-end,
+  block-start,
+  block-hit,
+  block-miss,
+  block-none,
+  block-some,
+  clear-block,
+)

@@ -1,5 +1,5 @@
 -- Laws of an unwrapped structure: the root by its rows, up to the row that closes it by depth, as one piece.
-use Prim.Native.Nat.{ℕ, zero, suc, _+_, _*_, _-_, _≤_, _<_}
+use Prim.Native.Nat.{ℕ, _+_, _*_, _-_, _≤_, _<_}
 use mathlib.Core.Path.{_≡_, refl, sym, _∙_, ap}
 use mathlib.Core.Bool.{Bool, true, false}
 use mathlib.Core.List.{List, [], _∷_}
@@ -44,7 +44,7 @@ use Rattle.output.specs.declared.Step.{Step}
 use Rattle.output.specs.Plans.{piece}
 use Rattle.output.specs.Held.{Enters}
 use Rattle.output.proofs.Then.{midway-start, midway-stops, tested-ill, does-as}
-use Rattle.structure.specs.Steps.{openedAt}
+use Rattle.opening.specs.Opening.{openedAt}
 use Rattle.structure.specs.Unwrapped.{endFrom, EndIs, RootPieceIs, rootAs}
 use Rattle.structure.proofs.Loops.{given-index, idle-does}
 

@@ -20,7 +20,8 @@ use Rattle.readings.specs.Structure.{withRootName, openedPlan, structurePlan}
 use Rattle.readings.proofs.Laws.Order.{orderIn}
 use Rattle.structure.specs.Structure.{isOther, rootedPlan}
 
-with-name : (tests matches : Bool) (w : Whole) → withRootName tests matches w ≡ pick (isOther tests matches) (withoutGroups (stop Refusal.RootName)) w
+with-name : (tests matches : Bool) (w : Whole)
+    → withRootName tests matches w ≡ pick (isOther tests matches) (withoutGroups (stop Refusal.RootName)) w
 with-name false matches w = refl
 with-name true true w = refl
 with-name true false w = refl
@@ -32,8 +33,10 @@ module _ (body t : List ℕ) (final : ℕ) (sheet : List ℕ) (settings : Settin
   unfolding structurePlan
   structure-early order q = rw q
 
-  pub structure-is : (st : Structure) (o : Opened) → asked (uploaded body t final) (structureOf sheet) settings depth ≡ gives (record { sheet = st; opened = o })
-      → structurePlan (uploaded body t final) (calling sheet settings depth) (orderIn (asked (uploaded body t final) (structureOf sheet) settings depth))
+  pub structure-is : (st : Structure) (o : Opened)
+      → asked (uploaded body t final) (structureOf sheet) settings depth ≡ gives (record { sheet = st; opened = o })
+      → structurePlan (uploaded body t final) (calling sheet settings depth)
+      (orderIn (asked (uploaded body t final) (structureOf sheet) settings depth))
       ≡ rootedPlan body st (testsRootName settings depth) o
   unfolding structurePlan openedPlan rootedPlan
   structure-is st o q = rw q (with-name (testsRootName settings depth) (nameMatches (o .root .start .name) (rootName st)) _)

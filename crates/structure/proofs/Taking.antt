@@ -50,8 +50,10 @@ use Rattle.opening.specs.Level.{left}
 use Rattle.opening.proofs.Level.{found-in, found-start, found-outside, none-left, one-left, less-left}
 use Rattle.structure.specs.declared.children.Taken.{Taken}
 use Rattle.structure.specs.Steps.{Given, Space, Wrote, Begins, afterAttributes, afterChildren}
-use Rattle.structure.specs.Children.{scalarOf, memberOf, takenOf, stepOf, KeptRoom, flatIf, Keeping, passed, kept, TakenAs, AllTaken, ChildrenTaken}
-use Rattle.structure.proofs.Loops.{given-index, viewed-space, value-short, value-ready, adds-as, idle-does, idle-adds, wrote-as, OneByOne, one-start, one-ends, one-stops, one-goes}
+use Rattle.structure.specs.Children.{scalarOf, memberOf, takenOf, stepOf, KeptRoom, flatIf, Keeping, passed, kept, TakenAs, AllTaken}
+use Rattle.structure.specs.Children.{ChildrenTaken}
+use Rattle.structure.proofs.Loops.{given-index, viewed-space, value-short, value-ready, adds-as, idle-does, idle-adds, wrote-as}
+use Rattle.structure.proofs.Loops.{OneByOne, one-start, one-ends, one-stops, one-goes}
 
 -- ---- a step, and how many are kept
 pub with-done : (s : Step) (count : ℕ) {w : Written} → s ≡ Step.Done w → Taken.Done w count ≡ takenOf s count
@@ -181,7 +183,8 @@ pub ruleset row-laws = (needs, local-span, row-resolved)
 module _ (body t : List ℕ) (v : View) (s : StartRow) (c : Cursor) {sheet members : List ℕ} {f : Found}
     (y : Resolved sheet members (nameAt body t (s .row) .local) f) where
   as-member : {o : Option Indexed} → foundIn (saidBy sheet .members) f ≡ o
-      → childPlan body (viewAt t v) (saidBy sheet) (childAt body t (v .count) s c) ≡ memberPlan body (viewAt t v) (childAt body t (v .count) s c) o
+      → childPlan body (viewAt t v) (saidBy sheet) (childAt body t (v .count) s c) ≡ memberPlan body (viewAt t v)
+      (childAt body t (v .count) s c) o
   unfolding childPlan
   as-member p = rw (y .is, p)
 
@@ -315,7 +318,8 @@ module _ {body t : List ℕ} {v : View} {st : Structure} {s : ScopeRow} {c₀ : 
                 (left body t (v .count) s c₀)
             before = rw (one-left n q y) at (a .keeps)
 
-            with-kept : m ≤ count + 1 → KeepsSiblings body (viewAt t v) st l₂ m (left body t (v .count) s (p .at)) (left body t (v .count) s c₀)
+            with-kept : m ≤ count + 1 → KeepsSiblings body (viewAt t v) st l₂ m (left body t (v .count) s (p .at))
+                (left body t (v .count) s c₀)
                 → ChildrenAt body t v st s c₀ l₀ e x w l₂ e₂ x₂ w₂ m (p .at)
             with-kept h new =
                 record {

@@ -35,9 +35,9 @@ use Rattle.output.specs.Held.{DoesWhole, Enters}
 use Rattle.output.proofs.Then.{whole-goes, whole-stops, alone-does, whole-as}
 use Rattle.output.proofs.Room.{stays}
 use Rattle.output.proofs.Sound.{sound-nothing}
-use Rattle.opening.specs.Opening.{RootAt}
+use Rattle.opening.specs.Opening.{RootAt, openedAt}
 use Rattle.structure.specs.declared.children.Taken.{Taken}
-use Rattle.structure.specs.Steps.{Given, Begins, DoesWithin, openedAt, afterAttributes, afterChildren}
+use Rattle.structure.specs.Steps.{Given, Begins, DoesWithin, afterAttributes, afterChildren}
 use Rattle.structure.specs.Attributes.{attributesPlan}
 use Rattle.structure.specs.Children.{stepOf, ChildrenTaken}
 use Rattle.structure.specs.Groups.{KeptIn, GroupsIs}

@@ -6,13 +6,9 @@ use lib.ListN.{length, getD}
 use Rattle.sheet.specs.Sheet.{Structure}
 use Rattle.sheet.specs.Names.{Indexed}
 use Rattle.readings.specs.Plan.{Plan}
-use Rattle.readings.specs.Opening.{Opened}
 use Rattle.decode.specs.Rows.{Readable}
-use Rattle.decode.specs.declared.reader.StartRow.{StartRow}
-use Rattle.decode.specs.declared.reader.Cursor.{Cursor}
 use Rattle.decode.specs.declared.view.View.{View}
-use Rattle.decode.specs.Reader.{childAt}
-use Rattle.decode.specs.View.{viewAt, Viewed}
+use Rattle.decode.specs.View.{Viewed}
 use Rattle.codec.specs.Structure.{nameless, MembersSaid}
 use Rattle.output.specs.declared.Written.{Written}
 use Rattle.output.specs.declared.Step.{Step}
@@ -22,10 +18,6 @@ use Rattle.output.specs.Held.{Does, Sound, Adds}
 pub record Given (body t : List ℕ) (v : View) (sheet members : List ℕ) : Type 0 where
   pub viewed : Viewed body t v
   pub said : MembersSaid sheet members
-
--- the root, as the definition has it
-abbrev pub openedAt : List ℕ → List ℕ → View → StartRow → Cursor → Opened
-openedAt body t v s c = record { seen = viewAt t v; root = childAt body t (v .count) s c }
 
 -- a member by its index
 abbrev pub memberIn : Structure → ℕ → Indexed

@@ -18,7 +18,7 @@ use Rattle.decode.specs.declared.view.View.{View}
 use Rattle.output.specs.declared.Written.{Written}
 use Rattle.output.specs.declared.Step.{Step}
 use Rattle.output.specs.Held.{DoesWhole}
-use Rattle.structure.specs.Steps.{openedAt}
+use Rattle.opening.specs.Opening.{openedAt}
 
 -- the children, 9, then the groups
 unfoldable pub contentPlan : List ℕ → Structure → Opened → Whole

@@ -17,7 +17,7 @@ use Rattle.decode.specs.declared.reader.Cursor.{Cursor}
 use Rattle.decode.specs.declared.view.View.{View}
 use Rattle.decode.specs.declared.piece.Piece.{Piece}
 use Rattle.decode.specs.Piece.{pieceAt}
-use Rattle.structure.specs.Steps.{openedAt}
+use Rattle.opening.specs.Opening.{openedAt}
 
 -- where an element ends by its rows, n being open before them, after a row at position p
 abbrev pub endFrom : ℕ → ℕ → ℕ → List Row → ℕ

@@ -8,7 +8,7 @@ ghost use Rattle.document.specs.Names.{nameMatches};
 ghost use Rattle.sheet.specs.Names.{rootName};
 ghost use Rattle.codec.specs.Structure.{saidBy, StructureSaid};
 ghost use Rattle.opening.specs.Opening.{RootAt};
-ghost use Rattle.structure.specs.Steps.{Given, Begins, afterAttributes, openedAt};
+ghost use Rattle.structure.specs.Steps.{Given, Begins, afterAttributes};
 ghost use Rattle.structure.specs.Structure.{isOther, ContentIs, MembersAre, StructureIs};
 use crate::attributes::read_attributes;
 use crate::children::Taken;

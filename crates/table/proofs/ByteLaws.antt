@@ -2,7 +2,7 @@
 use Prim.Native.Nat.{ℕ, zero, suc, _+_, _-_, _*_, _≤_, _<_}
 use mathlib.Core.Path.{_≡_, refl, sym, _∙_}
 use mathlib.Core.Bool.{Bool, true, false}
-use mathlib.Core.List.{List, [], _∷_}
+use mathlib.Core.List.{List}
 use native.Mathlib.Omega.{arith}
 use borrow.Author.Needs.{needs}
 use borrow.Author.Tests.{not-true, not-false}
@@ -133,7 +133,8 @@ module _ (body : List ℕ) (kind own : ℕ) {a : Bool} (is : a ≡ endsInGt kind
       ends-short e l = says-no (λ s. omega (arith, s .slash e))
 
       pub ends-slash : kind ≡ 5 → 2 ≤ own → Says (Ends body kind own) (eqb (getD body (own - 2) 0) 47)
-      ends-slash e l = says-same (λ q. record { gt = λ e. (h, g); slash = λ e. (l, q) }) (λ s. (s .slash e) .1) (says-eqb (getD body (own - 2) 0) 47)
+      ends-slash e l = says-same (λ q. record { gt = λ e. (h, g); slash = λ e. (l, q) }) (λ s. (s .slash e) .1)
+          (says-eqb (getD body (own - 2) 0) 47)
 
 pub ruleset ends-laws = (needs, not-true, not-false, ends-other, ends-none, ends-differs, ends-gt, ends-short, ends-slash)
 
@@ -145,7 +146,8 @@ module _ {body : List ℕ} {kind previous own : ℕ} {t : List ℕ} {k : ℕ} {a
   pub bytes-no : {b : Bool} → a ≡ true → Says (Begins body previous t k) b → b ≡ false → Says (Bytes body kind previous own t k) false
   bytes-no y s n = says-no (λ i. says-not s n (i .tag (sym is ∙ y)))
 
-  pub bytes-tag : {b r : Bool} → a ≡ true → Says (Begins body previous t k) b → b ≡ true → Says (Ends body kind own) r → Says (Bytes body kind previous own t k) r
+  pub bytes-tag : {b r : Bool} → a ≡ true → Says (Begins body previous t k) b → b ≡ true → Says (Ends body kind own) r
+      → Says (Bytes body kind previous own t k) r
   bytes-tag y s z d = says-same (λ i. record { tag = λ e. s .sound z; ending = i }) (λ i. i .ending) d
 
 pub ruleset bytes-laws = (needs, not-true, not-false, bytes-other, bytes-no, bytes-tag)

@@ -2,7 +2,7 @@
 use Prim.Native.Nat.{ℕ, zero, suc, _≤_}
 use mathlib.Core.Path.{_≡_, refl}
 use mathlib.Core.Bool.{Bool, true, false, not}
-use mathlib.Core.List.{List, [], _∷_}
+use mathlib.Core.List.{List}
 use native.Mathlib.Omega.{arith}
 use borrow.Author.Tests.{ne-eqb}
 use lib.Dec.{eqb}
@@ -51,7 +51,10 @@ not-text e = let z : _≡_ {A = ℕ} 0 1 = cc in absurd (omega arith)
 pub kind-of : (k : ℕ) (n : Name) (v : List ℕ) → Kind n v k (tokAs k n v)
 unfolding tokAs
 kind-of zero n v =
-    of-error {k = 0} (record { loose = record { start = refl; tagEnd = refl; closing = refl; inTag = refl }; eight = λ l h. absurd (omega (arith, l)) })
+    of-error {k = 0} (record {
+      loose = record { start = refl; tagEnd = refl; closing = refl; inTag = refl };
+      eight = λ l h. absurd (omega (arith, l));
+    })
 kind-of (suc zero) n v = of-start
 kind-of (suc (suc zero)) n v = of-attr
 kind-of (suc (suc (suc zero))) n v = of-gt

@@ -1,5 +1,5 @@
--- An element of a table as a table of its own: its rows, counted from its first byte, with the piece as body and its length as final position, obey the rules
--- and stand for the same tokens.
+-- An element of a table as a table of its own: its rows, counted from its first byte, with the piece as body and its length as final
+-- position, obey the rules and stand for the same tokens.
 use Prim.Native.Nat.{ℕ, zero, suc, _+_, _-_, _≤_, _<_}
 use mathlib.Core.Path.{_≡_, refl, ap}
 use mathlib.Core.Bool.{Bool, true, false}
@@ -23,7 +23,8 @@ each-drop zero {p} e = (p, e)
 each-drop (suc k) {p} none = (p, none)
 each-drop (suc k) (row o t) = each-drop k t
 
-pub each-take : {body : List ℕ} (c : ℕ) {p : Place} {rows : List Row} → EachRow body p rows → lastPosition (p .position) (take c rows) ≤ lastPosition (p .position) rows
+pub each-take : {body : List ℕ} (c : ℕ) {p : Place} {rows : List Row} → EachRow body p rows
+    → lastPosition (p .position) (take c rows) ≤ lastPosition (p .position) rows
 each-take zero e = last-high e
 each-take (suc c) none = omega arith
 each-take (suc c) (row o t) = each-take c t
@@ -32,7 +33,8 @@ last-from : (q p : ℕ) (rows : List Row) → q ≤ lastPosition p rows → last
 last-from q p [] h = h
 last-from q p (r ∷ rest) h = omega arith
 
-pub last-drop : {body : List ℕ} (k : ℕ) {p : Place} {rows : List Row} → EachRow body p rows → (q : ℕ) → q ≤ lastPosition (p .position) rows → lastPosition q (drop k rows) ≤ lastPosition (p .position) rows
+pub last-drop : {body : List ℕ} (k : ℕ) {p : Place} {rows : List Row} → EachRow body p rows → (q : ℕ) → q ≤ lastPosition (p .position) rows
+    → lastPosition q (drop k rows) ≤ lastPosition (p .position) rows
 last-drop zero {p} {rows} e q h = last-from q (p .position) rows h
 last-drop (suc k) none q h = h
 last-drop (suc k) (row o t) q h = last-drop k t q h
@@ -82,11 +84,13 @@ closed-ends {body} n h (row {p} {r} {rest} o t) e = go (eqb (openCount n (r .kin
         → ((m : ℕ) → 0 < m → isClosed m rest ≡ true → getD body (lastPosition (r .position) (take (closing m rest) rest) - 1) 0 ≡ 62)
         → getD body (lastPosition (p .position) (take (suc (pick c 0 (closing (openCount n (r .kind)) rest))) (r ∷ rest)) - 1) 0 ≡ 62
     go true q e ih = o .ending .gt (close-ends (r .kind) (closes-is n r h (eqb-true (openCount n (r .kind)) 0 q))) .1
-    go false q e ih = let some : openCount n (r .kind) ≡ 0 → ⊥ = eqb-false (openCount n (r .kind)) 0 q in ih (openCount n (r .kind)) (positive (openCount n (r .kind)) some) e
+    go false q e ih = let some : openCount n (r .kind) ≡ 0 → ⊥ = eqb-false (openCount n (r .kind)) 0 q in
+        ih (openCount n (r .kind)) (positive (openCount n (r .kind)) some) e
 
 -- ---- the theorems
 -- the rows of an element: its start row first
-pub element-is : (rows : List Row) (k : ℕ) {first : Row} {rest : List Row} → drop k rows ≡ first ∷ rest → first .kind ≡ 1 → elementRows rows k ≡ first ∷ take (closing 1 rest) rest
+pub element-is : (rows : List Row) (k : ℕ) {first : Row} {rest : List Row} → drop k rows ≡ first ∷ rest → first .kind ≡ 1
+    → elementRows rows k ≡ first ∷ take (closing 1 rest) rest
 unfolding closing
 element-is rows k {first} {rest} e one = rw (e, one)
 
@@ -97,7 +101,8 @@ pub record Bounds (body : List ℕ) (from end : ℕ) : Type 0 where
   pub lt : getD body from 0 ≡ 60
   pub gt : getD body (end - 1) 0 ≡ 62
 
-bounds : {body : List ℕ} {p : Place} {r : Row} {rest : List Row} → EachRow body p (r ∷ rest) → r .kind ≡ 1 → isClosed 1 rest ≡ true → lastPosition (r .position) rest ≤ length body
+bounds : {body : List ℕ} {p : Place} {r : Row} {rest : List Row} → EachRow body p (r ∷ rest) → r .kind ≡ 1 → isClosed 1 rest ≡ true
+    → lastPosition (r .position) rest ≤ length body
     → Bounds body (beginOf body r) (lastPosition (r .position) (take (closing 1 rest) rest))
 bounds {rest = rest} (row o t) one e u =
     let b = o .tagBegins (rw one) in
@@ -162,13 +167,21 @@ module _ {body : List ℕ} {rows : List Row} {final k place : ℕ} (g : Rules bo
   piece-bounds = rw (element-is rows k (a .cut-at) (a .starts), ← a .begins) bytes
 
   -- its table: its rows, its bytes and its final position obey the rules
-  pub piece-rules : Rules (pieceBytes body (elementRows rows k)) (pieceRows body (elementRows rows k)) (pieceFinal body (elementRows rows k))
+  pub piece-rules : Rules (pieceBytes body (elementRows rows k)) (pieceRows body (elementRows rows k))
+      (pieceFinal body (elementRows rows k))
   piece-rules =
       rw (element-is rows k (a .cut-at) (a .starts))
       (record {
-        fewRows = omega (arith, length-taken begin (closing 1 (a .rest)) (a .rest), ap length (a .cut-at), length-dropped k rows, g .fewRows);
+        fewRows = omega (
+          arith,
+          length-taken begin (closing 1 (a .rest)) (a .rest),
+          ap length (a .cut-at),
+          length-dropped k rows,
+          g .fewRows,
+        );
         fewBytes = omega (arith, long, g .fewBytes, bytes .within);
-        utf8 = λ h. utf8-part body begin end (bytes .rises) (bytes .within) (rw (bytes .lt) (lit< tt)) (rw (bytes .gt) (lit< tt)) (g .utf8 some);
+        utf8 = λ h. utf8-part body begin end (bytes .rises) (bytes .within) (rw (bytes .lt) (lit< tt)) (rw (bytes .gt) (lit< tt))
+            (g .utf8 some);
         ends = omega (arith, long, rw zero-is at (last-moved begin begin (a .first ∷ take (closing 1 (a .rest)) (a .rest))));
         within = omega arith;
         each = element-rows body (end - begin) (each .1) (a .starts) (omega (arith, bytes .rises));
@@ -185,4 +198,5 @@ module _ {body : List ℕ} {rows : List Row} {final k place : ℕ} (g : Rules bo
 
   -- its rows, counted from its first byte, stand for the same tokens over the piece
   pub piece-toks : toksOf (pieceBytes body (elementRows rows k)) (pieceRows body (elementRows rows k)) ≡ toksOf body (elementRows rows k)
-  piece-toks = rw (element-is rows k (a .cut-at) (a .starts)) (element-toks body (end - begin) (closing 1 (a .rest)) (each .1) (a .starts) (omega (arith, bytes .rises)))
+  piece-toks = rw (element-is rows k (a .cut-at) (a .starts))
+      (element-toks body (end - begin) (closing 1 (a .rest)) (each .1) (a .starts) (omega (arith, bytes .rises)))

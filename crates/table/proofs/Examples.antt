@@ -75,9 +75,11 @@ moved-example = refl
 abbrev changed : ℕ → ℕ → List ℕ
 changed i v = set table i v
 
--- kind 9; an unused field that is not 0; a position that falls; a local name past its position; a `>` that is none; a text in a start tag; and the table itself
+-- kind 9; an unused field that is not 0; a position that falls; a local name past its position; a `>` that is none; a text in a start tag;
+-- and the table itself
 pub broken-examples :
-    map (λ (t : List ℕ). isYes (decTable body t 7)) (changed 8 9 ∷ changed 9 1 ∷ changed 15 1 ∷ changed 4 2 ∷ changed 15 2 ∷ changed 8 6 ∷ table ∷ [])
+    map (λ (t : List ℕ). isYes (decTable body t 7))
+    (changed 8 9 ∷ changed 9 1 ∷ changed 15 1 ∷ changed 4 2 ∷ changed 15 2 ∷ changed 8 6 ∷ table ∷ [])
     ≡ false ∷ false ∷ false ∷ false ∷ false ∷ false ∷ true ∷ []
 unfolding decTable
 broken-examples = refl

@@ -101,13 +101,16 @@ module _ {body : List ℕ} {p : Place} {r : Row} {rest : List Row} (k : RowRules
 
   -- within the row's own position
   pub own-prefix : r .prefixStart + r .prefixLen ≤ r .position
-  own-prefix = span-in (r .prefixStart) (r .prefixLen) (r .position) (λ e. omega (arith, k .zeroFields .emptyPrefix e)) (λ h. (k .filledSpans .prefix h) .1)
+  own-prefix = span-in (r .prefixStart) (r .prefixLen) (r .position) (λ e. omega (arith, k .zeroFields .emptyPrefix e))
+      (λ h. (k .filledSpans .prefix h) .1)
 
   pub own-local : r .localStart + r .localLen ≤ r .position
-  own-local = span-in (r .localStart) (r .localLen) (r .position) (λ e. local-low (usesName (r .kind)) refl) (λ h. (k .filledSpans .local h) .1)
+  own-local = span-in (r .localStart) (r .localLen) (r .position) (λ e. local-low (usesName (r .kind)) refl)
+      (λ h. (k .filledSpans .local h) .1)
 
   pub own-value : r .valueStart + r .valueLen ≤ r .position
-  own-value = span-in (r .valueStart) (r .valueLen) (r .position) (λ e. omega (arith, k .zeroFields .emptyValue e)) (λ h. (k .filledSpans .value h) .1)
+  own-value = span-in (r .valueStart) (r .valueLen) (r .position) (λ e. omega (arith, k .zeroFields .emptyValue e))
+      (λ h. (k .filledSpans .value h) .1)
 
 -- positions never fall
 pub last-high : {body : List ℕ} {p : Place} {rows : List Row} → EachRow body p rows → p .position ≤ lastPosition (p .position) rows
@@ -116,7 +119,8 @@ last-high (row k t) = omega (arith, k .positionRises, last-high t)
 
 -- each row of those that are left
 module _ (body table : List ℕ) (final : ℕ) (within : final ≤ length body) where
-  here : (s : ℕ) {p : Place} {rest : List Row} → RowRules body p (rowAt table s) rest → getD table (s * 8 + 7) 0 ≤ final → SpansIn body table s
+  here : (s : ℕ) {p : Place} {rest : List Row} → RowRules body p (rowAt table s) rest → getD table (s * 8 + 7) 0 ≤ final
+      → SpansIn body table s
   here s o h =
       record {
         prefix = omega (arith, own-prefix o);
@@ -125,9 +129,11 @@ module _ (body table : List ℕ) (final : ℕ) (within : final ≤ length body) 
         position = omega arith;
       }
 
-  each-in : (m s k : ℕ) {p : Place} → EachRow body p (rowsFrom table s m) → lastPosition (p .position) (rowsFrom table s m) ≤ final → s ≤ k → k < s + m → SpansIn body table k
+  each-in : (m s k : ℕ) {p : Place} → EachRow body p (rowsFrom table s m) → lastPosition (p .position) (rowsFrom table s m) ≤ final → s ≤ k
+      → k < s + m → SpansIn body table k
   each-in zero s k e h l u = absurd (omega arith)
-  each-in (suc m) s k (row o t) h l u = here-or-later (SpansIn body table) s k l (here s o (omega (arith, last-high t))) (λ g. each-in m (suc s) k t h g (omega arith))
+  each-in (suc m) s k (row o t) h l u =
+      here-or-later (SpansIn body table) s k l (here s o (omega (arith, last-high t))) (λ g. each-in m (suc s) k t h g (omega arith))
 
 -- of a table that obeys the rules
 pub spans-in : {body table : List ℕ} {final : ℕ} → TableRules body table final → (k : ℕ) → k < length table / 8 → SpansIn body table k

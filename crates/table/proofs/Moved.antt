@@ -13,7 +13,9 @@ use lib.Seq.{drop-drop, take-take, getD-take, getD-drop}
 use Rattle.lists.specs.Tests.{pick}
 use Rattle.lists.proofs.Tests.{pick-same, false-true}
 use Rattle.table.specs.Row.{Row, cut, tokAs, tokOf, toksOf}
-use Rattle.table.specs.Rules.{closesElement, endsInGt, endsTag, isTag, openCount, usesName, Place, atFirst, after, ZeroFields, FilledSpan, FilledSpans, LocalStart, lastLt, beginOf, LastLt, EndsIn, Ending, RowRules, EachRow, none, row, lastPosition}
+use Rattle.table.specs.Rules.{closesElement, endsInGt, endsTag, isTag, openCount, usesName, Place, atFirst, after, ZeroFields}
+use Rattle.table.specs.Rules.{FilledSpan, FilledSpans, LocalStart, lastLt, beginOf, LastLt, EndsIn, Ending, RowRules, EachRow, none}
+use Rattle.table.specs.Rules.{row, lastPosition}
 use Rattle.table.specs.Piece.{movedSpan, moved, closing}
 
 -- ---- parts of a body
@@ -62,7 +64,8 @@ unfolding lastLt
 last-cut body s n zero h j = let e : 0 - s ≡ 0 = omega arith in rw e
 last-cut body s n (suc i) h j = go (eqb (getD body i 0) 60) refl h (λ g. last-cut body s n i g (omega arith))
   where
-    go : (b : Bool) → eqb (getD body i 0) 60 ≡ b → s ≤ pick b i (lastLt body i) → (s ≤ lastLt body i → lastLt (cut body s n) (i - s) ≡ lastLt body i - s)
+    go : (b : Bool) → eqb (getD body i 0) 60 ≡ b → s ≤ pick b i (lastLt body i)
+        → (s ≤ lastLt body i → lastLt (cut body s n) (i - s) ≡ lastLt body i - s)
         → lastLt (cut body s n) (suc i - s) ≡ pick b i (lastLt body i) - s
     go true e h ih =
         let f : suc i - s ≡ suc (i - s) = omega arith in
@@ -76,16 +79,20 @@ span-moved : (s p q from len : ℕ) → s ≤ p → FilledSpan p q from len → 
 span-moved s p q from zero h f g = absurd (omega arith)
 span-moved s p q from (suc len) h f g = let x = f g in (omega arith, omega arith)
 
-cut-moved : (body : List ℕ) (s n p q from len : ℕ) → s ≤ p → q ≤ s + n → FilledSpan p q from len → cut (cut body s n) (movedSpan s from len) len ≡ cut body from len
+cut-moved : (body : List ℕ) (s n p q from len : ℕ) → s ≤ p → q ≤ s + n → FilledSpan p q from len
+    → cut (cut body s n) (movedSpan s from len) len ≡ cut body from len
 cut-moved body s n p q from zero h u f = refl
 cut-moved body s n p q from (suc len) h u f = let x = f (omega arith) in cut-cut body s n from (suc len) (omega arith) (omega arith)
 
-module _ (body : List ℕ) (s n : ℕ) {p : Place} {r : Row} {rest : List Row} (o : RowRules body p r rest) (h : s ≤ p .position) (u : r .position ≤ s + n) where
+module _ (body : List ℕ) (s n : ℕ) {p : Place} {r : Row} {rest : List Row} (o : RowRules body p r rest) (h : s ≤ p .position)
+    (u : r .position ≤ s + n) where
   -- the local name's start, as it is moved
-  local-cut : (b : Bool) → usesName (r .kind) ≡ b → cut (cut body s n) (pick b (r .localStart - s) (r .localStart)) (r .localLen) ≡ cut body (r .localStart) (r .localLen)
+  local-cut : (b : Bool) → usesName (r .kind) ≡ b
+      → cut (cut body s n) (pick b (r .localStart - s) (r .localStart)) (r .localLen) ≡ cut body (r .localStart) (r .localLen)
   local-cut true e = filled (r .localLen) (o .filledSpans .local)
     where
-      filled : (len : ℕ) → FilledSpan (p .position) (r .position) (r .localStart) len → cut (cut body s n) (r .localStart - s) len ≡ cut body (r .localStart) len
+      filled : (len : ℕ) → FilledSpan (p .position) (r .position) (r .localStart) len
+          → cut (cut body s n) (r .localStart - s) len ≡ cut body (r .localStart) len
       filled zero f = refl
       filled (suc len) f = let x = f (omega arith) in cut-cut body s n (r .localStart) (suc len) (omega arith) (omega arith)
   local-cut false e = rw (o .zeroFields .local e .1)
@@ -101,13 +108,15 @@ module _ (body : List ℕ) (s n : ℕ) {p : Place} {r : Row} {rest : List Row} (
       (cut-moved body s n (p .position) (r .position) (r .valueStart) (r .valueLen) h u (o .filledSpans .value))
 
 -- positions never fall in a front of the rows
-pub last-taken : {body : List ℕ} {p : Place} {rows : List Row} → EachRow body p rows → (c : ℕ) → p .position ≤ lastPosition (p .position) (take c rows)
+pub last-taken : {body : List ℕ} {p : Place} {rows : List Row} → EachRow body p rows → (c : ℕ)
+    → p .position ≤ lastPosition (p .position) (take c rows)
 last-taken t zero = omega arith
 last-taken none (suc c) = omega arith
 last-taken (row o t) (suc c) = let x = last-taken t c in omega (arith, o .positionRises)
 
 -- the first c rows, in a piece that holds them, stand for the same tokens as in the body
-pub moved-toks : (body : List ℕ) (s n c : ℕ) {p : Place} {rows : List Row} → EachRow body p rows → s ≤ p .position → lastPosition (p .position) (take c rows) ≤ s + n
+pub moved-toks : (body : List ℕ) (s n c : ℕ) {p : Place} {rows : List Row} → EachRow body p rows → s ≤ p .position
+    → lastPosition (p .position) (take c rows) ≤ s + n
     → toksOf (cut body s n) (map (moved s) (take c rows)) ≡ toksOf body (take c rows)
 moved-toks body s n zero t h u = refl
 moved-toks body s n (suc c) none h u = refl
@@ -143,7 +152,8 @@ moved-zero {r} s z =
 
 module _ (body : List ℕ) (s n d : ℕ) {p : Place} {r : Row} {rest : List Row} (o : RowRules body p r rest)
     (begun : s < p .position) (lt : getD body s 0 ≡ 60) (deep : d < p .nesting) (u : r .position ≤ s + n) where
-  local-moved : (b : Bool) → usesName (r .kind) ≡ b → FilledSpan (p .position - s) (r .position - s) (pick b (r .localStart - s) (r .localStart)) (r .localLen)
+  local-moved : (b : Bool) → usesName (r .kind) ≡ b
+      → FilledSpan (p .position - s) (r .position - s) (pick b (r .localStart - s) (r .localStart)) (r .localLen)
   local-moved true e g = let x = o .filledSpans .local g in (omega arith, omega arith)
   local-moved false e g = absurd (omega (arith, o .zeroFields .local e .1))
 
@@ -168,7 +178,8 @@ module _ (body : List ℕ) (s n d : ℕ) {p : Place} {r : Row} {rest : List Row}
       let m = tag-named (r .kind) e in
       let b = beginOf body r in
       let x = o .localStart m in
-      let same : beginOf (cut body s n) (moved s r) ≡ b - s = rw m (last-cut body s n (r .localStart) (omega (arith, g .late)) (omega arith)) in
+      let same : beginOf (cut body s n) (moved s r) ≡ b - s =
+      rw m (last-cut body s n (r .localStart) (omega (arith, g .late)) (omega arith)) in
       record {
         is = rw same (get-cut body s n b (omega (arith, g .late)) (omega (arith, g .before)) ∙ g .is);
         before = rw (same, m) (omega (arith, g .before, g .late));
@@ -224,7 +235,8 @@ module _ (body : List ℕ) (s n d : ℕ) {p : Place} {r : Row} {rest : List Row}
 open-less : (d : ℕ) (p : Place) (r : Row) → d < p .nesting → openCount (p .nesting - d) (r .kind) ≡ after p r .nesting - d
 open-less d p r h = go (eqb (r .kind) 1) (closesElement (r .kind))
   where
-    go : (a b : Bool) → pick a (suc (p .nesting - d)) (pick b (p .nesting - d - 1) (p .nesting - d)) ≡ pick a (suc (p .nesting)) (pick b (p .nesting - 1) (p .nesting)) - d
+    go : (a b : Bool) → pick a (suc (p .nesting - d)) (pick b (p .nesting - d - 1) (p .nesting - d)) ≡ pick a (suc (p .nesting))
+        (pick b (p .nesting - 1) (p .nesting)) - d
     go true b = omega arith
     go false true = omega arith
     go false false = refl
@@ -251,7 +263,8 @@ left-open x d f = go (leb x d) refl
     go false q = leb-false x d q
 
 -- the rows of an element after its start row, in the piece that begins at its `<`
-later-rows : (body : List ℕ) (s n d : ℕ) {p : Place} {rows : List Row} → EachRow body p rows → s < p .position → getD body s 0 ≡ 60 → d < p .nesting
+later-rows : (body : List ℕ) (s n d : ℕ) {p : Place} {rows : List Row} → EachRow body p rows → s < p .position → getD body s 0 ≡ 60
+    → d < p .nesting
     → lastPosition (p .position) (take (closing (p .nesting - d) rows) rows) ≤ s + n
     → EachRow (cut body s n) (placed s d p) (map (moved s) (take (closing (p .nesting - d) rows) rows))
 unfolding closing
@@ -268,18 +281,21 @@ later-rows body s n d (row {p} {r} {rest} o t) h g l u =
     go true q u ih = row {rest = []} (moved-rules body s n d o h g l u (λ e. refl)) none
     go false q u ih =
         let far = last-taken t (closing (after p r .nesting - d) rest) in
-        row {rest = map (moved s) (take (closing (after p r .nesting - d) rest) rest)} (moved-rules body s n d o h g l (omega arith) (none-later s (closing (after p r .nesting - d) rest) rest))
+        row {rest = map (moved s) (take (closing (after p r .nesting - d) rest) rest)}
+        (moved-rules body s n d o h g l (omega arith) (none-later s (closing (after p r .nesting - d) rest) rest))
         (rw (placed-after s d p r l) (ih (left-open (after p r .nesting) d (eqb-false (after p r .nesting - d) 0 q)) u))
 
 -- ---- the start row, at the front of the piece
-module _ (body : List ℕ) (n : ℕ) {p : Place} {r : Row} {rest : List Row} (o : RowRules body p r rest) (one : r .kind ≡ 1) (u : r .position ≤ beginOf body r + n) where
+module _ (body : List ℕ) (n : ℕ) {p : Place} {r : Row} {rest : List Row} (o : RowRules body p r rest) (one : r .kind ≡ 1)
+    (u : r .position ≤ beginOf body r + n) where
   begins : LastLt body p r
   begins = o .tagBegins (rw one)
 
   after-begin : (beginOf body r < r .localStart) × (r .localStart ≤ r .position)
   after-begin = (begins .before, o .localStart (rw one) .1)
 
-  front-span : (from len : ℕ) → FilledSpan (p .position) (r .position) from len → (0 < len → beginOf body r < from) → FilledSpan 0 (r .position - beginOf body r) (movedSpan (beginOf body r) from len) len
+  front-span : (from len : ℕ) → FilledSpan (p .position) (r .position) from len → (0 < len → beginOf body r < from)
+      → FilledSpan 0 (r .position - beginOf body r) (movedSpan (beginOf body r) from len) len
   front-span from zero f b g = absurd (omega arith)
   front-span from (suc len) f b g = let x = f g in let y = b g in (omega arith, omega arith)
 
@@ -288,7 +304,8 @@ module _ (body : List ℕ) (n : ℕ) {p : Place} {r : Row} {rest : List Row} (o 
       let b = beginOf body r in
       let x = after-begin in
       let m : usesName (r .kind) ≡ true = rw one in
-      let same : beginOf (cut body b n) (moved b r) ≡ b - b = rw m (last-cut body b n (r .localStart) (omega arith) (omega (arith, x .1))) in
+      let same : beginOf (cut body b n) (moved b r) ≡ b - b =
+      rw m (last-cut body b n (r .localStart) (omega arith) (omega (arith, x .1))) in
       record {
         is = rw same (get-cut body b n b (omega arith) (omega (arith, x .0, x .1)) ∙ begins .is);
         before = rw (same, m) (omega (arith, x .0));
@@ -296,7 +313,8 @@ module _ (body : List ℕ) (n : ℕ) {p : Place} {r : Row} {rest : List Row} (o 
         prefix = rw same (prefix-front (r .prefixStart) (r .prefixLen) (begins .prefix));
       }
     where
-      prefix-front : (from len : ℕ) → (0 < len → beginOf body r < from) → 0 < len → beginOf body r - beginOf body r < movedSpan (beginOf body r) from len
+      prefix-front : (from len : ℕ) → (0 < len → beginOf body r < from) → 0 < len
+          → beginOf body r - beginOf body r < movedSpan (beginOf body r) from len
       prefix-front from zero f g = absurd (omega arith)
       prefix-front from (suc len) f g = let y = f g in omega arith
 
@@ -332,8 +350,11 @@ element-rows body n {p} {r} {rest} (row o t) one u =
     let more : after p r .nesting - p .nesting ≡ 1 = rw one (omega arith) in
     let deep : p .nesting < after p r .nesting = rw one (omega arith) in
     let k : EachRow (cut body s n) (placed s (p .nesting) (after p r)) (map (moved s) (take (closing 1 rest) rest)) =
-    rw (ap (λ (m : ℕ). closing m rest) more) at (later-rows body s n (p .nesting) t (omega (arith, x .0, x .1)) (begins body n o one (omega (arith, last-taken t (closing 1 rest))) .is) deep (rw (ap (λ (m : ℕ). closing m rest) more) u)) in
-    row {rest = map (moved s) (take (closing 1 rest) rest)} (front-rules body n o one (omega (arith, last-taken t (closing 1 rest)))) (rw first-after k)
+    rw (ap (λ (m : ℕ). closing m rest) more) at
+    (later-rows body s n (p .nesting) t (omega (arith, x .0, x .1))
+    (begins body n o one (omega (arith, last-taken t (closing 1 rest))) .is) deep (rw (ap (λ (m : ℕ). closing m rest) more) u)) in
+    row {rest = map (moved s) (take (closing 1 rest) rest)} (front-rules body n o one (omega (arith, last-taken t (closing 1 rest))))
+    (rw first-after k)
   where
     first-after : after atFirst (moved (beginOf body r) r) ≡ placed (beginOf body r) (p .nesting) (after p r)
     first-after =

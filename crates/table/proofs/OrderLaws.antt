@@ -2,7 +2,6 @@
 use Prim.Native.Nat.{ℕ, suc, _+_, _-_, _≤_, _<_}
 use mathlib.Core.Path.{_≡_, sym, _∙_}
 use mathlib.Core.Bool.{Bool, true, false, not}
-use mathlib.Core.List.{[], _∷_}
 use native.Mathlib.Numerals.{add-one}
 use native.Mathlib.Omega.{arith}
 use borrow.Author.Needs.{needs}
@@ -47,7 +46,8 @@ module _ {nesting : ℕ} {rooted : Bool} {kind : ℕ} where
   module _ (f : nesting ≡ 0 → ⊥) where
     pub open-one : kind ≡ 1 → Says (OpenOrder nesting rooted kind) (ltb nesting 256)
     open-one e =
-        says-same (λ h. record { needs = λ q. filled nesting f; root = λ r o. absurd (f o); limit = λ k. h }) (λ o. o .limit e) (says-ltb nesting 256)
+        says-same (λ h. record { needs = λ q. filled nesting f; root = λ r o. absurd (f o); limit = λ k. h }) (λ o. o .limit e)
+        (says-ltb nesting 256)
 
     pub open-other : (kind ≡ 1 → ⊥) → Says (OpenOrder nesting rooted kind) true
     open-other g = says-yes (record { needs = λ q. filled nesting f; root = λ r o. absurd (f o); limit = λ k. absurd (g k) })
@@ -66,7 +66,8 @@ module _ {inTag : Bool} {nesting : ℕ} {rooted : Bool} {kind left : ℕ} where
   pub order-open : {b : Bool} → Says (OpenOrder nesting rooted kind) b → b ≡ false → Says (Order inTag nesting rooted kind left) false
   order-open s n = says-no (λ o. says-not s n (o .count))
 
-  module _ {a b : Bool} (low : 1 ≤ kind) (high : kind ≤ mostKind) (s : Says (InOrder inTag kind) a) (y : a ≡ true) (u : Says (OpenOrder nesting rooted kind) b) (z : b ≡ true) where
+  module _ {a b : Bool} (low : 1 ≤ kind) (high : kind ≤ mostKind) (s : Says (InOrder inTag kind) a) (y : a ≡ true)
+      (u : Says (OpenOrder nesting rooted kind) b) (z : b ≡ true) where
     all : (kind ≡ 8 → left ≡ 0) → Order inTag nesting rooted kind left
     all f = record { low = low; high = high; tag = s .sound y; count = u .sound z; last = f }
 
@@ -76,7 +77,24 @@ module _ {inTag : Bool} {nesting : ℕ} {rooted : Bool} {kind left : ℕ} where
     pub order-other : (kind ≡ 8 → ⊥) → Says (Order inTag nesting rooted kind left) true
     order-other f = says-yes (all (λ e. absurd (f e)))
 
-pub ruleset order-laws = (needs, not-true, not-false, order-inside, order-outside, open-none, open-root, open-first, open-one, open-other, order-low, order-high, order-tag, order-open, order-last, order-other)
+pub ruleset order-laws = (
+  needs,
+  not-true,
+  not-false,
+  order-inside,
+  order-outside,
+  open-none,
+  open-root,
+  open-first,
+  open-one,
+  open-other,
+  order-low,
+  order-high,
+  order-tag,
+  order-open,
+  order-last,
+  order-other,
+)
 
 -- ---- how many are open after a row
 module _ (n kind : ℕ) where

@@ -31,7 +31,8 @@ module _ (body : List ℕ) (last : ℕ) (a : ℕ) (b : Bool) (c : ℕ) (d : Bool
   abbrev ownOf : ℕ
   ownOf = getD t (k * 8 + 7) 0
 
-  row-is : a ≤ ownOf → ownOf ≤ last → Spans kindOf a ownOf t k → Bytes body kindOf a ownOf t k → Order b c d kindOf left → RowIn body last (place a b c d) t k left
+  row-is : a ≤ ownOf → ownOf ≤ last → Spans kindOf a ownOf t k → Bytes body kindOf a ownOf t k → Order b c d kindOf left
+      → RowIn body last (place a b c d) t k left
   row-is rises ends s y o =
       record {
         rules =
@@ -66,10 +67,26 @@ module _ (body : List ℕ) (last : ℕ) (a : ℕ) (b : Bool) (c : ℕ) (d : Bool
         record {
           names =
               record {
-                prefix = record { is = record { unused = i .rules .zeroFields .prefix; empty = i .rules .zeroFields .emptyPrefix; filled = i .rules .filledSpans .prefix } };
-                local = record { unused = i .rules .zeroFields .local; start = i .rules .localStart; filled = i .rules .filledSpans .local };
+                prefix = record {
+                  is = record {
+                    unused = i .rules .zeroFields .prefix;
+                    empty = i .rules .zeroFields .emptyPrefix;
+                    filled = i .rules .filledSpans .prefix;
+                  };
+                };
+                local = record {
+                  unused = i .rules .zeroFields .local;
+                  start = i .rules .localStart;
+                  filled = i .rules .filledSpans .local;
+                };
               };
-          value = record { is = record { unused = i .rules .zeroFields .value; empty = i .rules .zeroFields .emptyValue; filled = i .rules .filledSpans .value } };
+          value = record {
+            is = record {
+              unused = i .rules .zeroFields .value;
+              empty = i .rules .zeroFields .emptyValue;
+              filled = i .rules .filledSpans .value;
+            };
+          };
         }
 
     row-bytes : Bytes body kindOf a ownOf t k
@@ -108,7 +125,8 @@ module _ (body : List ℕ) (last : ℕ) (a : ℕ) (b : Bool) (c : ℕ) (d : Bool
     pub row-no-bytes : {y : Bool} → Says (Bytes body kind a own t k) y → y ≡ false → Says (RowIn body last (place a b c d) t k left) false
     row-no-bytes y n = says-no (λ i. says-not y n (rw (e, f) (row-bytes i)))
 
-    pub row-ordered : {s y r : Bool} → a ≤ own → own ≤ last → Says (Spans kind a own t k) s → s ≡ true → Says (Bytes body kind a own t k) y → y ≡ true
+    pub row-ordered : {s y r : Bool} → a ≤ own → own ≤ last → Says (Spans kind a own t k) s → s ≡ true → Says (Bytes body kind a own t k) y
+        → y ≡ true
         → Says (Order b c d kind left) r → Says (RowIn body last (place a b c d) t k left) r
     row-ordered g h s s1 y y1 o =
         says-same
@@ -117,14 +135,16 @@ module _ (body : List ℕ) (last : ℕ) (a : ℕ) (b : Bool) (c : ℕ) (d : Bool
         o
 
 -- what is read of the body stands in it
-pub bytes-in : {body t : List ℕ} {kind a own last k : ℕ} {s : Bool} → Says (Spans kind a own t k) s → s ≡ true → own ≤ last → last ≤ length body → k * 8 + 8 ≤ length t
+pub bytes-in : {body t : List ℕ} {kind a own last k : ℕ} {s : Bool} → Says (Spans kind a own t k) s → s ≡ true → own ≤ last
+    → last ≤ length body → k * 8 + 8 ≤ length t
     → BytesIn body own t k
 bytes-in s y g h r = record { row = r; local = omega (arith, local-in (s .sound y)); ends = omega arith }
 
 pub ruleset row-laws = (needs, not-true, not-false, row-falls, row-late, row-no-spans, row-no-bytes, row-ordered, bytes-in)
 
 -- ---- the rows that are left
-pub step-at : (t : List ℕ) (k : ℕ) {kind own : ℕ} {p q : Place} → kind ≡ getD t (k * 8 + 0) 0 → own ≡ getD t (k * 8 + 7) 0 → StepsTo p kind own q → StepAt t k p q
+pub step-at : (t : List ℕ) (k : ℕ) {kind own : ℕ} {p q : Place} → kind ≡ getD t (k * 8 + 0) 0 → own ≡ getD t (k * 8 + 7) 0
+    → StepsTo p kind own q → StepAt t k p q
 step-at t k e f m = record { is = rw (e, f) at (m .is); more = m .more }
 
 pub ruleset at-laws = (needs, step-at)
@@ -148,13 +168,15 @@ module _ {body : List ℕ} {last : ℕ} {t : List ℕ} {n k : ℕ} {p : Place} (
     head : Rest body last p (rowsFrom t k (n - k)) → Rest body last p (rowAt t k ∷ rowsFrom t (k + 1) (n - (k + 1)))
     head r = rw (unroll t k n h) at r
 
-    pub walk-stop : {r : Bool} → Says (RowIn body last p t k (n - (k + 1))) r → r ≡ false → Says (Rest body last atFirst (rowsFrom t 0 n)) false
+    pub walk-stop : {r : Bool} → Says (RowIn body last p t k (n - (k + 1))) r → r ≡ false
+        → Says (Rest body last atFirst (rowsFrom t 0 n)) false
     walk-stop s e = says-no (λ a. says-not s e (split (head (w .on a))))
       where
         split : Rest body last p (rowAt t k ∷ rowsFrom t (k + 1) (n - (k + 1))) → RowIn body last p t k (n - (k + 1))
         split r = record { rules = (first (r .each)) .0; ends = omega (arith, last-high ((first (r .each)) .1), r .ends) }
 
-    pub walk-turn : {r : Bool} {q : Place} → Says (RowIn body last p t k (n - (k + 1))) r → r ≡ true → StepAt t k p q → Walking body last t n (k + 1) q
+    pub walk-turn : {r : Bool} {q : Place} → Says (RowIn body last p t k (n - (k + 1))) r → r ≡ true → StepAt t k p q
+        → Walking body last t n (k + 1) q
     walk-turn {q = q} s y m =
         let z : q ≡ after p (rowAt t k) = m .is in
         let i = s .sound y in
@@ -214,14 +236,29 @@ module _ (body t : List ℕ) (final : ℕ) where
 
       pub obeys-other : {u : Bool} → (length t / 8 ≡ 0 → ⊥) → u ≡ isUtf8 body → u ≡ false → false ≡ isYes (decTable body t final)
       obeys-other f g n =
-          says-is (decTable body t final) (says-no (λ r. false-true (sym n ∙ g ∙ r .rules .utf8 (omega (arith, rows-many, filled (length t / 8) f)))))
+          says-is (decTable body t final)
+          (says-no (λ r. false-true (sym n ∙ g ∙ r .rules .utf8 (omega (arith, rows-many, filled (length t / 8) f)))))
 
-      pub obeys-each : {u r : Bool} → u ≡ isUtf8 body → u ≡ true → Says (Rest body last atFirst (rowsFrom t 0 (length t / 8))) r → r ≡ isYes (decTable body t final)
+      pub obeys-each : {u r : Bool} → u ≡ isUtf8 body → u ≡ true → Says (Rest body last atFirst (rowsFrom t 0 (length t / 8))) r
+          → r ≡ isYes (decTable body t final)
       obeys-each g y s =
           says-is (decTable body t final)
-          (says-same (λ q. whole (λ h. sym g ∙ y) q) (λ q. record { each = rw (← rows-are) (q .rules .each); ends = rw (← rows-are, e) (q .rules .ends) }) s)
+          (says-same (λ q. whole (λ h. sym g ∙ y) q)
+          (λ q. record { each = rw (← rows-are) (q .rules .each); ends = rw (← rows-are, e) (q .rules .ends) }) s)
 
-pub ruleset obeys-laws = (needs, not-true, not-false, rows-whole, obeys-part, obeys-many, obeys-long, obeys-past, obeys-empty, obeys-other, obeys-each)
+pub ruleset obeys-laws = (
+  needs,
+  not-true,
+  not-false,
+  rows-whole,
+  obeys-part,
+  obeys-many,
+  obeys-long,
+  obeys-past,
+  obeys-empty,
+  obeys-other,
+  obeys-each,
+)
 
 -- ---- what its answer says, for who calls it
 module _ (body t : List ℕ) (final : ℕ) {r : Bool} (e : r ≡ isYes (decTable body t final)) where

@@ -37,12 +37,14 @@ pub ruleset between-laws = (needs, between-early, between-late, between-is)
 -- ---- a prefix or a value
 module _ (used : Bool) (previous own from len : ℕ) where
   pub span-empty : len ≡ 0 → Says (Span used previous own from len) (eqb from 0)
-  span-empty e = says-same (λ z. record { unused = λ u. e; empty = λ q. z; filled = λ h. absurd (omega arith) }) (λ s. s .empty e) (says-eqb from 0)
+  span-empty e = says-same (λ z. record { unused = λ u. e; empty = λ q. z; filled = λ h. absurd (omega arith) }) (λ s. s .empty e)
+      (says-eqb from 0)
 
   pub span-unused : (len ≡ 0 → ⊥) → used ≡ false → Says (Span used previous own from len) false
   span-unused f u = says-no (λ s. f (s .unused u))
 
-  pub span-filled : {r : Bool} → (len ≡ 0 → ⊥) → used ≡ true → Says (Between previous own from len) r → Says (Span used previous own from len) r
+  pub span-filled : {r : Bool} → (len ≡ 0 → ⊥) → used ≡ true → Says (Between previous own from len) r
+      → Says (Span used previous own from len) r
   span-filled f u b =
       says-same
       (λ i. record { unused = λ v. false-true (sym v ∙ u); empty = λ e. absurd (f e); filled = λ z. (i .low, i .high) })
@@ -58,7 +60,8 @@ module _ (used : Bool) (previous own from len : ℕ) where
 
   pub local-zero : used ≡ false → from ≡ 0 → Says (LocalSpan used previous own from len) (eqb len 0)
   local-zero u e =
-      says-same (λ z. record { unused = λ v. (e, z); start = λ v. false-true (sym u ∙ v); filled = λ h. absurd (omega arith) }) (λ s. (s .unused u) .1) (says-eqb len 0)
+      says-same (λ z. record { unused = λ v. (e, z); start = λ v. false-true (sym u ∙ v); filled = λ h. absurd (omega arith) })
+      (λ s. (s .unused u) .1) (says-eqb len 0)
 
   high : LocalSpan used previous own from len → from ≤ own → (n : ℕ) → len ≡ n → from + len ≤ own
   high s h zero e = omega arith
@@ -75,15 +78,18 @@ pub ruleset local-laws = (needs, not-true, not-false, local-unused, local-zero, 
 
 -- ---- the spans of row k
 module _ (t : List ℕ) (k : ℕ) {used : Bool} {previous own : ℕ} where
-  pub span-at : {j from len : ℕ} {r : Bool} → from ≡ getD t (k * 8 + j) 0 → len ≡ getD t (k * 8 + (j + 1)) 0 → Says (Span used previous own from len) r
+  pub span-at : {j from len : ℕ} {r : Bool} → from ≡ getD t (k * 8 + j) 0 → len ≡ getD t (k * 8 + (j + 1)) 0
+      → Says (Span used previous own from len) r
       → Says (SpanAt t k j used previous own) r
   span-at e f s = says-same (λ i. record { is = rw (e, f) at i }) (λ i. rw (e, f) (i .is)) s
 
-  pub names-no : {from len : ℕ} {a : Bool} → from ≡ getD t (k * 8 + 3) 0 → len ≡ getD t (k * 8 + 4) 0 → Says (LocalSpan used previous own from len) a → a ≡ false
+  pub names-no : {from len : ℕ} {a : Bool} → from ≡ getD t (k * 8 + 3) 0 → len ≡ getD t (k * 8 + 4) 0
+      → Says (LocalSpan used previous own from len) a → a ≡ false
       → Says (NameSpans used previous own t k) false
   names-no e f s n = says-no (λ i. says-not s n (rw (e, f) (i .local)))
 
-  pub names-is : {from len : ℕ} {a r : Bool} → from ≡ getD t (k * 8 + 3) 0 → len ≡ getD t (k * 8 + 4) 0 → Says (LocalSpan used previous own from len) a → a ≡ true
+  pub names-is : {from len : ℕ} {a r : Bool} → from ≡ getD t (k * 8 + 3) 0 → len ≡ getD t (k * 8 + 4) 0
+      → Says (LocalSpan used previous own from len) a → a ≡ true
       → Says (SpanAt t k 1 used previous own) r → Says (NameSpans used previous own t k) r
   names-is e f s y p = says-same (λ i. record { prefix = i; local = rw (e, f) at (s .sound y) }) (λ i. i .prefix) p
 

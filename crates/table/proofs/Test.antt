@@ -5,5 +5,6 @@ use Rattle.table.specs.Row.{Row}
 use Rattle.table.specs.Rules.{Place, after, RowRules, EachRow, row}
 
 -- the rules of the first row, and of the rest
-pub first : {body : List ℕ} {p : Place} {r : Row} {rest : List Row} → EachRow body p (r ∷ rest) → RowRules body p r rest × EachRow body (after p r) rest
+pub first : {body : List ℕ} {p : Place} {r : Row} {rest : List Row} → EachRow body p (r ∷ rest)
+    → RowRules body p r rest × EachRow body (after p r) rest
 first (row k t) = (k, t)

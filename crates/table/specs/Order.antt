@@ -1,11 +1,10 @@
 -- The rules on the order of kinds as the code tests them, and the place after a row.
-use Prim.Native.Nat.{ℕ, suc, _+_, _-_, _≤_, _<_}
+use Prim.Native.Nat.{ℕ, _+_, _≤_, _<_}
 use mathlib.Core.Path.{_≡_}
 use mathlib.Core.Bool.{Bool, true, false}
-use mathlib.Core.List.{[], _∷_}
 use lib.Dec.{eqb}
 use Rattle.lists.specs.Tests.{pick}
-use Rattle.table.specs.Rules.{openCount, mostKind, endsTag, inTagOnly, mayBeInTag, mayFollowRoot, needsElement, Place}
+use Rattle.table.specs.Rules.{openCount, mostOpen, mostKind, endsTag, inTagOnly, mayBeInTag, mayFollowRoot, needsElement, Place}
 
 -- ---- start tags
 pub record InOrder (inTag : Bool) (kind : ℕ) : Type 0 where
@@ -16,7 +15,7 @@ pub record InOrder (inTag : Bool) (kind : ℕ) : Type 0 where
 pub record OpenOrder (nesting : ℕ) (rooted : Bool) (kind : ℕ) : Type 0 where
   pub needs : needsElement kind ≡ true → 0 < nesting
   pub root : rooted ≡ true → nesting ≡ 0 → mayFollowRoot kind ≡ true
-  pub limit : kind ≡ 1 → nesting < 256
+  pub limit : kind ≡ 1 → nesting < mostOpen
 
 -- ---- all of them, with so many rows left
 pub record Order (inTag : Bool) (nesting : ℕ) (rooted : Bool) (kind left : ℕ) : Type 0 where

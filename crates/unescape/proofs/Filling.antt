@@ -101,7 +101,20 @@ module _ {t old out : List ℕ} {n i : ℕ} (f : FillAt t old out n i) (room : R
     pub fill-room : {c k : ℕ} → r ≡ Reference.Char c k → n + length (encode c) ≤ length out
     fill-room {c} {k} e = more-room (encode c) (decode-ref (f .at) h amp q e)
 
-pub ruleset fill-laws = (seek-laws, fill-start, fill-plain, fill-plain-room, fill-end, fill-bad, fill-ref, fill-room, small-reference, next-fits, next-less, run-less)
+pub ruleset fill-laws = (
+  seek-laws,
+  fill-start,
+  fill-plain,
+  fill-plain-room,
+  fill-end,
+  fill-bad,
+  fill-ref,
+  fill-room,
+  small-reference,
+  next-fits,
+  next-less,
+  run-less,
+)
 
 -- ---- the answer, from what measuring found
 length-is : (o : Out) {r : Unescaped} {n : ℕ} → r ≡ sizeOf o → r ≡ Unescaped.Length n → (l : List ℕ) × (o ≡ bytes l) × (length l ≡ n)
@@ -127,7 +140,8 @@ module _ (t : List ℕ) {r : Unescaped} (q : r ≡ sizeOf (unescaped t)) where
   pub measured-length : {n : ℕ} {old new : List ℕ} → r ≡ Unescaped.Length n → n ≤ length old → new ≡ filled (unescaped t) old
       → Unescape t old new (Unescaped.Length n)
   unfolding answer
-  measured-length {n} {old} e h k = let x = length-is (unescaped t) q e in record { number = rw (x .1, x .2, le-leb n (length old) h); buffer = k }
+  measured-length {n} {old} e h k = let x = length-is (unescaped t) q e in
+      record { number = rw (x .1, x .2, le-leb n (length old) h); buffer = k }
 
   pub measured-none : {n : ℕ} {old : List ℕ} → r ≡ Unescaped.Length n → length old < n → Unescape t old old Unescaped.NoRoom
   unfolding answer filled
@@ -161,6 +175,9 @@ module _ {t : List ℕ} (x : NextAt t 38 0 (length t)) where
 
   pub plain-none : {old : List ℕ} → length old < length t → Unescape t old old Unescaped.NoRoom
   unfolding answer filled
-  plain-none {old} h = record { number = rw (plain-is, lt-leb (length t) (length old) h); buffer = rw (plain-is, lt-leb (length t) (length old) h) }
+  plain-none {old} h = record {
+    number = rw (plain-is, lt-leb (length t) (length old) h);
+    buffer = rw (plain-is, lt-leb (length t) (length old) h);
+  }
 
 pub ruleset plain-laws = (needs, whole, plain-length, plain-none)

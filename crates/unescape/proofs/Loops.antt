@@ -56,7 +56,8 @@ module _ {strict : Bool} {t acc : List ℕ} {i : ℕ} (at : DecodeAt strict t ac
 pub seek-start : (t : List ℕ) → Clear t 38 0 0
 seek-start t = record { low = omega arith; high = omega arith; none = λ k l u e. omega arith }
 
-pub seek-next : {t : List ℕ} {seek i r : ℕ} → Clear t 38 seek i → i < length t → (getD t i 0 ≡ 38 → ⊥) → NextAt t 38 seek r → NextAt t 38 i r
+pub seek-next : {t : List ℕ} {seek i r : ℕ} → Clear t 38 seek i → i < length t → (getD t i 0 ≡ 38 → ⊥) → NextAt t 38 seek r
+    → NextAt t 38 i r
 seek-next {t} {seek} {i} {r} c h n x =
     record {
       clear = record { low = go (leb i r) refl; high = x .clear .high; none = λ k l u e. x .clear .none k (omega (arith, c .low)) u e };
@@ -67,7 +68,8 @@ seek-next {t} {seek} {i} {r} c h n x =
     go true q = leb-true i r q
     go false q = absurd (c .none r (x .clear .low) (leb-false i r q) (x .found (omega (arith, leb-false i r q))))
 
-pub seek-ref : (strict : Bool) {t : List ℕ} {i : ℕ} {r : Reference} {c n : ℕ} → i < length t → r ≡ reference strict (drop (i + 1) t) → r ≡ Reference.Char c n
+pub seek-ref : (strict : Bool) {t : List ℕ} {i : ℕ} {r : Reference} {c n : ℕ} → i < length t → r ≡ reference strict (drop (i + 1) t)
+    → r ≡ Reference.Char c n
     → Clear t 38 (i + 1) (i + 1 + n)
 seek-ref strict {t} {i} {r} {c} {n} h q e =
     let l = taken strict (drop (i + 1) t) (sym q ∙ e) in
@@ -75,7 +77,8 @@ seek-ref strict {t} {i} {r} {c} {n} h q e =
     record {
       low = omega arith;
       high = omega (arith, l .within, length-drop (i + 1) t);
-      none = λ k g u x. let z : i + 1 + (k - (i + 1)) ≡ k = omega arith in a (k - (i + 1)) (omega arith) (rw (getD-drop (i + 1) t (k - (i + 1)) 0, z) x);
+      none = λ k g u x. let z : i + 1 + (k - (i + 1)) ≡ k = omega arith in
+          a (k - (i + 1)) (omega arith) (rw (getD-drop (i + 1) t (k - (i + 1)) 0, z) x);
     }
 
 pub seek-low : {t : List ℕ} {seek i r : ℕ} → Clear t 38 seek i → i < length t → (getD t i 0 ≡ 38 → ⊥) → NextAt t 38 seek r → i ≤ r
@@ -153,4 +156,16 @@ module _ {t : List ℕ} {n i : ℕ} (m : MeasureAt t n i) where
     pub measure-fits : {c k d : ℕ} → r ≡ Reference.Char c k → EncodedLen c d → length t < 2 ^ 64 → Fits w64 (n + d)
     measure-fits e w g = record { fits = omega (arith, measure-ref e w .small, next-in (m .at) h q e .1) }
 
-pub ruleset measure-laws = (seek-laws, measure-start, measure-plain, measure-run-fits, measure-end, measure-bad, measure-ref, measure-fits, next-fits, next-less, run-less)
+pub ruleset measure-laws = (
+  seek-laws,
+  measure-start,
+  measure-plain,
+  measure-run-fits,
+  measure-end,
+  measure-bad,
+  measure-ref,
+  measure-fits,
+  next-fits,
+  next-less,
+  run-less,
+)

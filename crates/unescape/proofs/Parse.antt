@@ -120,7 +120,8 @@ digits-start base t from start g h =
 
 module _ {base : ℕ} {t : List ℕ} {from start acc i : ℕ} (at : DigitsAt base t from start acc i) where
   module _ {d : ℕ} (h : i < length t) (hb : base ≤ 16) (e : d ≡ digit (getD t i 0)) (l : d < base) where
-    digits-pass : spelt (digits base) (start - from) (drop start t) ≡ spelt (more base (acc * base + d) (i + 1 - start)) (i + 1 - from) (drop (i + 1) t)
+    digits-pass : spelt (digits base) (start - from) (drop start t) ≡ spelt (more base (acc * base + d) (i + 1 - start)) (i + 1 - from)
+        (drop (i + 1) t)
     unfolding digit
     digits-pass =
         let k : i - start + 1 ≡ i + 1 - start = omega (arith, at .low) in
@@ -128,33 +129,45 @@ module _ {base : ℕ} {t : List ℕ} {from start acc i : ℕ} (at : DigitsAt bas
         let s = drop (i + 1) t in
         let x =
         spelt-at (more base acc (i - start)) (i - from) t i (more base (acc * base + d) (i - start + 1)) h
-        (no-digit base _ d 59 hb e l refl) (no-digit base _ d 38 hb e l refl) (more-digit base acc (i - start) (getD t i 0) d (take (span s) s) e l) in
+        (no-digit base _ d 59 hb e l refl) (no-digit base _ d 38 hb e l refl)
+        (more-digit base acc (i - start) (getD t i 0) d (take (span s) s) e l) in
         at .rest ∙ (rw (k, m) at x)
 
     pub digits-turn : acc * base + d ≤ 0xFFFFFFFF → DigitsAt base t from start (acc * base + d) (i + 1)
-    digits-turn s = record { first = at .first; low = omega (arith, at .low); within = omega arith; small = omega arith; rest = digits-pass }
+    digits-turn s = record {
+      first = at .first;
+      low = omega (arith, at .low);
+      within = omega arith;
+      small = omega arith;
+      rest = digits-pass;
+    }
 
     pub digits-over : 1 ≤ base → 2 ^ 32 ≤ acc * base + d → Reference.Bad ≡ spelt (digits base) (start - from) (drop start t)
-    digits-over b s = sym (digits-pass ∙ spelt-no (more base (acc * base + d) (i + 1 - start)) (i + 1 - from) (drop (i + 1) t) (more-over base _ _ _ b s))
+    digits-over b s = sym (digits-pass
+        ∙ spelt-no (more base (acc * base + d) (i + 1 - start)) (i + 1 - from) (drop (i + 1) t) (more-over base _ _ _ b s))
 
-  pub digits-value : i < length t → getD t i 0 ≡ 59 → (i ≡ start → ⊥) → Reference.Char acc (i - from + 1) ≡ spelt (digits base) (start - from) (drop start t)
+  pub digits-value : i < length t → getD t i 0 ≡ 59 → (i ≡ start → ⊥)
+      → Reference.Char acc (i - from + 1) ≡ spelt (digits base) (start - from) (drop start t)
   unfolding more numeral limited sized
   digits-value h e n =
       let k : 1 ≤ i - start + 0 = omega (arith, at .low) in
-      sym (at .rest ∙ spelt-semi (more base acc (i - start)) (i - from) t i h e ∙ rw (le-leb 1 (i - start + 0) k, lt-ltb acc (2 ^ 32) (at .small)))
+      sym (at .rest ∙ spelt-semi (more base acc (i - start)) (i - from) t i h e
+      ∙ rw (le-leb 1 (i - start + 0) k, lt-ltb acc (2 ^ 32) (at .small)))
 
   pub digits-none : i < length t → getD t i 0 ≡ 59 → i ≡ start → Reference.Bad ≡ spelt (digits base) (start - from) (drop start t)
   unfolding more sized
   digits-none h e n =
       sym (at .rest ∙ spelt-semi (more base acc (i - start)) (i - from) t i h e ∙ rw (lt-leb 1 (i - start + 0) (omega arith)))
 
-  pub digits-bad : {d : ℕ} → i < length t → d ≡ digit (getD t i 0) → base ≤ d → (getD t i 0 ≡ 59 → ⊥) → Reference.Bad ≡ spelt (digits base) (start - from) (drop start t)
+  pub digits-bad : {d : ℕ} → i < length t → d ≡ digit (getD t i 0) → base ≤ d → (getD t i 0 ≡ 59 → ⊥)
+      → Reference.Bad ≡ spelt (digits base) (start - from) (drop start t)
   digits-bad {d} h e l n = sym (at .rest ∙ go (eqb (getD t i 0) 38) refl)
     where
       go : (v : Bool) → eqb (getD t i 0) 38 ≡ v → spelt (more base acc (i - start)) (i - from) (drop i t) ≡ Reference.Bad
       go true q = spelt-amp (more base acc (i - start)) (i - from) t i h (eqb-true _ _ q)
       go false q =
-          spelt-at (more base acc (i - start)) (i - from) t i (λ e. No) h n (eqb-false _ _ q) (more-bad base acc (i - start) (getD t i 0) d _ e l)
+          spelt-at (more base acc (i - start)) (i - from) t i (λ e. No) h n (eqb-false _ _ q)
+          (more-bad base acc (i - start) (getD t i 0) d _ e l)
           ∙ spelt-no (λ e. No) (i - from + 1) (drop (i + 1) t) refl
 
   pub digits-end : length t ≤ i → Reference.Bad ≡ spelt (digits base) (start - from) (drop start t)
@@ -170,7 +183,18 @@ digits-mul acc base h hb = record { fits = omega (arith, scaled acc base h hb) }
 pub digits-add : (acc base d : ℕ) → acc < 2 ^ 32 → base ≤ 16 → d < base → Fits w64 (acc * base + d)
 digits-add acc base d h hb l = record { fits = omega (arith, scaled acc base h hb) }
 
-pub ruleset digits-laws = (needs, digits-mul, digits-add, digits-start, digits-turn, digits-over, digits-value, digits-none, digits-bad, digits-end)
+pub ruleset digits-laws = (
+  needs,
+  digits-mul,
+  digits-add,
+  digits-start,
+  digits-turn,
+  digits-over,
+  digits-value,
+  digits-none,
+  digits-bad,
+  digits-end,
+)
 
 -- ---- past a sign
 -- what a list does not begin with, its front does not
@@ -180,7 +204,8 @@ not-front (suc n) v [] h e = omega arith
 not-front (suc n) v (b ∷ s) h e = h e
 
 module _ (strict : Bool) (t : List ℕ) (start : ℕ) where
-  sign-none : start ≤ length t → ((base : ℕ) (e : List ℕ) → e ≡ take (span (drop start t)) (drop start t) → reader strict base e ≡ digits base e) → PastSign strict t start start
+  sign-none : start ≤ length t → ((base : ℕ) (e : List ℕ) → e ≡ take (span (drop start t)) (drop start t)
+      → reader strict base e ≡ digits base e) → PastSign strict t start start
   sign-none h e =
       let z : start - start ≡ 0 = omega arith in
       record {
@@ -204,7 +229,8 @@ module _ (strict : Bool) (t : List ℕ) (start : ℕ) where
   sign-other q g f n =
       let h : start < length t = omega arith in
       let m : getD (drop start t) 0 0 ≡ 43 → ⊥ = λ x. n (rw (drop-cons t start 0) at x) in
-      sign-none (omega arith) (λ base e p. rw (q, ne-eqb (getD e 0 0) 43 (λ x. not-front (span (drop start t)) 42 (drop start t) m (rw p at x))))
+      sign-none (omega arith) (λ base e p. rw
+      (q, ne-eqb (getD e 0 0) 43 (λ x. not-front (span (drop start t)) 42 (drop start t) m (rw p at x))))
 
   pub sign-plus : strict ≡ false → start ≤ length t → (start ≡ length t → ⊥) → getD t start 0 ≡ 43 → PastSign strict t start (start + 1)
   unfolding reader plusDigits
@@ -214,7 +240,8 @@ module _ (strict : Bool) (t : List ℕ) (start : ℕ) where
       record {
         low = omega arith;
         high = omega arith;
-        same = λ base n. rw z (spelt-at (reader strict base) n t start (digits base) h (λ x. omega (arith, x, e)) (λ x. omega (arith, x, e)) (rw (q, e)));
+        same = λ base n. rw z (spelt-at (reader strict base) n t start (digits base) h (λ x. omega (arith, x, e)) (λ x. omega (arith, x, e))
+            (rw (q, e)));
       }
 
 pub ruleset sign-laws = (needs, sign-strict, sign-end, sign-other, sign-plus)
@@ -242,7 +269,8 @@ module _ (strict : Bool) (t : List ℕ) (from : ℕ) (hash : getD t from 0 ≡ 3
       let x = spelt-at after 1 t (from + 1) (reader strict 16) h (λ x. omega (arith, x, e)) (λ x. omega (arith, x, e)) (rw e) in
       q ∙ sym (past-hash ∙ (rw k at x) ∙ (rw m at (p .same 16 2)))
 
-  pub numeric-decimal : {s : ℕ} {r : Reference} → (from + 1 ≡ length t → ⊥) → (getD t (from + 1) 0 ≡ 120 → ⊥) → PastSign strict t (from + 1) s
+  pub numeric-decimal : {s : ℕ} {r : Reference} → (from + 1 ≡ length t → ⊥) → (getD t (from + 1) 0 ≡ 120 → ⊥)
+      → PastSign strict t (from + 1) s
       → r ≡ spelt (digits 10) (s - from) (drop s t) → r ≡ spelt (numeric (reader strict)) 0 (drop from t)
   unfolding after
   numeric-decimal {s} g e p q =
@@ -293,14 +321,16 @@ pub begins-start : (name t : List ℕ) (from : ℕ) → BeginsAt name t from 0
 begins-start name t from = record { within = omega arith; rest = rw add-zero }
 
 module _ {name t : List ℕ} {from k : ℕ} (at : BeginsAt name t from k) where
-  pub begins-turn : from ≤ length t → length name ≤ length t - from → k < length name → getD t (from + k) 0 ≡ getD name k 0 → BeginsAt name t from (k + 1)
+  pub begins-turn : from ≤ length t → length name ≤ length t - from → k < length name → getD t (from + k) 0 ≡ getD name k 0
+      → BeginsAt name t from (k + 1)
   unfolding begins
   begins-turn f l h e =
       let g : from + k < length t = omega arith in
       let q : from + (k + 1) ≡ suc (from + k) = omega arith in
       record { within = omega arith; rest = rw (q, add-one k, ← at .rest, drop-cons name k 0, drop-cons t (from + k) 0, eq-eqb _ _ e) }
 
-  pub begins-differ : from ≤ length t → length name ≤ length t - from → k < length name → (getD t (from + k) 0 ≡ getD name k 0 → ⊥) → false ≡ begins name (drop from t)
+  pub begins-differ : from ≤ length t → length name ≤ length t - from → k < length name → (getD t (from + k) 0 ≡ getD name k 0 → ⊥)
+      → false ≡ begins name (drop from t)
   unfolding begins
   begins-differ f l h e =
       let g : from + k < length t = omega arith in
@@ -330,7 +360,8 @@ unfolding cleanb
 clean-test [] e = clean-none
 clean-test (b ∷ s) e = go (eqb b 59) (eqb b 38) refl refl e (clean-test s)
   where
-    go : (t u : Bool) → eqb b 59 ≡ t → eqb b 38 ≡ u → pick t false (pick u false (cleanb s)) ≡ true → (cleanb s ≡ true → Clean s) → Clean (b ∷ s)
+    go : (t u : Bool) → eqb b 59 ≡ t → eqb b 38 ≡ u → pick t false (pick u false (cleanb s)) ≡ true → (cleanb s ≡ true → Clean s)
+        → Clean (b ∷ s)
     go true u p q e ih = false-true e
     go false true p q e ih = false-true e
     go false false p q e ih = clean-byte (eqb-false b 59 p) (eqb-false b 38 q) (ih e)
@@ -345,7 +376,8 @@ begins-is clean-none [] = refl
 begins-is clean-none (b ∷ s) = go (eqb b 59) (eqb b 38) refl
   where
     go : (t u : Bool) → eqb b 59 ≡ t
-        → pick t true false ≡ pick (eqb (getD (b ∷ s) (pick t 0 (pick u 0 (suc (span s)))) 0) 59) (sameb (take (pick t 0 (pick u 0 (suc (span s)))) (b ∷ s)) []) false
+        → pick t true false ≡ pick (eqb (getD (b ∷ s) (pick t 0 (pick u 0 (suc (span s)))) 0) 59)
+        (sameb (take (pick t 0 (pick u 0 (suc (span s)))) (b ∷ s)) []) false
     go true u p = rw p
     go false true p = rw p
     go false false p = rw pick-same
@@ -353,12 +385,14 @@ begins-is (clean-byte {b = x} {s = n} h k c) [] = refl
 begins-is (clean-byte {b = x} {s = n} h k c) (b ∷ s) = go (eqb b x) refl (begins-is c s)
   where
     other : (t u : Bool) → eqb b 59 ≡ t → eqb b x ≡ false
-        → false ≡ pick (eqb (getD (b ∷ s) (pick t 0 (pick u 0 (suc (span s)))) 0) 59) (sameb (take (pick t 0 (pick u 0 (suc (span s)))) (b ∷ s)) (x ∷ n)) false
+        → false ≡ pick (eqb (getD (b ∷ s) (pick t 0 (pick u 0 (suc (span s)))) 0) 59)
+        (sameb (take (pick t 0 (pick u 0 (suc (span s)))) (b ∷ s)) (x ∷ n)) false
     other true u p e = rw p
     other false true p e = rw p
     other false false p e = rw (e, pick-same)
 
-    go : (t : Bool) → eqb b x ≡ t → begins (n ++ (59 ∷ [])) s ≡ is-named n s → pick t (begins (n ++ (59 ∷ [])) s) false ≡ is-named (x ∷ n) (b ∷ s)
+    go : (t : Bool) → eqb b x ≡ t → begins (n ++ (59 ∷ [])) s ≡ is-named n s
+        → pick t (begins (n ++ (59 ∷ [])) s) false ≡ is-named (x ∷ n) (b ∷ s)
     go true e ih =
         let q : b ≡ x = eqb-true b x e in
         rw (ne-eqb b 59 (λ z. h (sym q ∙ z)), ne-eqb b 38 (λ z. k (sym q ∙ z)), e) ih
@@ -386,7 +420,8 @@ named-spelt s =
         Reference.Bad))))
         ≡ pick t (sized (span s + 1) (named e)) Reference.Bad
     go false q = refl
-    go true q = one (ascii "lt") 60 _ _ (one (ascii "gt") 62 _ _ (one (ascii "amp") 38 _ _ (one (ascii "quot") 34 _ _ (one (ascii "apos") 39 _ _ refl))))
+    go true q = one (ascii "lt") 60 _ _
+        (one (ascii "gt") 62 _ _ (one (ascii "amp") 38 _ _ (one (ascii "quot") 34 _ _ (one (ascii "apos") 39 _ _ refl))))
       where
         one : (name : List ℕ) (c : ℕ) (x : Number) (r : Reference) → r ≡ sized (span s + 1) x
             → pick (sameb e name) (Reference.Char c (length name + 1)) r ≡ sized (span s + 1) (pick (sameb e name) (Value c) x)
@@ -394,7 +429,8 @@ named-spelt s =
           where
             pass : (t : Bool) → sameb e name ≡ t → pick t (Reference.Char c (length name + 1)) r ≡ sized (span s + 1) (pick t (Value c) x)
             pass true p =
-                let l : span s ≡ length name = omega (arith, getD-in s (span s) 58 (eqb-true _ _ q), length-take (span s) s, ap length (same-is e name p)) in
+                let l : span s ≡ length name =
+                omega (arith, getD-in s (span s) 58 (eqb-true _ _ q), length-take (span s) s, ap length (same-is e name p)) in
                 rw l
             pass false p = h
 
@@ -428,7 +464,8 @@ module _ (a b c d e : ℕ) (u : List ℕ) (ha : a < 256) (hb : b < 256) (hc : c 
       shift true false h = refl
       shift false g h = refl
 
-  next : (t v : Bool) (w c n x : ℕ) (r : Reference) → t ≡ v → w ≡ c + 256 * n → x ≡ packed r → pick t w x ≡ packed (pick v (Reference.Char c n) r)
+  next : (t v : Bool) (w c n x : ℕ) (r : Reference) → t ≡ v → w ≡ c + 256 * n → x ≡ packed r
+      → pick t w x ≡ packed (pick v (Reference.Char c n) r)
   unfolding packed
   next t true w c n x r p q h = rw (p, q)
   next t false w c n x r p q h = rw p h
@@ -439,9 +476,12 @@ module _ (a b c d e : ℕ) (u : List ℕ) (ha : a < 256) (hb : b < 256) (hc : c 
       let w = a + 256 * (b + 256 * c) in
       next (eqb w 3896428) _ _ 60 3 _ _ (pick-test (eqb w 3896428) ∙ three-eqb 108 116 59 [] true (omega arith) (omega arith) refl) refl
       (next (eqb w 3896423) _ _ 62 3 _ _ (pick-test (eqb w 3896423) ∙ three-eqb 103 116 59 [] true (omega arith) (omega arith) refl) refl
-      (next (pick (eqb w 7368033) (eqb d 59) false) _ _ 38 4 _ _ (three-eqb 97 109 112 (59 ∷ []) (eqb d 59) (omega arith) (omega arith) (pick-test (eqb d 59))) refl
-      (next (pick (eqb w 7304561) (eqb (d + 256 * e) 15220) false) _ _ 34 5 _ _ (three-eqb 113 117 111 (116 ∷ 59 ∷ []) _ (omega arith) (omega arith) (last 116 (omega arith))) refl
-      (next (pick (eqb w 7303265) (eqb (d + 256 * e) 15219) false) _ _ 39 5 _ _ (three-eqb 97 112 111 (115 ∷ 59 ∷ []) _ (omega arith) (omega arith) (last 115 (omega arith))) refl refl))))
+      (next (pick (eqb w 7368033) (eqb d 59) false) _ _ 38 4 _ _
+      (three-eqb 97 109 112 (59 ∷ []) (eqb d 59) (omega arith) (omega arith) (pick-test (eqb d 59))) refl
+      (next (pick (eqb w 7304561) (eqb (d + 256 * e) 15220) false) _ _ 34 5 _ _
+      (three-eqb 113 117 111 (116 ∷ 59 ∷ []) _ (omega arith) (omega arith) (last 116 (omega arith))) refl
+      (next (pick (eqb w 7303265) (eqb (d + 256 * e) 15219) false) _ _ 39 5 _ _
+      (three-eqb 97 112 111 (115 ∷ 59 ∷ []) _ (omega arith) (omega arith) (last 115 (omega arith))) refl refl))))
     where
       last : (x : ℕ) → x < 256 → eqb (d + 256 * e) (x + 256 * 59) ≡ begins (x ∷ 59 ∷ []) (d ∷ e ∷ u)
       last x h = two-eqb d e x 59 hd h ∙ ap (λ (t : Bool). pick (eqb d x) t false) (pick-test (eqb e 59))
@@ -465,7 +505,8 @@ five t i h =
     again : (k : ℕ) → i + k < length t → drop (i + k) t ≡ getD t (i + k) 0 ∷ drop (i + (k + 1)) t
     again k h = let e : i + (k + 1) ≡ i + k + 1 = omega arith in rw e (next (i + k) h)
 
-pub name-is : (t : List ℕ) (from : ℕ) {w b c r : ℕ} → 5 ≤ length t - from → Three t from w → Byte (getD t (from + 3) 0) b → Byte (getD t (from + 4) 0) c
+pub name-is : (t : List ℕ) (from : ℕ) {w b c r : ℕ} → 5 ≤ length t - from → Three t from w → Byte (getD t (from + 3) 0) b
+    → Byte (getD t (from + 4) 0) c
     → r ≡ nameValue w b (b + 256 * c) → r ≡ packed (namedRef (drop from t))
 name-is t from h w x y q =
     let o = w .one in
@@ -479,7 +520,8 @@ pub ruleset name-laws = (needs, three-is, name-is)
 
 -- what holds of the five and of none holds of a reference by name
 named-ref-all : (P : Reference → Type 0) (s : List ℕ)
-    → P (Reference.Char 60 3) → P (Reference.Char 62 3) → P (Reference.Char 38 4) → P (Reference.Char 34 5) → P (Reference.Char 39 5) → P Reference.Bad → P (namedRef s)
+    → P (Reference.Char 60 3) → P (Reference.Char 62 3) → P (Reference.Char 38 4) → P (Reference.Char 34 5) → P (Reference.Char 39 5)
+    → P Reference.Bad → P (namedRef s)
 unfolding namedRef
 named-ref-all P s lt gt amp quot apos none =
     pick-all P (begins (ascii "lt;") s) _ _ lt
@@ -491,7 +533,8 @@ named-ref-all P s lt gt amp quot apos none =
 module _ (s : List ℕ) {r : ℕ} (q : r ≡ packed (namedRef s)) where
   pub packed-bad : r ≡ 0 → Reference.Bad ≡ namedRef s
   unfolding packed
-  packed-bad e = named-ref-all (λ (x : Reference). r ≡ packed x → Reference.Bad ≡ x) s (no 60 2) (no 62 2) (no 38 3) (no 34 4) (no 39 4) (λ q. refl) q
+  packed-bad e = named-ref-all (λ (x : Reference). r ≡ packed x → Reference.Bad ≡ x) s (no 60 2) (no 62 2) (no 38 3) (no 34 4) (no 39 4)
+      (λ q. refl) q
     where
       no : (c n : ℕ) {x : Reference} → r ≡ c + 256 * suc n → Reference.Bad ≡ x
       no c n h = absurd (omega arith)
@@ -499,7 +542,8 @@ module _ (s : List ℕ) {r : ℕ} (q : r ≡ packed (namedRef s)) where
   pub packed-char : (r ≡ 0 → ⊥) → Reference.Char (r % 256) (r / 256) ≡ namedRef s
   unfolding packed
   packed-char n =
-      named-ref-all (λ (x : Reference). r ≡ packed x → Reference.Char (r % 256) (r / 256) ≡ x) s (λ q. rw q) (λ q. rw q) (λ q. rw q) (λ q. rw q) (λ q. rw q)
+      named-ref-all (λ (x : Reference). r ≡ packed x → Reference.Char (r % 256) (r / 256) ≡ x) s (λ q. rw q) (λ q. rw q) (λ q. rw q)
+      (λ q. rw q) (λ q. rw q)
       (λ q. absurd (n q)) q
 
 pub ruleset packed-laws = (needs, packed-bad, packed-char)
@@ -514,7 +558,8 @@ module _ (strict : Bool) (t : List ℕ) (from : ℕ) where
   pub reference-end : from ≡ length t → Reference.Bad ≡ reference strict (drop from t)
   reference-end h = sym (reference-spelt strict (drop from t) ∙ spelt-end (charOf strict) 0 t from (omega arith))
 
-  pub reference-named : {r : Reference} → from ≤ length t → (from ≡ length t → ⊥) → (getD t from 0 ≡ 35 → ⊥) → r ≡ namedRef (drop from t) → r ≡ reference strict (drop from t)
+  pub reference-named : {r : Reference} → from ≤ length t → (from ≡ length t → ⊥) → (getD t from 0 ≡ 35 → ⊥) → r ≡ namedRef (drop from t)
+      → r ≡ reference strict (drop from t)
   unfolding charOf numeric only
   reference-named {r} g f n q =
       let h : from < length t = omega arith in
@@ -523,14 +568,17 @@ module _ (strict : Bool) (t : List ℕ) (from : ℕ) where
       let k : eqb (getD (take (span s) s) 0 0) 35 ≡ false = ne-eqb _ 35 (not-front (span s) 34 s m) in
       q ∙ named-spelt s ∙ sym (reference-spelt strict s ∙ spelt-same (charOf strict) named 0 s (rw (k, first-none)))
 
-  pub reference-numeric : {x r : Reference} → from ≤ length t → (from ≡ length t → ⊥) → getD t from 0 ≡ 35 → x ≡ spelt (numeric (reader strict)) 0 (drop from t)
+  pub reference-numeric : {x r : Reference} → from ≤ length t → (from ≡ length t → ⊥) → getD t from 0 ≡ 35
+      → x ≡ spelt (numeric (reader strict)) 0 (drop from t)
       → r ≡ onlyRef (allowed strict) x → r ≡ reference strict (drop from t)
   unfolding charOf first named sameb span
   reference-numeric {x} {r} g f e q k =
       let h : from < length t = omega arith in
       let s = drop from t in
-      let c : charOf strict (take (span s) s) ≡ only (allowed strict) (numeric (reader strict) (take (span s) s)) = rw (drop-cons t from 0, e) in
+      let c : charOf strict (take (span s) s) ≡ only (allowed strict) (numeric (reader strict) (take (span s) s)) =
+      rw (drop-cons t from 0, e) in
       k ∙ ap (onlyRef (allowed strict)) q
-      ∙ sym (reference-spelt strict s ∙ spelt-same (charOf strict) (λ e. only (allowed strict) (numeric (reader strict) e)) 0 s c ∙ spelt-only (allowed strict) (numeric (reader strict)) 0 s)
+      ∙ sym (reference-spelt strict s ∙ spelt-same (charOf strict) (λ e. only (allowed strict) (numeric (reader strict) e)) 0 s c
+      ∙ spelt-only (allowed strict) (numeric (reader strict)) 0 s)
 
 pub ruleset reference-laws = (needs, reference-end, reference-named, reference-numeric)

@@ -10,7 +10,8 @@ use lib.Dec.{ltb, leb}
 use lib.ListN.{length, getD}
 use Rattle.lists.specs.Tests.{pick, within}
 use Rattle.lists.proofs.Tests.{pick-same, false-true}
-use Rattle.utf8.specs.Table.{Range, _to_, table, inRange, fits, OneChar, WellFormed, none, next, After, due, never, after, walk, isUtf8}
+use Rattle.utf8.specs.Table.{Range, _to_, table, inRange, fits, OneChar, WellFormed, none, next, After, due, never, after, walk}
+use Rattle.utf8.specs.Table.{isUtf8}
 
 -- by whether a number is below another
 pub below : {P : Type 0} (c k : ℕ) → (c < k → P) → (k ≤ c → P) → P
@@ -51,7 +52,8 @@ rising n ([] ∷ rows) = false
 rising n ((from to last ∷ rs) ∷ rows) = pick (within n last from) (rising (suc last) rows) false
 
 -- a first byte of one of these rows is n or more
-rising-low : (n : ℕ) (rows : List (List Range)) (b : ℕ) {r : Range} {rs : List Range} → rising n rows ≡ true → List·Memᴰ (r ∷ rs) rows → inRange r b ≡ true → n ≤ b
+rising-low : (n : ℕ) (rows : List (List Range)) (b : ℕ) {r : Range} {rs : List Range} → rising n rows ≡ true → List·Memᴰ (r ∷ rs) rows
+    → inRange r b ≡ true → n ≤ b
 unfolding rising inRange
 rising-low n [] b e m h = absurd (List·Memᴰ·not-nil m)
 rising-low n ([] ∷ rows) b e m h = false-true e
@@ -59,12 +61,14 @@ rising-low n ((from to last ∷ ts) ∷ rows) b {r} {rs} e m h =
     let p = both (within n last from) (rising (suc last) rows) e in
     go (List·Memᴰ·cases-cons m) (in-range n last from (p .0)) (λ k. rising-low (suc last) rows b (p .1) k h)
   where
-    go : ((r ∷ rs) ≡ (from to last ∷ ts)) ⊎ List·Memᴰ (r ∷ rs) rows → (n ≤ from) × (from ≤ last) → (List·Memᴰ (r ∷ rs) rows → suc last ≤ b) → n ≤ b
+    go : ((r ∷ rs) ≡ (from to last ∷ ts)) ⊎ List·Memᴰ (r ∷ rs) rows → (n ≤ from) × (from ≤ last) → (List·Memᴰ (r ∷ rs) rows → suc last ≤ b)
+        → n ≤ b
     go (inl q) g k = let x : r ≡ from to last = cc in omega (arith, in-range from last b (rw x at h))
     go (inr q) g k = omega (arith, k q)
 
 -- a first byte of a row asks for the rest of that row
-rising-after : (n : ℕ) (rows : List (List Range)) (b : ℕ) {r : Range} {rs : List Range} → rising n rows ≡ true → List·Memᴰ (r ∷ rs) rows → inRange r b ≡ true → after rows b ≡ due rs
+rising-after : (n : ℕ) (rows : List (List Range)) (b : ℕ) {r : Range} {rs : List Range} → rising n rows ≡ true → List·Memᴰ (r ∷ rs) rows
+    → inRange r b ≡ true → after rows b ≡ due rs
 unfolding rising inRange after
 rising-after n [] b e m h = absurd (List·Memᴰ·not-nil m)
 rising-after n ([] ∷ rows) b e m h = false-true e
@@ -72,7 +76,8 @@ rising-after n ((from to last ∷ ts) ∷ rows) b {r} {rs} e m h =
     let p = both (within n last from) (rising (suc last) rows) e in
     go (List·Memᴰ·cases-cons m) (λ k. rising-after (suc last) rows b (p .1) k h) (λ k. rising-low (suc last) rows b (p .1) k h)
   where
-    go : ((r ∷ rs) ≡ (from to last ∷ ts)) ⊎ List·Memᴰ (r ∷ rs) rows → (List·Memᴰ (r ∷ rs) rows → after rows b ≡ due rs) → (List·Memᴰ (r ∷ rs) rows → suc last ≤ b) → pick (within from last b) (due ts) (after rows b) ≡ due rs
+    go : ((r ∷ rs) ≡ (from to last ∷ ts)) ⊎ List·Memᴰ (r ∷ rs) rows → (List·Memᴰ (r ∷ rs) rows → after rows b ≡ due rs)
+        → (List·Memᴰ (r ∷ rs) rows → suc last ≤ b) → pick (within from last b) (due ts) (after rows b) ≡ due rs
     go (inl q) g k = let x : r ≡ from to last = cc in let y : ts ≡ rs = cc in let z : within from last b ≡ true = rw x at h in rw (z, y)
     go (inr q) g k = rw (lt-leb b last (k q), pick-same) (g q)
 
@@ -96,7 +101,8 @@ after-row ([] ∷ rows) b rs e =
     record { first = ih .first; listed = List·Memᴰ·tail (ih .listed); holds = ih .holds }
 after-row ((r ∷ ts) ∷ rows) b rs e = go (inRange r b) refl e (after-row rows b rs)
   where
-    go : (t : Bool) → inRange r b ≡ t → pick t (due ts) (after rows b) ≡ due rs → (after rows b ≡ due rs → Row rows b rs) → Row ((r ∷ ts) ∷ rows) b rs
+    go : (t : Bool) → inRange r b ≡ t → pick t (due ts) (after rows b) ≡ due rs → (after rows b ≡ due rs → Row rows b rs)
+        → Row ((r ∷ ts) ∷ rows) b rs
     go true h q ih = let x : rs ≡ ts = cc in record { first = r; listed = List·Memᴰ·head {x = r ∷ ts} (rw x); holds = h }
     go false h q ih = let w = ih q in record { first = w .first; listed = List·Memᴰ·tail (w .listed); holds = w .holds }
 
@@ -122,15 +128,23 @@ begun [] (r ∷ rs) e = false-true e
 begun (b ∷ s) (r ∷ rs) e =
     let p = both (inRange r b) (walk rs s) e in
     let ih = begun s rs (p .1) in
-    record { front = b ∷ ih .front; back = ih .back; joined = ap (b ∷_) (ih .joined); fit = fits-more r rs b (ih .front) (p .0) (ih .fit); rest = ih .rest }
+    record {
+      front = b ∷ ih .front;
+      back = ih .back;
+      joined = ap (b ∷_) (ih .joined);
+      fit = fits-more r rs b (ih .front) (p .0) (ih .fit);
+      rest = ih .rest;
+    }
 begun (b ∷ s) [] e = go (after table b) refl e (λ rs. begun s rs)
   where
     char : (rs : List Range) → after table b ≡ due rs → Begun rs s → WellFormed (b ∷ s)
     char rs h w =
         let row = after-row table b rs h in
-        rw (w .joined) (next {c = b ∷ w .front} (record { row = _; listed = row .listed; bytes = fits-more (row .first) rs b (w .front) (row .holds) (w .fit) }) (w .rest))
+        rw (w .joined) (next {c = b ∷ w .front}
+        (record { row = _; listed = row .listed; bytes = fits-more (row .first) rs b (w .front) (row .holds) (w .fit) }) (w .rest))
 
-    go : (a : After) → after table b ≡ a → elim a [ due rs ↦ walk rs s | never ↦ false ] ≡ true → ((rs : List Range) → walk rs s ≡ true → Begun rs s) → Begun [] (b ∷ s)
+    go : (a : After) → after table b ≡ a → elim a [ due rs ↦ walk rs s | never ↦ false ] ≡ true
+        → ((rs : List Range) → walk rs s ≡ true → Begun rs s) → Begun [] (b ∷ s)
     go (due rs) h q ih = record { front = []; back = b ∷ s; joined = refl; fit = refl; rest = char rs h (ih rs q) }
     go never h q ih = false-true q
 

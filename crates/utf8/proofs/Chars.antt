@@ -57,13 +57,21 @@ module _ (c f l : ℕ) where
   unfolding fits
   two g h p q = rw (encode-2 c g h, range-in f l (0xC0 + c / 64) p q, cont-in c)
 
-  three : (f₁ l₁ : ℕ) → 0x800 ≤ c → c < 0x10000 → f ≤ 0xE0 + c / 4096 → 0xE0 + c / 4096 ≤ l → f₁ ≤ 0x80 + c / 64 % 64 → 0x80 + c / 64 % 64 ≤ l₁ → fits (f to l ∷ f₁ to l₁ ∷ 0x80 to 0xBF ∷ []) (encode c) ≡ true
+  three : (f₁ l₁ : ℕ) → 0x800 ≤ c → c < 0x10000 → f ≤ 0xE0 + c / 4096 → 0xE0 + c / 4096 ≤ l → f₁ ≤ 0x80 + c / 64 % 64
+      → 0x80 + c / 64 % 64 ≤ l₁ → fits (f to l ∷ f₁ to l₁ ∷ 0x80 to 0xBF ∷ []) (encode c) ≡ true
   unfolding fits
   three f₁ l₁ g h p q r s = rw (encode-3 c g h, range-in f l (0xE0 + c / 4096) p q, range-in f₁ l₁ (0x80 + c / 64 % 64) r s, cont-in c)
 
-  four : (f₁ l₁ : ℕ) → 0x10000 ≤ c → f ≤ 0xF0 + c / 262144 → 0xF0 + c / 262144 ≤ l → f₁ ≤ 0x80 + c / 4096 % 64 → 0x80 + c / 4096 % 64 ≤ l₁ → fits (f to l ∷ f₁ to l₁ ∷ 0x80 to 0xBF ∷ 0x80 to 0xBF ∷ []) (encode c) ≡ true
+  four : (f₁ l₁ : ℕ) → 0x10000 ≤ c → f ≤ 0xF0 + c / 262144 → 0xF0 + c / 262144 ≤ l → f₁ ≤ 0x80 + c / 4096 % 64 → 0x80 + c / 4096 % 64 ≤ l₁
+      → fits (f to l ∷ f₁ to l₁ ∷ 0x80 to 0xBF ∷ 0x80 to 0xBF ∷ []) (encode c) ≡ true
   unfolding fits
-  four f₁ l₁ g p q r s = rw (encode-4 c g, range-in f l (0xF0 + c / 262144) p q, range-in f₁ l₁ (0x80 + c / 4096 % 64) r s, cont-in (c / 64), cont-in c)
+  four f₁ l₁ g p q r s = rw (
+    encode-4 c g,
+    range-in f l (0xF0 + c / 262144) p q,
+    range-in f₁ l₁ (0x80 + c / 4096 % 64) r s,
+    cont-in (c / 64),
+    cont-in c,
+  )
 
 module _ (c : ℕ) where
   row : (k : ℕ) → k < length table → fits (getD table k []) (encode c) ≡ true → OneChar (encode c)
@@ -76,7 +84,8 @@ module _ (c : ℕ) where
       below c 0x1000 (λ k. row 2 (lit< tt) (three c 0xE0 0xE0 0xA0 0xBF g h (omega arith) (omega arith) (omega arith) (omega arith))) λ g₁.
       below c 0xD000 (λ k. row 3 (lit< tt) (three c 0xE1 0xEC 0x80 0xBF g h (omega arith) (omega arith) (omega arith) (omega arith))) λ g₂.
       below c 0xD800 (λ k. row 4 (lit< tt) (three c 0xED 0xED 0x80 0x9F g h (omega arith) (omega arith) (omega arith) (omega arith))) λ g₃.
-      let k = scalar-high c e g₃ in row 5 (lit< tt) (three c 0xEE 0xEF 0x80 0xBF g h (omega arith) (omega arith) (omega arith) (omega arith))
+      let k = scalar-high c e g₃ in row 5 (lit< tt)
+      (three c 0xEE 0xEF 0x80 0xBF g h (omega arith) (omega arith) (omega arith) (omega arith))
 
   -- of four
   high : 0x10000 ≤ c → scalar c ≡ true → OneChar (encode c)
@@ -121,14 +130,16 @@ code-2 x y a g h =
     let q : (x * 64 + y) % 64 ≡ y = omega arith in
     rw (encode-2 (x * 64 + y) g h, p, q)
 
-code-3 : (x y z : ℕ) → y < 64 → z < 64 → 0x800 ≤ x * 4096 + y * 64 + z → x * 4096 + y * 64 + z < 0x10000 → encode (x * 4096 + y * 64 + z) ≡ (0xE0 + x) ∷ (0x80 + y) ∷ (0x80 + z) ∷ []
+code-3 : (x y z : ℕ) → y < 64 → z < 64 → 0x800 ≤ x * 4096 + y * 64 + z → x * 4096 + y * 64 + z < 0x10000
+    → encode (x * 4096 + y * 64 + z) ≡ (0xE0 + x) ∷ (0x80 + y) ∷ (0x80 + z) ∷ []
 code-3 x y z a b g h =
     let p : (x * 4096 + y * 64 + z) / 4096 ≡ x = omega arith in
     let q : (x * 4096 + y * 64 + z) / 64 % 64 ≡ y = omega arith in
     let r : (x * 4096 + y * 64 + z) % 64 ≡ z = omega arith in
     rw (encode-3 (x * 4096 + y * 64 + z) g h, p, q, r)
 
-code-4 : (x y z w : ℕ) → y < 64 → z < 64 → w < 64 → 0x10000 ≤ x * 262144 + y * 4096 + z * 64 + w → encode (x * 262144 + y * 4096 + z * 64 + w) ≡ (0xF0 + x) ∷ (0x80 + y) ∷ (0x80 + z) ∷ (0x80 + w) ∷ []
+code-4 : (x y z w : ℕ) → y < 64 → z < 64 → w < 64 → 0x10000 ≤ x * 262144 + y * 4096 + z * 64 + w
+    → encode (x * 262144 + y * 4096 + z * 64 + w) ≡ (0xF0 + x) ∷ (0x80 + y) ∷ (0x80 + z) ∷ (0x80 + w) ∷ []
 code-4 x y z w a b c g =
     let p : (x * 262144 + y * 4096 + z * 64 + w) / 262144 ≡ x = omega arith in
     let q : (x * 262144 + y * 4096 + z * 64 + w) / 4096 % 64 ≡ y = omega arith in
@@ -161,14 +172,20 @@ module _ (x y z : ℕ) (lx : 0xE0 ≤ x) (hx : x ≤ 0xEF) (ly : 0x80 ≤ y) (hy
       let k = code-3 (x - 0xE0) (y - 0x80) (z - 0x80) (omega arith) (omega arith) g (omega arith) in
       record { value = v3 x y z; is-scalar = e; bytes = rw (back 0xE0 x lx, back 0x80 y ly, back 0x80 z lz) at k }
 
-module _ (x y z w : ℕ) (lx : 0xF0 ≤ x) (hx : x ≤ 0xF4) (ly : 0x80 ≤ y) (hy : y ≤ 0xBF) (lz : 0x80 ≤ z) (hz : z ≤ 0xBF) (lw : 0x80 ≤ w) (hw : w ≤ 0xBF) where
+module _ (x y z w : ℕ) (lx : 0xF0 ≤ x) (hx : x ≤ 0xF4) (ly : 0x80 ≤ y) (hy : y ≤ 0xBF) (lz : 0x80 ≤ z) (hz : z ≤ 0xBF) (lw : 0x80 ≤ w)
+    (hw : w ≤ 0xBF) where
   of-4 : 0x10000 ≤ v4 x y z w → v4 x y z w ≤ 0x10FFFF → ScalarOf (x ∷ y ∷ z ∷ w ∷ [])
   of-4 g h =
       let k = code-4 (x - 0xF0) (y - 0x80) (z - 0x80) (w - 0x80) (omega arith) (omega arith) (omega arith) g in
-      record { value = v4 x y z w; is-scalar = scalar-top (v4 x y z w) (omega arith) h; bytes = rw (back 0xF0 x lx, back 0x80 y ly, back 0x80 z lz, back 0x80 w lw) at k }
+      record {
+        value = v4 x y z w;
+        is-scalar = scalar-top (v4 x y z w) (omega arith) h;
+        bytes = rw (back 0xF0 x lx, back 0x80 y ly, back 0x80 z lz, back 0x80 w lw) at k;
+      }
 
 -- what fits a range and more is a byte and more
-more : (P : List ℕ → Type 0) (f l : ℕ) (rs : List Range) (s : List ℕ) → fits (f to l ∷ rs) s ≡ true → ((b : ℕ) (t : List ℕ) → f ≤ b → b ≤ l → fits rs t ≡ true → P (b ∷ t)) → P s
+more : (P : List ℕ → Type 0) (f l : ℕ) (rs : List Range) (s : List ℕ) → fits (f to l ∷ rs) s ≡ true
+    → ((b : ℕ) (t : List ℕ) → f ≤ b → b ≤ l → fits rs t ≡ true → P (b ∷ t)) → P s
 unfolding fits inRange
 more P f l rs [] e k = false-true e
 more P f l rs (b ∷ t) e k =
@@ -182,21 +199,25 @@ last P (b ∷ s) e k = false-true e
 
 -- what fits rows of two, three and four ranges
 module _ (f l : ℕ) (s : List ℕ) where
-  row-2 : fits (f to l ∷ 0x80 to 0xBF ∷ []) s ≡ true → ((x y : ℕ) → f ≤ x → x ≤ l → 0x80 ≤ y → y ≤ 0xBF → ScalarOf (x ∷ y ∷ [])) → ScalarOf s
+  row-2 : fits (f to l ∷ 0x80 to 0xBF ∷ []) s ≡ true → ((x y : ℕ) → f ≤ x → x ≤ l → 0x80 ≤ y → y ≤ 0xBF → ScalarOf (x ∷ y ∷ []))
+      → ScalarOf s
   row-2 e k =
       more (λ s. ScalarOf s) f l _ s e λ x t lx hx e.
       more (λ s. ScalarOf (x ∷ s)) 0x80 0xBF _ t e λ y u ly hy e.
       last (λ s. ScalarOf (x ∷ y ∷ s)) u e (k x y lx hx ly hy)
 
   module _ (f₁ l₁ : ℕ) where
-    row-3 : fits (f to l ∷ f₁ to l₁ ∷ 0x80 to 0xBF ∷ []) s ≡ true → ((x y z : ℕ) → f ≤ x → x ≤ l → f₁ ≤ y → y ≤ l₁ → 0x80 ≤ z → z ≤ 0xBF → ScalarOf (x ∷ y ∷ z ∷ [])) → ScalarOf s
+    row-3 : fits (f to l ∷ f₁ to l₁ ∷ 0x80 to 0xBF ∷ []) s ≡ true
+        → ((x y z : ℕ) → f ≤ x → x ≤ l → f₁ ≤ y → y ≤ l₁ → 0x80 ≤ z → z ≤ 0xBF → ScalarOf (x ∷ y ∷ z ∷ [])) → ScalarOf s
     row-3 e k =
         more (λ s. ScalarOf s) f l _ s e λ x t lx hx e.
         more (λ s. ScalarOf (x ∷ s)) f₁ l₁ _ t e λ y u ly hy e.
         more (λ s. ScalarOf (x ∷ y ∷ s)) 0x80 0xBF _ u e λ z v lz hz e.
         last (λ s. ScalarOf (x ∷ y ∷ z ∷ s)) v e (k x y z lx hx ly hy lz hz)
 
-    row-4 : fits (f to l ∷ f₁ to l₁ ∷ 0x80 to 0xBF ∷ 0x80 to 0xBF ∷ []) s ≡ true → ((x y z w : ℕ) → f ≤ x → x ≤ l → f₁ ≤ y → y ≤ l₁ → 0x80 ≤ z → z ≤ 0xBF → 0x80 ≤ w → w ≤ 0xBF → ScalarOf (x ∷ y ∷ z ∷ w ∷ [])) → ScalarOf s
+    row-4 : fits (f to l ∷ f₁ to l₁ ∷ 0x80 to 0xBF ∷ 0x80 to 0xBF ∷ []) s ≡ true
+        → ((x y z w : ℕ) → f ≤ x → x ≤ l → f₁ ≤ y → y ≤ l₁ → 0x80 ≤ z → z ≤ 0xBF → 0x80 ≤ w → w ≤ 0xBF → ScalarOf (x ∷ y ∷ z ∷ w ∷ []))
+        → ScalarOf s
     row-4 e k =
         more (λ s. ScalarOf s) f l _ s e λ x t lx hx e.
         more (λ s. ScalarOf (x ∷ s)) f₁ l₁ _ t e λ y u ly hy e.
@@ -221,31 +242,38 @@ module _ (s : List ℕ) where
 
   e0 : Row s (0xE0 to 0xE0 ∷ 0xA0 to 0xBF ∷ 0x80 to 0xBF ∷ [])
   unfolding Row
-  e0 e = row-3 0xE0 0xE0 s 0xA0 0xBF e λ x y z lx hx ly hy lz hz. of-3 x y z lx (omega arith) (omega arith) hy lz hz (omega arith) (scalar-low (v3 x y z) (omega arith))
+  e0 e = row-3 0xE0 0xE0 s 0xA0 0xBF e λ x y z lx hx ly hy lz hz. of-3 x y z lx (omega arith) (omega arith) hy lz hz (omega arith)
+      (scalar-low (v3 x y z) (omega arith))
 
   e1-ec : Row s (0xE1 to 0xEC ∷ 0x80 to 0xBF ∷ 0x80 to 0xBF ∷ [])
   unfolding Row
-  e1-ec e = row-3 0xE1 0xEC s 0x80 0xBF e λ x y z lx hx ly hy lz hz. of-3 x y z (omega arith) (omega arith) ly hy lz hz (omega arith) (scalar-low (v3 x y z) (omega arith))
+  e1-ec e = row-3 0xE1 0xEC s 0x80 0xBF e λ x y z lx hx ly hy lz hz. of-3 x y z (omega arith) (omega arith) ly hy lz hz (omega arith)
+      (scalar-low (v3 x y z) (omega arith))
 
   ed : Row s (0xED to 0xED ∷ 0x80 to 0x9F ∷ 0x80 to 0xBF ∷ [])
   unfolding Row
-  ed e = row-3 0xED 0xED s 0x80 0x9F e λ x y z lx hx ly hy lz hz. of-3 x y z (omega arith) (omega arith) ly (omega arith) lz hz (omega arith) (scalar-low (v3 x y z) (omega arith))
+  ed e = row-3 0xED 0xED s 0x80 0x9F e λ x y z lx hx ly hy lz hz. of-3 x y z (omega arith) (omega arith) ly (omega arith) lz hz
+      (omega arith) (scalar-low (v3 x y z) (omega arith))
 
   ee-ef : Row s (0xEE to 0xEF ∷ 0x80 to 0xBF ∷ 0x80 to 0xBF ∷ [])
   unfolding Row
-  ee-ef e = row-3 0xEE 0xEF s 0x80 0xBF e λ x y z lx hx ly hy lz hz. of-3 x y z (omega arith) hx ly hy lz hz (omega arith) (scalar-top (v3 x y z) (omega arith) (omega arith))
+  ee-ef e = row-3 0xEE 0xEF s 0x80 0xBF e λ x y z lx hx ly hy lz hz. of-3 x y z (omega arith) hx ly hy lz hz (omega arith)
+      (scalar-top (v3 x y z) (omega arith) (omega arith))
 
   f0 : Row s (0xF0 to 0xF0 ∷ 0x90 to 0xBF ∷ 0x80 to 0xBF ∷ 0x80 to 0xBF ∷ [])
   unfolding Row
-  f0 e = row-4 0xF0 0xF0 s 0x90 0xBF e λ x y z w lx hx ly hy lz hz lw hw. of-4 x y z w lx (omega arith) (omega arith) hy lz hz lw hw (omega arith) (omega arith)
+  f0 e = row-4 0xF0 0xF0 s 0x90 0xBF e λ x y z w lx hx ly hy lz hz lw hw. of-4 x y z w lx (omega arith) (omega arith) hy lz hz lw hw
+      (omega arith) (omega arith)
 
   f1-f3 : Row s (0xF1 to 0xF3 ∷ 0x80 to 0xBF ∷ 0x80 to 0xBF ∷ 0x80 to 0xBF ∷ [])
   unfolding Row
-  f1-f3 e = row-4 0xF1 0xF3 s 0x80 0xBF e λ x y z w lx hx ly hy lz hz lw hw. of-4 x y z w (omega arith) (omega arith) ly hy lz hz lw hw (omega arith) (omega arith)
+  f1-f3 e = row-4 0xF1 0xF3 s 0x80 0xBF e λ x y z w lx hx ly hy lz hz lw hw. of-4 x y z w (omega arith) (omega arith) ly hy lz hz lw hw
+      (omega arith) (omega arith)
 
   f4 : Row s (0xF4 to 0xF4 ∷ 0x80 to 0x8F ∷ 0x80 to 0xBF ∷ 0x80 to 0xBF ∷ [])
   unfolding Row
-  f4 e = row-4 0xF4 0xF4 s 0x80 0x8F e λ x y z w lx hx ly hy lz hz lw hw. of-4 x y z w (omega arith) hx ly (omega arith) lz hz lw hw (omega arith) (omega arith)
+  f4 e = row-4 0xF4 0xF4 s 0x80 0x8F e λ x y z w lx hx ly hy lz hz lw hw. of-4 x y z w (omega arith) hx ly (omega arith) lz hz lw hw
+      (omega arith) (omega arith)
 
 -- what holds of every row
 abbrev Every : (List Range → Type 0) → List (List Range) → Type 0
@@ -263,4 +291,5 @@ every P {row} (r ∷ rows) a m = go (List·Memᴰ·cases-cons m) (every P rows (
 -- each character of the table is the bytes of a scalar value
 pub char-scalar : {s : List ℕ} → OneChar s → ScalarOf s
 unfolding table Row
-char-scalar {s} o = every (Row s) table (ascii s, (c2-df s, (e0 s, (e1-ec s, (ed s, (ee-ef s, (f0 s, (f1-f3 s, (f4 s, tt))))))))) (o .listed) (o .bytes)
+char-scalar {s} o = every (Row s) table (ascii s, (c2-df s, (e0 s, (e1-ec s, (ed s, (ee-ef s, (f0 s, (f1-f3 s, (f4 s, tt)))))))))
+    (o .listed) (o .bytes)

@@ -12,7 +12,7 @@ use lib.Seq.{split-at, drop-cons, take-suc, getD-drop}
 use Rattle.lists.specs.Tests.{pick}
 use Rattle.lists.proofs.Tests.{false-true}
 use Rattle.utf8.specs.Table.{Range, _to_, table, inRange, WellFormed, none, next, After, due, never, after, walk, isUtf8}
-use Rattle.utf8.proofs.Agree.{both, in-range, test-sound, test-complete}
+use Rattle.utf8.proofs.Agree.{both, in-range}
 
 -- ---- joined
 -- two well-formed sequences, one after the other, are well-formed
@@ -27,12 +27,15 @@ walk-append [] [] b e = refl
 walk-append [] (r ∷ rs) b e = false-true e
 walk-append (x ∷ a) (r ∷ rs) b e = go (inRange r x) e (walk-append a rs b)
   where
-    go : (t : Bool) → pick t (walk rs a) false ≡ true → (walk rs a ≡ true → walk rs (a ++ b) ≡ walk [] b) → pick t (walk rs (a ++ b)) false ≡ walk [] b
+    go : (t : Bool) → pick t (walk rs a) false ≡ true → (walk rs a ≡ true → walk rs (a ++ b) ≡ walk [] b)
+        → pick t (walk rs (a ++ b)) false ≡ walk [] b
     go true q ih = ih q
     go false q ih = false-true q
 walk-append (x ∷ a) [] b e = go (after table x) e (λ rs. walk-append a rs b)
   where
-    go : (n : After) → elim n [ due rs ↦ walk rs a | never ↦ false ] ≡ true → ((rs : List Range) → walk rs a ≡ true → walk rs (a ++ b) ≡ walk [] b) → elim n [ due rs ↦ walk rs (a ++ b) | never ↦ false ] ≡ walk [] b
+    go : (n : After) → elim n [ due rs ↦ walk rs a | never ↦ false ] ≡ true
+        → ((rs : List Range) → walk rs a ≡ true → walk rs (a ++ b) ≡ walk [] b)
+        → elim n [ due rs ↦ walk rs (a ++ b) | never ↦ false ] ≡ walk [] b
     go (due rs) q ih = ih rs q
     go never q ih = false-true q
 
@@ -90,7 +93,8 @@ pub record Cut (rs : List Range) (a c : List ℕ) : Type 0 where
   pub back : walk [] c ≡ true
 
 -- a sequence that the walk admits, cut before an ASCII byte: no character is pending there
-pub cut-before : (a : List ℕ) (rs : List Range) (b : ℕ) (c : List ℕ) → walk rs (a ++ (b ∷ c)) ≡ true → high rs ≡ true → b < 0x80 → Cut rs a (b ∷ c)
+pub cut-before : (a : List ℕ) (rs : List Range) (b : ℕ) (c : List ℕ) → walk rs (a ++ (b ∷ c)) ≡ true → high rs ≡ true → b < 0x80
+    → Cut rs a (b ∷ c)
 unfolding walk high
 cut-before [] rs b c e g h =
     let q = ascii-none rs b c e g h in
@@ -105,7 +109,8 @@ cut-before (x ∷ a) (from to last ∷ rs) b c e g h =
     front-of p q = rw p q
 cut-before (x ∷ a) [] b c e g h = go (after table x) refl e (λ rs q k. cut-before a rs b c q k h)
   where
-    go : (n : After) → after table x ≡ n → elim n [ due rs ↦ walk rs (a ++ (b ∷ c)) | never ↦ false ] ≡ true → ((rs : List Range) → walk rs (a ++ (b ∷ c)) ≡ true → high rs ≡ true → Cut rs a (b ∷ c)) → Cut [] (x ∷ a) (b ∷ c)
+    go : (n : After) → after table x ≡ n → elim n [ due rs ↦ walk rs (a ++ (b ∷ c)) | never ↦ false ] ≡ true
+        → ((rs : List Range) → walk rs (a ++ (b ∷ c)) ≡ true → high rs ≡ true → Cut rs a (b ∷ c)) → Cut [] (x ∷ a) (b ∷ c)
     go (due rs) m q ih = let w = ih rs q (after-high x rs m) in record { front = rw (m, walk) (w .front); back = w .back }
     go never m q ih = false-true q
 
@@ -151,14 +156,17 @@ utf8-take-after s n g l h e =
     rw q at (utf8-take-past s (n - 1) (omega arith) h e)
 
 -- a part whose first and last bytes are ASCII
-pub utf8-part : (s : List ℕ) (from end : ℕ) → from < end → end ≤ length s → getD s from 0 < 0x80 → getD s (end - 1) 0 < 0x80 → isUtf8 s ≡ true → isUtf8 (take (end - from) (drop from s)) ≡ true
+pub utf8-part : (s : List ℕ) (from end : ℕ) → from < end → end ≤ length s → getD s from 0 < 0x80 → getD s (end - 1) 0 < 0x80
+    → isUtf8 s ≡ true → isUtf8 (take (end - from) (drop from s)) ≡ true
 utf8-part s from end g l h k e =
     let q : from + (end - from - 1) ≡ end - 1 = omega arith in
     let n : getD (drop from s) (end - from - 1) 0 ≡ getD s (end - 1) 0 = rw q at (getD-drop from s (end - from - 1) 0) in
-    utf8-take-after (drop from s) (end - from) (omega arith) (omega (arith, length-drop from s)) (omega arith) (utf8-drop s from (omega arith) h e)
+    utf8-take-after (drop from s) (end - from) (omega arith) (omega (arith, length-drop from s)) (omega arith)
+    (utf8-drop s from (omega arith) h e)
 
 -- a walk that goes on after n bytes, the last of them ASCII, begins anew there, whatever character was pending before
-pub walk-drop-after : (rs : List Range) (s : List ℕ) (n : ℕ) → high rs ≡ true → 0 < n → n ≤ length s → getD s (n - 1) 0 < 0x80 → walk rs s ≡ true → walk [] (drop n s) ≡ true
+pub walk-drop-after : (rs : List Range) (s : List ℕ) (n : ℕ) → high rs ≡ true → 0 < n → n ≤ length s → getD s (n - 1) 0 < 0x80
+    → walk rs s ≡ true → walk [] (drop n s) ≡ true
 walk-drop-after rs s n g p l h e =
     let q : suc (n - 1) ≡ n = omega arith in
     let w = cut-before (take (n - 1) s) rs (getD s (n - 1) 0) (drop (suc (n - 1)) s) (rw (split-at s (n - 1) 0 (omega arith)) at e) g h in

@@ -32,7 +32,10 @@ block-start s from = record { within = omega arith; all = λ j h. absurd (omega 
 
 module _ {s : List ℕ} {from most k : ℕ} (at : BlockAt s from most k) where
   block-next : {t : ℕ} → k < 32 → getD s (from + k) 0 ≤ t → most ≤ t → BlockAt s from t (k + 1)
-  block-next {t} h b q = record { within = omega arith; all = below-more (λ j. getD s (from + j) 0 ≤ t) k (λ j g. omega (arith, at .all j g)) b }
+  block-next {t} h b q = record {
+    within = omega arith;
+    all = below-more (λ j. getD s (from + j) 0 ≤ t) k (λ j g. omega (arith, at .all j g)) b;
+  }
 
   -- a byte above the greatest so far
   pub block-more : {t : ℕ} → k < 32 → most < getD s (from + k) 0 → t ≡ getD s (from + k) 0 → BlockAt s from t (k + 1)
@@ -56,7 +59,11 @@ run-start s from h = record { low = omega arith; within = h; rest = refl }
 module _ {s : List ℕ} {from i : ℕ} (at : Run s from i) where
   -- one more ASCII byte
   pub run-byte : i < length s → getD s i 0 < 0x80 → Run s from (i + 1)
-  run-byte h b = record { low = omega arith; within = omega arith; rest = rw (add-one i) (sym (walk-ascii (getD s i 0) (drop (suc i) s) b) ∙ rw (← drop-cons s i 0 h) (at .rest)) }
+  run-byte h b = record {
+    low = omega arith;
+    within = omega arith;
+    rest = rw (add-one i) (sym (walk-ascii (getD s i 0) (drop (suc i) s) b) ∙ rw (← drop-cons s i 0 h) (at .rest));
+  }
 
 module _ {s : List ℕ} {from i : ℕ} (at : Run s from i) where
   run-bytes : (n : ℕ) → i + n ≤ length s → ((k : ℕ) → k < n → getD s (i + k) 0 < 0x80) → Run s from (i + n)
@@ -96,7 +103,8 @@ module _ (f l : ℕ) (s : List ℕ) (at : ℕ) where
   byte-in h g k = record { yes = λ e. (h, g, k); no = λ e. false-true (sym e) }
 
 -- a byte of a range takes the walk on
-in-step : (f l : ℕ) (rs : List Range) (s : List ℕ) (at : ℕ) → (at < length s) × (f ≤ getD s at 0) × (getD s at 0 ≤ l) → walk (f to l ∷ rs) (drop at s) ≡ walk rs (drop (at + 1) s)
+in-step : (f l : ℕ) (rs : List Range) (s : List ℕ) (at : ℕ) → (at < length s) × (f ≤ getD s at 0) × (getD s at 0 ≤ l)
+    → walk (f to l ∷ rs) (drop at s) ≡ walk rs (drop (at + 1) s)
 unfolding walk inRange
 in-step f l rs s at h = rw (add-one at, drop-cons s at 0 (h .0), le-leb f (getD s at 0) (h .1), le-leb (getD s at 0) l (h .2))
 
@@ -138,12 +146,32 @@ out-high f l b h = rw (lt-leb b l h, pick-same)
 never-low : (b : ℕ) → 0x80 ≤ b → b < 0xC2 → after table b ≡ never
 unfolding after table
 never-low b g h =
-    rw (out-high 0x00 0x7F b (omega arith), out-low 0xC2 0xDF b (omega arith), out-low 0xE0 0xE0 b (omega arith), out-low 0xE1 0xEC b (omega arith), out-low 0xED 0xED b (omega arith), out-low 0xEE 0xEF b (omega arith), out-low 0xF0 0xF0 b (omega arith), out-low 0xF1 0xF3 b (omega arith), out-low 0xF4 0xF4 b (omega arith))
+    rw (
+      out-high 0x00 0x7F b (omega arith),
+      out-low 0xC2 0xDF b (omega arith),
+      out-low 0xE0 0xE0 b (omega arith),
+      out-low 0xE1 0xEC b (omega arith),
+      out-low 0xED 0xED b (omega arith),
+      out-low 0xEE 0xEF b (omega arith),
+      out-low 0xF0 0xF0 b (omega arith),
+      out-low 0xF1 0xF3 b (omega arith),
+      out-low 0xF4 0xF4 b (omega arith),
+    )
 
 never-high : (b : ℕ) → 0xF4 < b → after table b ≡ never
 unfolding after table
 never-high b g =
-    rw (out-high 0x00 0x7F b (omega arith), out-high 0xC2 0xDF b (omega arith), out-high 0xE0 0xE0 b (omega arith), out-high 0xE1 0xEC b (omega arith), out-high 0xED 0xED b (omega arith), out-high 0xEE 0xEF b (omega arith), out-high 0xF0 0xF0 b (omega arith), out-high 0xF1 0xF3 b (omega arith), out-high 0xF4 0xF4 b (omega arith))
+    rw (
+      out-high 0x00 0x7F b (omega arith),
+      out-high 0xC2 0xDF b (omega arith),
+      out-high 0xE0 0xE0 b (omega arith),
+      out-high 0xE1 0xEC b (omega arith),
+      out-high 0xED 0xED b (omega arith),
+      out-high 0xEE 0xEF b (omega arith),
+      out-high 0xF0 0xF0 b (omega arith),
+      out-high 0xF1 0xF3 b (omega arith),
+      out-high 0xF4 0xF4 b (omega arith),
+    )
 
 module _ {s : List ℕ} {at : ℕ} (h : at < length s) where
   no-char : after table (getD s at 0) ≡ never → CharLen s at 0
@@ -151,7 +179,8 @@ module _ {s : List ℕ} {at : ℕ} (h : at < length s) where
   no-char e = record { within = omega arith; bad = λ q. rw (drop-cons s at 0 h, e, walk); good = λ n. absurd (n refl) }
 
   -- the bytes that the first asks for follow it, or not
-  char-of : (rs : List Range) {t : Bool} {r : ℕ} → after table (getD s at 0) ≡ due rs → Follow rs s (at + 1) t → r ≡ pick t (suc (length rs)) 0 → CharLen s at r
+  char-of : (rs : List Range) {t : Bool} {r : ℕ} → after table (getD s at 0) ≡ due rs → Follow rs s (at + 1) t
+      → r ≡ pick t (suc (length rs)) 0 → CharLen s at r
   unfolding walk
   char-of rs {t} {r} e p q = go t p q
     where
@@ -165,7 +194,8 @@ module _ {s : List ℕ} {at : ℕ} (h : at < length s) where
       go false p q = record { within = omega arith; bad = λ z. step ∙ p .no refl; good = λ n. absurd (n q) }
 
   module _ {t : Bool} {r : ℕ} where
-    row-of : (f l : ℕ) (rs : List Range) → List·Memᴰ (f to l ∷ rs) table → f ≤ getD s at 0 → getD s at 0 ≤ l → Follow rs s (at + 1) t → r ≡ pick t (suc (length rs)) 0 → CharLen s at r
+    row-of : (f l : ℕ) (rs : List Range) → List·Memᴰ (f to l ∷ rs) table → f ≤ getD s at 0 → getD s at 0 ≤ l → Follow rs s (at + 1) t
+        → r ≡ pick t (suc (length rs)) 0 → CharLen s at r
     row-of f l rs m g k p q = char-of rs (row-after (getD s at 0) m (range-in f l (getD s at 0) g k)) p q
 
     -- one law for each row of the table
@@ -184,24 +214,28 @@ module _ {s : List ℕ} {at : ℕ} (h : at < length s) where
     char-ed e p q = row-of 0xED 0xED _ (nth table 4 (lit< tt)) (omega arith) (omega arith) p q
 
     -- E1..EC and EE..EF
-    pub char-three : 0xE0 ≤ getD s at 0 → getD s at 0 < 0xF0 → (getD s at 0 ≡ 0xE0 → ⊥) → (getD s at 0 ≡ 0xED → ⊥) → Follow (0x80 to 0xBF ∷ 0x80 to 0xBF ∷ []) s (at + 1) t → r ≡ pick t 3 0 → CharLen s at r
+    pub char-three : 0xE0 ≤ getD s at 0 → getD s at 0 < 0xF0 → (getD s at 0 ≡ 0xE0 → ⊥) → (getD s at 0 ≡ 0xED → ⊥)
+        → Follow (0x80 to 0xBF ∷ 0x80 to 0xBF ∷ []) s (at + 1) t → r ≡ pick t 3 0 → CharLen s at r
     unfolding table
     char-three g k n m p q =
         below (getD s at 0) 0xED (λ u. row-of 0xE1 0xEC _ (nth table 3 (lit< tt)) (omega arith) (omega arith) p q) λ u.
         row-of 0xEE 0xEF _ (nth table 5 (lit< tt)) (omega arith) (omega arith) p q
 
     -- F0
-    pub char-f0 : getD s at 0 ≡ 0xF0 → Follow (0x90 to 0xBF ∷ 0x80 to 0xBF ∷ 0x80 to 0xBF ∷ []) s (at + 1) t → r ≡ pick t 4 0 → CharLen s at r
+    pub char-f0 : getD s at 0 ≡ 0xF0 → Follow (0x90 to 0xBF ∷ 0x80 to 0xBF ∷ 0x80 to 0xBF ∷ []) s (at + 1) t → r ≡ pick t 4 0
+        → CharLen s at r
     unfolding table
     char-f0 e p q = row-of 0xF0 0xF0 _ (nth table 6 (lit< tt)) (omega arith) (omega arith) p q
 
     -- F1..F3
-    pub char-four : 0xF0 ≤ getD s at 0 → getD s at 0 < 0xF4 → (getD s at 0 ≡ 0xF0 → ⊥) → Follow (0x80 to 0xBF ∷ 0x80 to 0xBF ∷ 0x80 to 0xBF ∷ []) s (at + 1) t → r ≡ pick t 4 0 → CharLen s at r
+    pub char-four : 0xF0 ≤ getD s at 0 → getD s at 0 < 0xF4 → (getD s at 0 ≡ 0xF0 → ⊥)
+        → Follow (0x80 to 0xBF ∷ 0x80 to 0xBF ∷ 0x80 to 0xBF ∷ []) s (at + 1) t → r ≡ pick t 4 0 → CharLen s at r
     unfolding table
     char-four g k n p q = row-of 0xF1 0xF3 _ (nth table 7 (lit< tt)) (omega arith) (omega arith) p q
 
     -- F4
-    pub char-f4 : getD s at 0 ≡ 0xF4 → Follow (0x80 to 0x8F ∷ 0x80 to 0xBF ∷ 0x80 to 0xBF ∷ []) s (at + 1) t → r ≡ pick t 4 0 → CharLen s at r
+    pub char-f4 : getD s at 0 ≡ 0xF4 → Follow (0x80 to 0x8F ∷ 0x80 to 0xBF ∷ 0x80 to 0xBF ∷ []) s (at + 1) t → r ≡ pick t 4 0
+        → CharLen s at r
     unfolding table
     char-f4 e p q = row-of 0xF4 0xF4 _ (nth table 8 (lit< tt)) (omega arith) (omega arith) p q
 

@@ -37,10 +37,13 @@ module _ (l : List ℕ) (at c : ℕ) where
   pub put-2 : 0x80 ≤ c → c < 0x800 → Stored l (set (set l at (0xC0 + c / 64)) (at + 1) (0x80 + c % 64)) at (encode c) (at + 2)
   put-2 g h = record { next = rw (encode-2 c g h); is = rw (encode-2 c g h, add-one at) }
 
-  pub put-3 : 0x800 ≤ c → c < 0x10000 → Stored l (set (set (set l at (0xE0 + c / 4096)) (at + 1) (0x80 + c / 64 % 64)) (at + 2) (0x80 + c % 64)) at (encode c) (at + 3)
+  pub put-3 : 0x800 ≤ c → c < 0x10000
+      → Stored l (set (set (set l at (0xE0 + c / 4096)) (at + 1) (0x80 + c / 64 % 64)) (at + 2) (0x80 + c % 64)) at (encode c) (at + 3)
   put-3 g h = record { next = rw (encode-3 c g h); is = rw (encode-3 c g h, add-one at, add-two at) }
 
-  pub put-4 : 0x10000 ≤ c → Stored l (set (set (set (set l at (0xF0 + c / 262144)) (at + 1) (0x80 + c / 4096 % 64)) (at + 2) (0x80 + c / 64 % 64)) (at + 3) (0x80 + c % 64)) at (encode c) (at + 4)
+  pub put-4 : 0x10000 ≤ c → Stored l
+      (set (set (set (set l at (0xF0 + c / 262144)) (at + 1) (0x80 + c / 4096 % 64)) (at + 2) (0x80 + c / 64 % 64)) (at + 3)
+      (0x80 + c % 64)) at (encode c) (at + 4)
   put-4 g = record { next = rw (encode-4 c g); is = rw (encode-4 c g, add-one at, add-two at, add-three at) }
 
 -- the room that they need
@@ -49,11 +52,13 @@ longer k l = k < length l
 
 len-1 : (c : ℕ) → 0 < length (encode c)
 unfolding encode longer
-len-1 c = pick-all (longer 0) (ltb c 0x80) _ _ (lit< tt) (pick-all (longer 0) (ltb c 0x800) _ _ (lit< tt) (pick-all (longer 0) (ltb c 0x10000) _ _ (lit< tt) (lit< tt)))
+len-1 c = pick-all (longer 0) (ltb c 0x80) _ _ (lit< tt)
+    (pick-all (longer 0) (ltb c 0x800) _ _ (lit< tt) (pick-all (longer 0) (ltb c 0x10000) _ _ (lit< tt) (lit< tt)))
 
 len-2 : (c : ℕ) → 0x80 ≤ c → 1 < length (encode c)
 unfolding encode longer
-len-2 c g = rw (le-ltb c 0x80 g) (pick-all (longer 1) (ltb c 0x800) _ _ (lit< tt) (pick-all (longer 1) (ltb c 0x10000) _ _ (lit< tt) (lit< tt)))
+len-2 c g = rw (le-ltb c 0x80 g)
+    (pick-all (longer 1) (ltb c 0x800) _ _ (lit< tt) (pick-all (longer 1) (ltb c 0x10000) _ _ (lit< tt) (lit< tt)))
 
 len-3 : (c : ℕ) → 0x800 ≤ c → 2 < length (encode c)
 unfolding encode longer

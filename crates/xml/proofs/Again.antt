@@ -5,7 +5,8 @@ use mathlib.Core.List.{List, _∷_, _++_}
 use native.Mathlib.Omega.{arith}
 use lib.ListN.{length}
 use Rattle.table.specs.Row.{Name, Tok, start, attr, gt, close, slash, matter}
-use Rattle.xml.specs.Grammar.{Attributes, no-attribute, attribute, Element, empty-element, full-element, Content, no-content, between-tags, child}
+use Rattle.xml.specs.Grammar.{Attributes, no-attribute, attribute, Element, empty-element, full-element, Content, no-content}
+use Rattle.xml.specs.Grammar.{between-tags, child}
 use Rattle.xml.proofs.Past.{pastAttributes, pastElement, pastContent}
 
 -- the tokens of the part, and then q
@@ -62,7 +63,8 @@ mutual
   is-content (child e c) q = child (is-element e (againContent c q)) (is-content c q)
 
 -- the rest stands after its tokens
-pub append-attributes : {s : List Name} {l r : List Tok} (a : Attributes s l r) (p q : List Tok) → againAttributes a (p ++ q) ≡ againAttributes a p ++ q
+pub append-attributes : {s : List Name} {l r : List Tok} (a : Attributes s l r) (p q : List Tok)
+    → againAttributes a (p ++ q) ≡ againAttributes a p ++ q
 unfolding againAttributes
 append-attributes no-attribute p q = refl
 append-attributes (attribute f e a) p q = rw (append-attributes a p q)
@@ -80,7 +82,8 @@ mutual
   append-content (child e c) p q = rw (append-content c p q, append-element e (againContent c p) q)
 
 -- how many they are
-pub length-attributes : {s : List Name} {l r : List Tok} (a : Attributes s l r) (k : ℕ) (q : List Tok) → pastAttributes a k + length q ≡ k + length (againAttributes a q)
+pub length-attributes : {s : List Name} {l r : List Tok} (a : Attributes s l r) (k : ℕ) (q : List Tok)
+    → pastAttributes a k + length q ≡ k + length (againAttributes a q)
 unfolding againAttributes pastAttributes
 length-attributes no-attribute k q = refl
 length-attributes (attribute f e a) k q = omega (arith, length-attributes a (suc k) q)
@@ -88,12 +91,18 @@ length-attributes (attribute f e a) k q = omega (arith, length-attributes a (suc
 mutual
   unfolding againElement pastElement
 
-  pub length-element : {l r : List Tok} (e : Element l r) (k : ℕ) (q : List Tok) → pastElement e k + length q ≡ k + length (againElement e q)
+  pub length-element : {l r : List Tok} (e : Element l r) (k : ℕ) (q : List Tok)
+      → pastElement e k + length q ≡ k + length (againElement e q)
   length-element (empty-element n a) k q = omega (arith, length-attributes a (suc k) (slash ∷ q))
   length-element (full-element n a c) k q =
-      omega (arith, length-attributes a (suc k) (gt ∷ againContent c (close n ∷ q)), length-content c (suc (pastAttributes a (suc k))) (close n ∷ q))
+      omega (
+        arith,
+        length-attributes a (suc k) (gt ∷ againContent c (close n ∷ q)),
+        length-content c (suc (pastAttributes a (suc k))) (close n ∷ q),
+      )
 
-  pub length-content : {l r : List Tok} (c : Content l r) (k : ℕ) (q : List Tok) → pastContent c k + length q ≡ k + length (againContent c q)
+  pub length-content : {l r : List Tok} (c : Content l r) (k : ℕ) (q : List Tok)
+      → pastContent c k + length q ≡ k + length (againContent c q)
   length-content no-content k q = refl
   length-content (between-tags e c) k q = omega (arith, length-content c (suc k) q)
   length-content (child e c) k q = omega (arith, length-element e k (againContent c q), length-content c (pastElement e k) q)

@@ -1,5 +1,5 @@
 -- The row that closes an element (table/specs/Piece.antt goes by the numbers of kinds) is the last of its rows by the grammar.
-use Prim.Native.Nat.{ℕ, zero, suc, _+_, _-_}
+use Prim.Native.Nat.{ℕ, zero, suc, _+_}
 use mathlib.Core.Path.{_≡_, refl, sym, ap, _∙_}
 use mathlib.Core.Bool.{Bool, true, false}
 use mathlib.Core.List.{List, [], _∷_, _++_}
@@ -10,12 +10,13 @@ use lib.ListN.{take, drop}
 use lib.Seq.{take-add, take-at}
 use Rattle.lists.specs.Tests.{pick, less}
 use Rattle.lists.proofs.Tests.{false-true, less-is}
-use Rattle.table.specs.Row.{Row, Name, Tok, start, attr, gt, close, slash, matter, bad, Move, enters, leaves, stays, moveOf, nameOf, valueOf, tokAs, tokOf, toksOf}
+use Rattle.table.specs.Row.{Row, Name, Tok, start, Move, enters, leaves, stays, moveOf, nameOf, valueOf, tokOf, toksOf}
 use Rattle.table.specs.Rules.{openCount, lastPosition}
 use Rattle.table.specs.Piece.{closing, isClosed, elementRows, pieceStart, ElementAt}
 use Rattle.table.proofs.Classes.{Kind, of-start, of-attr, of-gt, of-close, of-slash, of-matter, of-error, kind-of}
 use Rattle.table.proofs.Element.{element-is}
-use Rattle.xml.specs.Grammar.{Attributes, no-attribute, attribute, Element, empty-element, full-element, Content, no-content, between-tags, child}
+use Rattle.xml.specs.Grammar.{Attributes, no-attribute, attribute, Element, empty-element, full-element, Content, no-content}
+use Rattle.xml.specs.Grammar.{between-tags, child}
 use Rattle.xml.proofs.Past.{pastAttributes, pastElement, pastContent}
 use Rattle.xml.proofs.Again.{againElement, same-element, append-element, length-element}
 
@@ -71,8 +72,10 @@ closed-toks body n [] = refl
 closed-toks body n (r ∷ rest) =
     rw (opened-row body n r, closed-toks body (openedAfter n (tokOf body r)) rest, pick-around (openedAfter n (tokOf body r)))
 
--- ---- parts of the grammar, with n elements open around them: none is left open, and where n is 0 the element itself is the one that closes
-closing-attributes : {s : List Name} {l r : List Tok} (a : Attributes s l r) (n k : ℕ) → k + closingAt (suc n) l ≡ pastAttributes a k + closingAt (suc n) r
+-- ---- parts of the grammar, with n elements open around them: none is left open, and where n is 0 the element itself is the one that
+-- closes
+closing-attributes : {s : List Name} {l r : List Tok} (a : Attributes s l r) (n k : ℕ)
+    → k + closingAt (suc n) l ≡ pastAttributes a k + closingAt (suc n) r
 unfolding closingAt pastAttributes
 closing-attributes no-attribute n k = refl
 closing-attributes (attribute f v a) n k = omega (arith, closing-attributes a n (suc k))
@@ -175,4 +178,5 @@ module _ (body : List ℕ) (rows : List Row) {l r : List Tok} (e : Element l r) 
   element-last =
       let a = element-at in
       let is = element-is rows k (a .cut-at) (a .starts) in
-      rw (← element-closing k, take-add k (closing 0 (drop k rows)) rows, is) (sym (last-append 0 0 (take k rows) (a .first) (take (closing 1 (a .rest)) (a .rest))))
+      rw (← element-closing k, take-add k (closing 0 (drop k rows)) rows, is)
+      (sym (last-append 0 0 (take k rows) (a .first) (take (closing 1 (a .rest)) (a .rest))))

@@ -9,9 +9,10 @@ use Rattle.lists.specs.Tests.{pick}
 use Rattle.reference.specs.Text.{validated}
 use Rattle.reference.specs.declared.Validated.{Validated}
 use Rattle.reference.proofs.Grammar.{validated-none}
-use Rattle.table.specs.Row.{Name, Tok, start, attr, gt, close, slash, Matter, text, misc, matter, bad}
+use Rattle.table.specs.Row.{Name, Tok, start, attr, gt, close, slash, text, misc, matter, bad}
 use Rattle.xml.specs.declared.Cause.{Cause}
-use Rattle.xml.specs.Passed.{opens, openAfter, attributes, namesAfter, Fault, token-error, mismatched-end, repeated-attribute, bad-attribute, bad-text, Faultless}
+use Rattle.xml.specs.Passed.{opens, openAfter, attributes, namesAfter, Fault, token-error, mismatched-end, repeated-attribute}
+use Rattle.xml.specs.Passed.{bad-attribute, bad-text, Faultless}
 use Rattle.xml.specs.Drain.{State, going, failed, sameName, hasName, step, closed, withAttribute, withValue}
 use Rattle.xml.proofs.Tests.{same-name, seen-member, not-member, not-named, not-both}
 
@@ -62,7 +63,8 @@ one-fault (bad-text p) (bad-text q) = refl
 
 -- ---- what a step does after the tokens b: it goes on and there is no fault, or it stops with the fault
 pub data Stepped (b : List Tok) (t : Tok) (k : ℕ) : State → Type 0 where
-  goes-on : {s a : List Name} → openAfter (opens [] b) t ≡ s → namesAfter (attributes [] b) t ≡ a → ((c : Cause) → Fault b t c → ⊥) → Stepped b t k (going s a)
+  goes-on : {s a : List Name} → openAfter (opens [] b) t ≡ s → namesAfter (attributes [] b) t ≡ a → ((c : Cause) → Fault b t c → ⊥)
+      → Stepped b t k (going s a)
   stops : {c : Cause} → Fault b t c → Stepped b t k (failed k c)
 
 module _ (b : List Tok) (k : ℕ) where
@@ -76,7 +78,8 @@ module _ (b : List Tok) (k : ℕ) where
       none c (bad-attribute f r) = not-both q r
   attr-step m v false Validated.BadReference p q = stops (bad-attribute (not-member m (attributes [] b) p) q)
 
-  text-step : (v : List ℕ) (y : Validated) → validated v ≡ y → Stepped b (matter (text v)) k (withValue y k (going (opens [] b) (attributes [] b)))
+  text-step : (v : List ℕ) (y : Validated) → validated v ≡ y
+      → Stepped b (matter (text v)) k (withValue y k (going (opens [] b) (attributes [] b)))
   text-step v Validated.Valid q = goes-on refl refl none
     where
       none : (c : Cause) → Fault b (matter (text v)) c → ⊥

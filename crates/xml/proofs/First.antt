@@ -12,12 +12,14 @@ use Rattle.xml.specs.declared.Drained.{Drained}
 use Rattle.xml.specs.Passed.{opens, openAfter, attributes, namesAfter, Fault, Faultless, FirstFault, at-row, at-end}
 use Rattle.table.specs.Test.{decTable}
 use Rattle.xml.specs.Drain.{State, going, failed, step, walk, verdict, walked, drainedBy, drained}
-use Rattle.xml.proofs.Fault.{Cuts, same-cut, earlier, later, cuts, faultless-none, faultless-more, one-fault, Stepped, goes-on, stops, stepped}
+use Rattle.xml.proofs.Fault.{Cuts, same-cut, earlier, later, cuts, faultless-none, faultless-more, one-fault, Stepped, goes-on}
+use Rattle.xml.proofs.Fault.{stops, stepped}
 
 -- ---- what the walk over toks comes to
 pub data Said (toks : List Tok) : State → Type 0 where
   through : {s a : List Name} → opens [] toks ≡ s → Faultless toks → Said toks (going s a)
-  stopped : {k : ℕ} {c : Cause} (a : List Tok) (t : Tok) (b : List Tok) → toks ≡ a ++ (t ∷ b) → k ≡ length a → Faultless a → Fault a t c → Said toks (failed k c)
+  stopped : {k : ℕ} {c : Cause} (a : List Tok) (t : Tok) (b : List Tok) → toks ≡ a ++ (t ∷ b) → k ≡ length a → Faultless a → Fault a t c
+      → Said toks (failed k c)
 
 opens-more : (s : List Name) (b : List Tok) (t : Tok) → opens s (b ++ (t ∷ [])) ≡ openAfter (opens s b) t
 unfolding opens
@@ -35,7 +37,8 @@ failed-stays j k c [] = refl
 failed-stays j k c (t ∷ l) = refl
 
 -- after tokens b without a fault, the walk keeps their open elements and attributes
-walk-said : (toks b l : List Tok) (k : ℕ) → toks ≡ b ++ l → length b ≡ k → Faultless b → Said toks (walk k (going (opens [] b) (attributes [] b)) l)
+walk-said : (toks b l : List Tok) (k : ℕ) → toks ≡ b ++ l → length b ≡ k → Faultless b
+    → Said toks (walk k (going (opens [] b) (attributes [] b)) l)
 unfolding walk
 walk-said toks b [] k e n h = let q : toks ≡ b = e ∙ append-nil b in through (ap (opens []) q) (rw q h)
 walk-said toks b (t ∷ l) k e n h =
@@ -119,13 +122,15 @@ walk-not-table toks = go (walked toks) (answer toks)
 -- the drain, by any decision of the rules
 module _ (body table : List ℕ) (final : ℕ) where
   -- it says 1 exactly where the rules do not hold
-  pub drain-table-is : (d : Dec (TableRules body table final)) → drainedBy d (toksOf body (rowsOf table)) ≡ Drained.Table ↔ (TableRules body table final → ⊥)
+  pub drain-table-is : (d : Dec (TableRules body table final))
+      → drainedBy d (toksOf body (rowsOf table)) ≡ Drained.Table ↔ (TableRules body table final → ⊥)
   drain-table-is (yes p) = (λ e. absurd (walk-not-table (toksOf body (rowsOf table)) e), λ f. absurd (f p))
   drain-table-is (no f) = (λ e. f, λ g. refl)
 
   -- it says 9 with a row and a cause exactly where the rules hold and these are the first fault's
   pub drain-ill-formed-is : (d : Dec (TableRules body table final)) (row : ℕ) (cause : Cause)
-      → drainedBy d (toksOf body (rowsOf table)) ≡ Drained.IllFormed row cause ↔ (TableRules body table final × FirstFault (toksOf body (rowsOf table)) row cause)
+      → drainedBy d (toksOf body (rowsOf table)) ≡ Drained.IllFormed row cause ↔
+      (TableRules body table final × FirstFault (toksOf body (rowsOf table)) row cause)
   drain-ill-formed-is (yes p) row cause =
       let w = walk-ill-formed-is (toksOf body (rowsOf table)) row cause in
       (λ e. (p, w .0 e), λ h. w .1 (h .1))
@@ -133,7 +138,8 @@ module _ (body table : List ℕ) (final : ℕ) where
 
 -- theorem 3, of the drain: it answers 9 exactly with the first failing row and its cause, and 1 exactly where a rule is broken
 pub drained-ill-formed-is : (body table : List ℕ) (final row : ℕ) (cause : Cause)
-    → (drained body table final ≡ Drained.IllFormed row cause) ↔ (TableRules body table final × FirstFault (toksOf body (rowsOf table)) row cause)
+    → (drained body table final ≡ Drained.IllFormed row cause) ↔
+    (TableRules body table final × FirstFault (toksOf body (rowsOf table)) row cause)
 unfolding drained
 drained-ill-formed-is body table final row cause = drain-ill-formed-is body table final (decTable body table final) row cause
 

@@ -10,7 +10,8 @@ use Rattle.table.specs.Row.{Name, Tok, attr, close, text, matter, bad, rowsOf, 
 use Rattle.table.specs.Rules.{TableRules}
 use Rattle.xml.specs.declared.Cause.{Cause}
 use Rattle.xml.specs.declared.Drained.{Drained}
-use Rattle.xml.specs.Passed.{opens, attributes, WellFormed, Passed, Fault, token-error, mismatched-end, repeated-attribute, bad-attribute, bad-text, Faultless, at-row, at-end}
+use Rattle.xml.specs.Passed.{opens, attributes, WellFormed, Passed, Fault, token-error, mismatched-end, repeated-attribute}
+use Rattle.xml.specs.Passed.{bad-attribute, bad-text, Faultless, at-row, at-end}
 use Rattle.table.specs.Test.{decTable}
 use Rattle.xml.specs.Drain.{sameName, hasName, walked, drainedBy, drained}
 use Rattle.xml.proofs.Tests.{same-name, seen-member, not-member, not-named, not-both}
@@ -45,8 +46,10 @@ module _ {toks : List Tok} (h : Faultless toks) where
     where
       go : (y : Validated) (x : Bool) → validated v ≡ y → hasName m (attributes [] a) ≡ x → validated v ≡ Validated.Valid
       go Validated.Valid x p q = p
-      go Validated.BadReference true p q = absurd (h .none a (attr m v) b Cause.RepeatedAttribute e (repeated-attribute (seen-member m (attributes [] a) q)))
-      go Validated.BadReference false p q = absurd (h .none a (attr m v) b Cause.BadReference e (bad-attribute (not-member m (attributes [] a) q) p))
+      go Validated.BadReference true p q =
+          absurd (h .none a (attr m v) b Cause.RepeatedAttribute e (repeated-attribute (seen-member m (attributes [] a) q)))
+      go Validated.BadReference false p q =
+          absurd (h .none a (attr m v) b Cause.BadReference e (bad-attribute (not-member m (attributes [] a) q) p))
 
   text-value : (a : List Tok) (v : List ℕ) (b : List Tok) → toks ≡ a ++ (matter (text v) ∷ b) → validated v ≡ Validated.Valid
   text-value a v b e = go (validated v) refl

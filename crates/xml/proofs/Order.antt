@@ -1,5 +1,5 @@
 -- The order of kinds in a table (01, "Token table") as a machine over tokens; a table that obeys the rules is taken by it.
-use Prim.Native.Nat.{ℕ, zero, suc, _-_, _≤_, _<_}
+use Prim.Native.Nat.{ℕ, zero, suc, _≤_, _<_}
 use mathlib.Core.Path.{_≡_, refl, sym, ap, _∙_}
 use mathlib.Core.Bool.{Bool, true, false, not}
 use mathlib.Core.List.{List, [], _∷_}
@@ -9,8 +9,10 @@ use lib.ListN.{length}
 use Rattle.lists.specs.Tests.{pick}
 use Rattle.lists.proofs.Tests.{false-true}
 use Rattle.table.specs.Row.{Row, rowsOf, Name, Tok, start, attr, gt, close, slash, Matter, matter, bad, nameOf, valueOf, toksOf}
-use Rattle.table.proofs.Classes.{needsOpen, Loose, OfError, Kind, of-start, of-attr, of-gt, of-close, of-slash, of-matter, of-error, kind-of}
-use Rattle.table.specs.Rules.{mostKind, endsTag, inTagOnly, mayBeInTag, mayFollowRoot, needsElement, openCount, Place, RowRules, EachRow, none, row, TableRules}
+use Rattle.table.proofs.Classes.{needsOpen, Loose, OfError, Kind, of-start, of-attr, of-gt, of-close, of-slash, of-matter, of-error}
+use Rattle.table.proofs.Classes.{kind-of}
+use Rattle.table.specs.Rules.{mostKind, endsTag, inTagOnly, mayBeInTag, mayFollowRoot, needsElement, openCount, Place, RowRules, EachRow}
+use Rattle.table.specs.Rules.{none, row, TableRules}
 
 -- where a token stands: before the root; in a start tag, or in content, with d elements open around the innermost; after the root;
 -- after a token error; or out of order
@@ -141,7 +143,8 @@ module _ (p : Place) (at : ℕ) (n : Name) (v : List ℕ) (l : List Tok) where
   outer-step : (q : Phase) (m : Matter) → needsOpen m ≡ false → ruled q l ≡ true → ruled (outer q m) l ≡ true
   outer-step q m e h = rw e h
 
-  before-step : {k : ℕ} {t : Tok} → Kind n v k t → p .inTag ≡ false → p .nesting ≡ 0 → p .rooted ≡ false → Ordered p k (length l) → Goes k → ruled (rule before t) l ≡ true
+  before-step : {k : ℕ} {t : Tok} → Kind n v k t → p .inTag ≡ false → p .nesting ≡ 0 → p .rooted ≡ false → Ordered p k (length l) → Goes k
+      → ruled (rule before t) l ≡ true
   unfolding Goes
   before-step of-start i c r o g = g (inTag zero) (at-tag refl (ap suc c) refl)
   before-step of-attr i c r o g = false-true (sym (o .outside i))
@@ -156,7 +159,8 @@ module _ (p : Place) (at : ℕ) (n : Name) (v : List ℕ) (l : List Tok) where
       closed false e = refl
   before-step (of-error w) i c r o g = error-step w o
 
-  tag-step : {k : ℕ} {t : Tok} (d : ℕ) → Kind n v k t → p .inTag ≡ true → p .nesting ≡ suc d → p .rooted ≡ true → Ordered p k (length l) → Goes k → ruled (rule (inTag d) t) l ≡ true
+  tag-step : {k : ℕ} {t : Tok} (d : ℕ) → Kind n v k t → p .inTag ≡ true → p .nesting ≡ suc d → p .rooted ≡ true → Ordered p k (length l)
+      → Goes k → ruled (rule (inTag d) t) l ≡ true
   unfolding Goes
   tag-step d of-start i c r o g = false-true (o .inside i)
   tag-step d of-attr i c r o g = g (inTag d) (at-tag i c r)
@@ -166,7 +170,8 @@ module _ (p : Place) (at : ℕ) (n : Name) (v : List ℕ) (l : List Tok) where
   tag-step d (of-matter w) i c r o g = false-true (sym (w .outside) ∙ o .inside i)
   tag-step d (of-error w) i c r o g = error-step w o
 
-  within-step : {k : ℕ} {t : Tok} (d : ℕ) → Kind n v k t → p .inTag ≡ false → p .nesting ≡ suc d → p .rooted ≡ true → Ordered p k (length l) → Goes k → ruled (rule (within d) t) l ≡ true
+  within-step : {k : ℕ} {t : Tok} (d : ℕ) → Kind n v k t → p .inTag ≡ false → p .nesting ≡ suc d → p .rooted ≡ true → Ordered p k (length l)
+      → Goes k → ruled (rule (within d) t) l ≡ true
   unfolding Goes
   within-step d of-start i c r o g = g (inTag (suc d)) (at-tag refl (ap suc c) refl)
   within-step d of-attr i c r o g = false-true (sym (o .outside i))
@@ -176,7 +181,8 @@ module _ (p : Place) (at : ℕ) (n : Name) (v : List ℕ) (l : List Tok) where
   within-step d (of-matter w) i c r o g = g (within d) (loose-stands (w .loose) (at-within i c r))
   within-step d (of-error w) i c r o g = error-step w o
 
-  behind-step : {k : ℕ} {t : Tok} → Kind n v k t → p .inTag ≡ false → p .nesting ≡ 0 → p .rooted ≡ true → Ordered p k (length l) → Goes k → ruled (rule behind t) l ≡ true
+  behind-step : {k : ℕ} {t : Tok} → Kind n v k t → p .inTag ≡ false → p .nesting ≡ 0 → p .rooted ≡ true → Ordered p k (length l) → Goes k
+      → ruled (rule behind t) l ≡ true
   unfolding Goes
   behind-step of-start i c r o g = false-true (o .afterRoot r c)
   behind-step of-attr i c r o g = false-true (o .afterRoot r c)
@@ -184,7 +190,8 @@ module _ (p : Place) (at : ℕ) (n : Name) (v : List ℕ) (l : List Tok) where
   behind-step of-close i c r o g = false-true (o .afterRoot r c)
   behind-step of-slash i c r o g = false-true (o .afterRoot r c)
   behind-step (of-matter {m = m} w) i c r o g =
-      outer-step behind m (open-not (needsOpen m) (sym (w .behind) ∙ o .afterRoot r c)) (g behind (loose-stands (w .loose) (at-behind i c r)))
+      outer-step behind m (open-not (needsOpen m) (sym (w .behind) ∙ o .afterRoot r c))
+      (g behind (loose-stands (w .loose) (at-behind i c r)))
     where
       open-not : (b : Bool) → not b ≡ true → b ≡ false
       open-not true e = sym e
@@ -213,14 +220,16 @@ ordered body rest h =
       last = λ e. toks-length body rest ∙ h .errorLast e;
     }
 
-rows-ruled : (body : List ℕ) {p : Place} {rows : List Row} → EachRow body p rows → {q : Phase} → Stands p q → ruled q (toksOf body rows) ≡ true
+rows-ruled : (body : List ℕ) {p : Place} {rows : List Row} → EachRow body p rows → {q : Phase} → Stands p q
+    → ruled q (toksOf body rows) ≡ true
 unfolding ruled Goes
 rows-ruled body none (at-before i c r) = refl
 rows-ruled body none (at-tag i c r) = refl
 rows-ruled body none (at-within i c r) = refl
 rows-ruled body none (at-behind i c r) = refl
 rows-ruled body (row {p = p} {r = r} {rest = rest} h x) s =
-    order-step p (r .position) _ _ (toksOf body rest) s (kind-of (r .kind) (nameOf body r) (valueOf body r)) (ordered body rest h) (λ q s. rows-ruled body x s)
+    order-step p (r .position) _ _ (toksOf body rest) s (kind-of (r .kind) (nameOf body r) (valueOf body r)) (ordered body rest h)
+    (λ q s. rows-ruled body x s)
 
 -- the tokens of a table that obeys the rules are in order
 pub table-ruled : {body table : List ℕ} {final : ℕ} → TableRules body table final → ruled before (toksOf body (rowsOf table)) ≡ true

@@ -14,9 +14,11 @@ use Rattle.table.specs.Row.{Name, Tok, start, attr, gt, close, slash, Matter, t
 use Rattle.table.specs.Rules.{TableRules}
 use Rattle.xml.specs.declared.Cause.{Cause}
 use Rattle.xml.specs.declared.Drained.{Drained}
-use Rattle.xml.specs.Grammar.{Attributes, no-attribute, attribute, Element, empty-element, full-element, Content, no-content, between-tags, child, Miscs, no-misc, one-misc, Document, document}
+use Rattle.xml.specs.Grammar.{Attributes, no-attribute, attribute, Element, empty-element, full-element, Content, no-content}
+use Rattle.xml.specs.Grammar.{between-tags, child, Miscs, no-misc, one-misc, Document, document}
 use Rattle.table.specs.Test.{decTable}
-use Rattle.xml.specs.Drain.{sameName, hasName, State, going, failed, withValue, withAttribute, step, walk, verdict, walked, drainedBy, drained}
+use Rattle.xml.specs.Drain.{sameName, hasName, State, going, failed, withValue, withAttribute, step, walk, verdict, walked, drainedBy}
+use Rattle.xml.specs.Drain.{drained}
 use Rattle.xml.proofs.Tests.{same-name, name-same, not-seen, not-member}
 use Rattle.xml.proofs.Order.{Phase, before, inTag, within, behind, back, ruled, not-broken, table-ruled}
 use Rattle.xml.proofs.First.{not-ill, passes-not-table}
@@ -58,7 +60,8 @@ mutual
 
   good-content : {l r : List Tok} → Content l r → (s : List Name) → ((a : List Name) → Good s a r) → (a : List Name) → Good s a l
   good-content no-content s g a = g a
-  good-content (between-tags {b = b} e c) s g a = record { at = λ k. rw (validate-complete (referencesIn b) e) (good-content c s g a .at (suc k)) }
+  good-content (between-tags {b = b} e c) s g a =
+      record { at = λ k. rw (validate-complete (referencesIn b) e) (good-content c s g a .at (suc k)) }
   good-content (child e c) s g a = good-element e s (good-content c s g) a
 
 good-miscs : {l r : List Tok} → Miscs l r → (a : List Name) → Good [] a r → Good [] a l
@@ -129,7 +132,8 @@ root : {n : Name} {l : List Tok} → InTag n [] [] l → Document (start n ∷ l
 root {n} (ends x h) = inl (document no-misc (empty-element n x) h)
 root {n} (goes x h) = inl (document no-misc (full-element n x (h .1)) (h .2))
 
-more-attribute : {m : Name} {v : List ℕ} {n : Name} {s a : List Name} {l : List Tok} → (List·Memᴰ m a → ⊥) → EachReference v → InTag n s (m ∷ a) l → InTag n s a (attr m v ∷ l)
+more-attribute : {m : Name} {v : List ℕ} {n : Name} {s a : List Name} {l : List Tok} → (List·Memᴰ m a → ⊥) → EachReference v
+    → InTag n s (m ∷ a) l → InTag n s a (attr m v ∷ l)
 more-attribute f e (ends x h) = ends (attribute f e x) h
 more-attribute f e (goes x h) = goes (attribute f e x) h
 
@@ -138,12 +142,14 @@ more-child {m} (ends x h) = (h .0, child (empty-element m x) (h .1), h .2)
 more-child {m} (goes x h) = (h .2 .0, child (full-element m x (h .1)) (h .2 .1), h .2 .2)
 
 -- one token back, when the rest l is known to be what is to come, from wherever the walk gets to
-module _ (k : ℕ) (l : List Tok) (rest : (x : Spot) (a : List Name) → ruled (phaseOf x) l ≡ true → Ends (walk (suc k) (going (stackOf x) a) l) → Lang x a l) where
+module _ (k : ℕ) (l : List Tok)
+    (rest : (x : Spot) (a : List Name) → ruled (phaseOf x) l ≡ true → Ends (walk (suc k) (going (stackOf x) a) l) → Lang x a l) where
   after-end : (s a : List Name) → ruled (back (length s)) l ≡ true → Ends (walk (suc k) (going s a) l) → Closes s l
   after-end [] a h e = rest epilog a h e
   after-end (n ∷ s) a h e = rest (content n s) a h e
 
-  prolog-back : (a : List Name) (t : Tok) → ruled before (t ∷ l) ≡ true → Ends (walk (suc k) (step k [] a t) l) → Document (t ∷ l) ⊎ Miscs (t ∷ l) []
+  prolog-back : (a : List Name) (t : Tok) → ruled before (t ∷ l) ≡ true → Ends (walk (suc k) (step k [] a t) l)
+      → Document (t ∷ l) ⊎ Miscs (t ∷ l) []
   unfolding ruled
   prolog-back a (start n) h e = root (rest (tag n []) [] h e)
   prolog-back a (attr m v) h e = not-broken l h
@@ -154,13 +160,16 @@ module _ (k : ℕ) (l : List Tok) (rest : (x : Spot) (a : List Name) → ruled (
   prolog-back a (matter misc) h e = more-misc (rest prolog a h (rw validated-none at e))
   prolog-back a bad h e = failed-ends (suc k) k Cause.TokenError l e
 
-  attribute-back : (n : Name) (s a : List Name) (m : Name) (v : List ℕ) (x : Bool) (y : Validated) → hasName m a ≡ x → validated v ≡ y → ruled (inTag (length s)) l ≡ true
+  attribute-back : (n : Name) (s a : List Name) (m : Name) (v : List ℕ) (x : Bool) (y : Validated) → hasName m a ≡ x → validated v ≡ y
+      → ruled (inTag (length s)) l ≡ true
       → Ends (walk (suc k) (withAttribute x k (withValue y k (going (n ∷ s) (m ∷ a)))) l) → InTag n s a (attr m v ∷ l)
   attribute-back n s a m v true y p q h e = failed-ends (suc k) k Cause.RepeatedAttribute l e
-  attribute-back n s a m v false Validated.Valid p q h e = more-attribute (not-member m a p) (validate-sound v q) (rest (tag n s) (m ∷ a) h e)
+  attribute-back n s a m v false Validated.Valid p q h e =
+      more-attribute (not-member m a p) (validate-sound v q) (rest (tag n s) (m ∷ a) h e)
   attribute-back n s a m v false Validated.BadReference p q h e = failed-ends (suc k) k Cause.BadReference l e
 
-  tag-back : (n : Name) (s a : List Name) (t : Tok) → ruled (inTag (length s)) (t ∷ l) ≡ true → Ends (walk (suc k) (step k (n ∷ s) a t) l) → InTag n s a (t ∷ l)
+  tag-back : (n : Name) (s a : List Name) (t : Tok) → ruled (inTag (length s)) (t ∷ l) ≡ true → Ends (walk (suc k) (step k (n ∷ s) a t) l)
+      → InTag n s a (t ∷ l)
   unfolding ruled
   tag-back n s a (start m) h e = not-broken l h
   tag-back n s a (attr m v) h e = attribute-back n s a m v (hasName m a) (validated v) refl refl h e
@@ -170,7 +179,8 @@ module _ (k : ℕ) (l : List Tok) (rest : (x : Spot) (a : List Name) → ruled (
   tag-back n s a (matter b) h e = not-broken l h
   tag-back n s a bad h e = failed-ends (suc k) k Cause.TokenError l e
 
-  matter-back : (n : Name) (s a : List Name) (b : Matter) (y : Validated) → validated (referencesIn b) ≡ y → ruled (within (length s)) l ≡ true
+  matter-back : (n : Name) (s a : List Name) (b : Matter) (y : Validated) → validated (referencesIn b) ≡ y
+      → ruled (within (length s)) l ≡ true
       → Ends (walk (suc k) (withValue y k (going (n ∷ s) a)) l) → Closes (n ∷ s) (matter b ∷ l)
   matter-back n s a b Validated.Valid q h e =
       let c : Closes (n ∷ s) l = rest (content n s) a h e in (c .0, between-tags (validate-sound (referencesIn b) q) (c .1), c .2)
@@ -181,7 +191,8 @@ module _ (k : ℕ) (l : List Tok) (rest : (x : Spot) (a : List Name) → ruled (
   close-back n s a m true q h e = (l, rw (same-name m n q) no-content, after-end s a h e)
   close-back n s a m false q h e = failed-ends (suc k) k Cause.MismatchedEnd l e
 
-  content-back : (n : Name) (s a : List Name) (t : Tok) → ruled (within (length s)) (t ∷ l) ≡ true → Ends (walk (suc k) (step k (n ∷ s) a t) l) → Closes (n ∷ s) (t ∷ l)
+  content-back : (n : Name) (s a : List Name) (t : Tok) → ruled (within (length s)) (t ∷ l) ≡ true
+      → Ends (walk (suc k) (step k (n ∷ s) a t) l) → Closes (n ∷ s) (t ∷ l)
   unfolding ruled
   content-back n s a (start m) h e = more-child (rest (tag m (n ∷ s)) [] h e)
   content-back n s a (attr m v) h e = not-broken l h
@@ -202,7 +213,8 @@ module _ (k : ℕ) (l : List Tok) (rest : (x : Spot) (a : List Name) → ruled (
   epilog-back a (matter misc) h e = one-misc (rest epilog a h (rw validated-none at e))
   epilog-back a bad h e = failed-ends (suc k) k Cause.TokenError l e
 
-  spot-back : (x : Spot) (a : List Name) (t : Tok) → ruled (phaseOf x) (t ∷ l) ≡ true → Ends (walk (suc k) (step k (stackOf x) a t) l) → Lang x a (t ∷ l)
+  spot-back : (x : Spot) (a : List Name) (t : Tok) → ruled (phaseOf x) (t ∷ l) ≡ true → Ends (walk (suc k) (step k (stackOf x) a t) l)
+      → Lang x a (t ∷ l)
   spot-back prolog a t h e = prolog-back a t h e
   spot-back (tag n s) a t h e = tag-back n s a t h e
   spot-back (content n s) a t h e = content-back n s a t h e
@@ -214,7 +226,8 @@ at-end (tag n s) a e = absurd e
 at-end (content n s) a e = absurd e
 at-end epilog a e = no-misc
 
-to-grammar : (k : ℕ) (l : List Tok) (x : Spot) (a : List Name) → ruled (phaseOf x) l ≡ true → Ends (walk k (going (stackOf x) a) l) → Lang x a l
+to-grammar : (k : ℕ) (l : List Tok) (x : Spot) (a : List Name) → ruled (phaseOf x) l ≡ true → Ends (walk k (going (stackOf x) a) l)
+    → Lang x a l
 unfolding walk
 to-grammar k [] x a h e = at-end x a e
 to-grammar k (t ∷ l) x a h e = spot-back k l (to-grammar (suc k) l) x a t h e
@@ -284,6 +297,8 @@ drain-document-is body table final (yes p) = let w = walk-document-is p in (λ e
 drain-document-is body table final (no f) = (λ e. passes-not-table (sym e), λ h. absurd (f (h .0)))
 
 -- theorem 1, of the drain: it passes exactly where the rules hold and the tokens are a document, or have no element at all
-pub drained-document-is : (body table : List ℕ) (final : ℕ) → (drained body table final ≡ Drained.Passes) ↔ (TableRules body table final × (Document (toksOf body (rowsOf table)) ⊎ Miscs (toksOf body (rowsOf table)) []))
+pub drained-document-is : (body table : List ℕ) (final : ℕ)
+    → (drained body table final ≡ Drained.Passes) ↔
+    (TableRules body table final × (Document (toksOf body (rowsOf table)) ⊎ Miscs (toksOf body (rowsOf table)) []))
 unfolding drained
 drained-document-is body table final = drain-document-is body table final (decTable body table final)

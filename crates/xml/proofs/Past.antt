@@ -7,7 +7,8 @@ use native.Mathlib.Omega.{arith}
 use lib.ListN.{length, drop}
 use lib.Seq.{drop-drop}
 use Rattle.table.specs.Row.{Name, Tok, start, gt}
-use Rattle.xml.specs.Grammar.{Attributes, no-attribute, attribute, Element, empty-element, full-element, Content, no-content, between-tags, child, Miscs, no-misc, one-misc}
+use Rattle.xml.specs.Grammar.{Attributes, no-attribute, attribute, Element, empty-element, full-element, Content, no-content}
+use Rattle.xml.specs.Grammar.{between-tags, child, Miscs, no-misc, one-misc}
 
 unfoldable pub pastAttributes : {s : List Name} {l r : List Tok} → Attributes s l r → ℕ → ℕ
 pastAttributes no-attribute k = k
@@ -40,7 +41,8 @@ module _ (all : List Tok) where
   past-attributes (attribute f v a) k h = past-attributes a (suc k) (at-next all k h)
 
   -- where the content of an element begins
-  pub in-content : {n : Name} {l m : List Tok} (a : Attributes [] l (gt ∷ m)) (k : ℕ) → drop k all ≡ start n ∷ l → drop (suc (pastAttributes a (suc k))) all ≡ m
+  pub in-content : {n : Name} {l m : List Tok} (a : Attributes [] l (gt ∷ m)) (k : ℕ) → drop k all ≡ start n ∷ l
+      → drop (suc (pastAttributes a (suc k))) all ≡ m
   in-content a k h = at-next all (pastAttributes a (suc k)) (past-attributes a (suc k) (at-next all k h))
 
   mutual

@@ -1,12 +1,13 @@
--- The loop over the children of a scope does not depend on its fuel: more than there are tokens is enough. What follows from that is all that a
--- proof about code needs of the fuel: the equation of one turn.
+-- The loop over the children of a scope does not depend on its fuel: more than there are tokens is enough. What follows from that is all
+-- that a proof about code needs of the fuel: the equation of one turn.
 use Prim.Native.Nat.{ℕ, zero, suc, _≤_, _<_}
 use mathlib.Core.Path.{_≡_, refl}
 use native.Mathlib.Omega.{arith}
 use lib.ListN.{length}
 use Rattle.lists.proofs.Tests.{pick-all}
 use Rattle.document.specs.Reader.{Reader, Scope, Past, blank, Next}
-use Rattle.document.specs.Scope.{Child, scopeOf, skipFrom, shut, Level, done, onNext, nextFrom, level, levelIn, endOf, dropping, leave, afterChildren, levelFrom}
+use Rattle.document.specs.Scope.{Child, scopeOf, skipFrom, shut, Level, done, onNext, nextFrom, level, levelIn, endOf, dropping}
+use Rattle.document.specs.Scope.{leave, afterChildren, levelFrom}
 use Rattle.document.proofs.Laws.Onward.{GoneOn, still, gone-on-on, skip-goes-on, Leaves, leaves-found, leaves-none, next-leaves}
 
 -- ---- the loop over children does not depend on its fuel
@@ -32,10 +33,12 @@ level-fuel past short (suc f) (suc g) s r h i =
     (λ q j. level-fuel past short f g s q (omega (arith, h, j)) (omega (arith, i, j)))
 
 -- one turn of the loop
-pub level-step : (past : Child → Reader) → Shortens past → (s : Scope) (r : Reader) → levelFrom past s r ≡ onNext past (levelFrom past s) (nextFrom s r)
+pub level-step : (past : Child → Reader) → Shortens past → (s : Scope) (r : Reader)
+    → levelFrom past s r ≡ onNext past (levelFrom past s) (nextFrom s r)
 unfolding level
 level-step past short s r =
-    on-next-same past short (level (length (r .rest)) past s) (levelFrom past s) {from = r} (next-leaves s blank (r .depth) (r .row) (r .rest))
+    on-next-same past short (level (length (r .rest)) past s) (levelFrom past s) {from = r}
+    (next-leaves s blank (r .depth) (r .row) (r .rest))
     (λ q j. level-fuel past short (length (r .rest)) (suc (length (q .rest))) s q j (omega arith))
 
 -- ---- where the reader stands after a child that is dropped, and after one whose children were asked for
@@ -48,7 +51,8 @@ dropping-goes-on c =
     pick-all (λ p. GoneOn (c .inner) (p .reader)) (c .start .closed) (shut (c .inner)) (skipFrom (scopeOf (c .start)) (c .inner))
     (still (c .inner)) (skip-goes-on (scopeOf (c .start)) (c .inner .depth) (c .inner .row) (c .inner .rest))
 
-on-next-goes-on : (past : Child → Reader) → GoesOn past → (more : Reader → Level) → ((r : Reader) → GoneOn r (endOf (more r) .reader)) → {from : Reader} {x : Next} → Leaves from x
+on-next-goes-on : (past : Child → Reader) → GoesOn past → (more : Reader → Level) → ((r : Reader) → GoneOn r (endOf (more r) .reader))
+    → {from : Reader} {x : Next} → Leaves from x
     → GoneOn from (endOf (onNext past more x) .reader)
 unfolding endOf
 on-next-goes-on past on more f (leaves-none p g) = g
@@ -60,7 +64,8 @@ on-next-goes-on past on more f (leaves-found {el = el} r g h) =
 pub level-goes-on : (past : Child → Reader) → GoesOn past → (f : ℕ) (s : Scope) (r : Reader) → GoneOn r (endOf (level f past s r) .reader)
 unfolding level endOf
 level-goes-on past on zero s r = still r
-level-goes-on past on (suc f) s r = on-next-goes-on past on (level f past s) (level-goes-on past on f s) (next-leaves s blank (r .depth) (r .row) (r .rest))
+level-goes-on past on (suc f) s r =
+    on-next-goes-on past on (level f past s) (level-goes-on past on f s) (next-leaves s blank (r .depth) (r .row) (r .rest))
 
 pub afterChildren-goes-on : GoesOn afterChildren
 unfolding afterChildren
@@ -72,7 +77,8 @@ afterChildren-goes-on c = left (endOf (levelIn dropping c)) ended
     -- the children of the element, or none of one that ended in `/>`
     ended : GoneOn (c .inner) (endOf (levelIn dropping c) .reader)
     ended =
-        pick-all (λ l. GoneOn (c .inner) (endOf l .reader)) (c .start .closed) (done (shut (c .inner))) (level (suc (length (c .inner .rest))) dropping own (c .inner))
+        pick-all (λ l. GoneOn (c .inner) (endOf l .reader)) (c .start .closed) (done (shut (c .inner)))
+        (level (suc (length (c .inner .rest))) dropping own (c .inner))
         (still (c .inner)) (level-goes-on dropping dropping-goes-on (suc (length (c .inner .rest))) own (c .inner))
 
     -- and then the rest of its scope

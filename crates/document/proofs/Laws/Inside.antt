@@ -1,5 +1,5 @@
--- A view of a table that obeys the rules lies in the table: its rows are a front of the table's, and its end is a place of the body. The piece of each
--- child that is met in it is a filled part of the body that begins with `<`.
+-- A view of a table that obeys the rules lies in the table: its rows are a front of the table's, and its end is a place of the body. The
+-- piece of each child that is met in it is a filled part of the body that begins with `<`.
 use Prim.Native.Nat.{ℕ, zero, suc, _+_, _-_, _≤_, _<_}
 use mathlib.Core.Path.{_≡_, refl, sym}
 use mathlib.Core.Bool.{Bool, true, false}
@@ -64,12 +64,14 @@ position-late final (suc k) none h = h
 position-late final zero (row o t) h = o .positionRises
 position-late final (suc k) (row o t) h = position-late final k t h
 
-position-in : {body : List ℕ} (final k : ℕ) {p : Place} {rows : List Row} → EachRow body p rows → lastPosition (p .position) rows ≤ final → positionAt final rows k ≤ final
+position-in : {body : List ℕ} (final k : ℕ) {p : Place} {rows : List Row} → EachRow body p rows → lastPosition (p .position) rows ≤ final
+    → positionAt final rows k ≤ final
 position-in final k none h = omega arith
 position-in final zero (row o t) h = omega (arith, last-high t)
 position-in final (suc k) (row o t) h = position-in final k t h
 
-pub view-in : {body table : List ℕ} {final : ℕ} → TableRules body table final → (strict : Bool) → ViewIn body (rowsOf table) final (view strict body (rowsOf table) final)
+pub view-in : {body table : List ℕ} {final : ℕ} → TableRules body table final → (strict : Bool)
+    → ViewIn body (rowsOf table) final (view strict body (rowsOf table) final)
 unfolding view
 view-in {body} {table} {final} t strict = go strict
   where
@@ -135,18 +137,38 @@ is-start (of-matter w) e = let z : _≡_ {A = ℕ} 0 1 = cc in absurd (omega ari
 is-start (of-error w) e = let z : _≡_ {A = ℕ} 0 1 = cc in absurd (omega arith)
 
 -- the row of a start token
-token-row : {body : List ℕ} {p : Place} {rows : List Row} → EachRow body p rows → (j : ℕ) {n : Name} {l : List Tok} → drop j (toksOf body rows) ≡ start n ∷ l → StartRow body (p .position) rows j
+token-row : {body : List ℕ} {p : Place} {rows : List Row} → EachRow body p rows → (j : ℕ) {n : Name} {l : List Tok}
+    → drop j (toksOf body rows) ≡ start n ∷ l → StartRow body (p .position) rows j
 token-row none zero e = absurd (cons≢nil (sym e))
 token-row none (suc j) e = absurd (cons≢nil (sym e))
 token-row {body} (row {p = p} {r = r} {rest = rest} o t) zero {n} e =
     let q : tokOf body r ≡ start n = cc in
-    record { first = r; later = rest; at = refl; starts = is-start (kind-of (r .kind) (nameOf body r) (valueOf body r)) q; place = p; since = refl; rules = o; each = t }
+    record {
+      first = r;
+      later = rest;
+      at = refl;
+      starts = is-start (kind-of (r .kind) (nameOf body r) (valueOf body r)) q;
+      place = p;
+      since = refl;
+      rules = o;
+      each = t;
+    }
 token-row (row o t) (suc j) e =
     let w = token-row t j e in
-    record { first = w .first; later = w .later; at = w .at; starts = w .starts; place = w .place; since = w .since; rules = w .rules; each = w .each }
+    record {
+      first = w .first;
+      later = w .later;
+      at = w .at;
+      starts = w .starts;
+      place = w .place;
+      since = w .since;
+      rules = w .rules;
+      each = w .each;
+    }
 
 -- its position is reached by each front of the rows that holds it
-position-reached : {body : List ℕ} {p : Place} {rows : List Row} → EachRow body p rows → (j m : ℕ) {r : Row} {rest : List Row} → j < m → drop j rows ≡ r ∷ rest
+position-reached : {body : List ℕ} {p : Place} {rows : List Row} → EachRow body p rows → (j m : ℕ) {r : Row} {rest : List Row} → j < m
+    → drop j rows ≡ r ∷ rest
     → r .position ≤ lastPosition (p .position) (take m rows)
 position-reached none zero m h e = absurd (cons≢nil (sym e))
 position-reached none (suc j) m h e = absurd (cons≢nil (sym e))
@@ -161,7 +183,8 @@ pub record PieceIn (body : List ℕ) (p : Piece) : Type 0 where
   pub within : p .start + p .len ≤ length body
   pub lt : getD body (p .start) 0 ≡ 60
 
-module _ {body : List ℕ} {rows : List Row} {final : ℕ} {v : View} (w : ViewIn body rows final v) (c : Child) (m : Placed (toksOf body (v .rows)) c) where
+module _ {body : List ℕ} {rows : List Row} {final : ℕ} {v : View} (w : ViewIn body rows final v) (c : Child)
+    (m : Placed (toksOf body (v .rows)) c) where
   -- the child's start is in a row of kind 1 of the view, before the reader at its content, which has not passed the rows
   pub start-row : StartRow body 0 (v .rows) (c .start .row)
   start-row = token-row (w .each) (c .start .row) (m .begun .at)
@@ -189,7 +212,8 @@ module _ {body : List ℕ} {rows : List Row} {final : ℕ} {v : View} (w : ViewI
       (omega (arith, rw (take-length (v .rows)) at p, w .last), omega (arith, w .ends, w .within))
 
   -- and so is the position of each later row
-  row-end-in : (k : ℕ) → c .start .row < k → (start-row .first .position ≤ lastPosition 0 (take k (v .rows))) × (lastPosition 0 (take k (v .rows)) ≤ length body)
+  row-end-in : (k : ℕ) → c .start .row < k
+      → (start-row .first .position ≤ lastPosition 0 (take k (v .rows))) × (lastPosition 0 (take k (v .rows)) ≤ length body)
   row-end-in k h =
       (position-reached (w .each) (c .start .row) k h (start-row .at), omega (arith, each-take k (w .each), w .last, w .ends, w .within))
 
@@ -203,7 +227,8 @@ module _ {body : List ℕ} {rows : List Row} {final : ℕ} {v : View} (w : ViewI
 
       end : (start-row .first .position ≤ pieceEnd v (dropped c)) × (pieceEnd v (dropped c) ≤ length body)
       end =
-          pick-all (λ (e : ℕ). (start-row .first .position ≤ e) × (e ≤ length body)) (dropped c .ended) (lastPosition 0 (take (dropped c .reader .row) (v .rows))) (v .ends)
+          pick-all (λ (e : ℕ). (start-row .first .position ≤ e) × (e ≤ length body)) (dropped c .ended)
+          (lastPosition 0 (take (dropped c .reader .row) (v .rows))) (v .ends)
           (row-end-in (dropped c .reader .row) later) view-end-in
 
   -- it begins no earlier than the row before its start ended, and it ends where the last row read for it did

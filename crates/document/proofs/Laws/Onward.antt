@@ -1,5 +1,5 @@
--- How far a reader goes on: the skip to a scope's end and the search for a start element leave no more tokens than there were, and keep row numbers
--- and tokens together.
+-- How far a reader goes on: the skip to a scope's end and the search for a start element leave no more tokens than there were, and keep row
+-- numbers and tokens together.
 use Prim.Native.Nat.{ℕ, suc, _+_, _≤_, _<_}
 use mathlib.Core.Path.{_≡_, refl, sym, _∙_}
 use mathlib.Core.Bool.{Bool, true, false}
@@ -11,11 +11,12 @@ use Rattle.lists.proofs.Tests.{pick-all, false-true}
 use Rattle.table.specs.Row.{Tok}
 use Rattle.xml.proofs.Past.{at-next}
 use Rattle.document.specs.declared.Depth.{Depth}
-use Rattle.document.specs.Reader.{Reader, reader, depthAfter, Scope, endsAt, Past, skip, StartEl, Turn, goes, complete, over, turn, Next, found, gone, takeTurn, next}
+use Rattle.document.specs.Reader.{Reader, reader, depthAfter, Scope, endsAt, Past, skip, StartEl, Turn, goes, complete, over, turn}
+use Rattle.document.specs.Reader.{Next, found, gone, takeTurn, next}
 
 -- ---- a reader that has gone on from another
--- it has no more tokens left; its row number and what is left come to the same sum; and if the first had the tokens of a table from its row on,
--- so has it
+-- it has no more tokens left; its row number and what is left come to the same sum; and if the first had the tokens of a table from its row
+-- on, so has it
 pub record GoneOn (from to : Reader) : Type 0 where
   pub short : length (to .rest) ≤ length (from .rest)
   pub rows : to .row + length (to .rest) ≡ from .row + length (from .rest)
@@ -49,18 +50,21 @@ unfolding skip
 skip-goes-on s d k [] = still (reader d k [])
 skip-goes-on s d k (t ∷ l) =
     let e = depthAfter t d in
-    pick-all (λ p. GoneOn (reader d k (t ∷ l)) (p .reader)) (endsAt s e t) (record { ended = true; reader = reader e (suc k) l }) (skip s e (suc k) l)
+    pick-all (λ p. GoneOn (reader d k (t ∷ l)) (p .reader)) (endsAt s e t) (record { ended = true; reader = reader e (suc k) l })
+    (skip s e (suc k) l)
     (one-more (still (reader e (suc k) l))) (one-more (skip-goes-on s e (suc k) l))
 
 -- one that does not meet the scope's end leaves no token
-pub skip-leaves-none : (s : Scope) (d : Depth) (k : ℕ) (l : List Tok) → skip s d k l .ended ≡ false → length (skip s d k l .reader .rest) ≡ 0
+pub skip-leaves-none : (s : Scope) (d : Depth) (k : ℕ) (l : List Tok) → skip s d k l .ended ≡ false
+    → length (skip s d k l .reader .rest) ≡ 0
 unfolding skip
 skip-leaves-none s d k [] e = refl
 skip-leaves-none s d k (t ∷ l) e = go (endsAt s (depthAfter t d) t) (skip-leaves-none s (depthAfter t d) (suc k) l) e
   where
     go : (b : Bool) → (skip s (depthAfter t d) (suc k) l .ended ≡ false → length (skip s (depthAfter t d) (suc k) l .reader .rest) ≡ 0)
         → pick b (record { ended = true; reader = reader (depthAfter t d) (suc k) l }) (skip s (depthAfter t d) (suc k) l) .ended ≡ false
-        → length (pick b (record { ended = true; reader = reader (depthAfter t d) (suc k) l }) (skip s (depthAfter t d) (suc k) l) .reader .rest) ≡ 0
+        → length (pick b (record { ended = true; reader = reader (depthAfter t d) (suc k) l })
+        (skip s (depthAfter t d) (suc k) l) .reader .rest) ≡ 0
     go true ih e = false-true (sym e)
     go false ih e = ih e
 
@@ -104,7 +108,8 @@ leaves-fewer (leaves-found r g h) = h
 pub next-goes-on : (s : Scope) (o : StartEl) (d : Depth) (k : ℕ) (l : List Tok) → GoneOn (reader d k l) (afterNext (next s o d k l))
 next-goes-on s o d k l = leaves-on (next-leaves s o d k l)
 
-pub next-short : (s : Scope) (o : StartEl) (d : Depth) (k : ℕ) (l : List Tok) {el : StartEl} {r : Reader} → next s o d k l ≡ found el r → length (r .rest) < length l
+pub next-short : (s : Scope) (o : StartEl) (d : Depth) (k : ℕ) (l : List Tok) {el : StartEl} {r : Reader} → next s o d k l ≡ found el r
+    → length (r .rest) < length l
 next-short s o d k l {el} {r} e = leaves-fewer {from = reader d k l} {el = el} {r = r} (rw (← e) (next-leaves s o d k l))
 
 pub next-rest : (all : List Tok) (s : Scope) (o : StartEl) (d : Depth) (k : ℕ) (l : List Tok) → drop k all ≡ l

@@ -1,5 +1,5 @@
--- The root and the children that a reader meets stand in the tokens: each has its own start in its row. So it is wherever the reader is led from one
--- child to the next outside of start tags, as it is once a child was dropped or its children were read.
+-- The root and the children that a reader meets stand in the tokens: each has its own start in its row. So it is wherever the reader is led
+-- from one child to the next outside of start tags, as it is once a child was dropped or its children were read.
 use Prim.Native.Nat.{ℕ, zero, suc, _+_, _≤_}
 use mathlib.Core.Path.{_≡_, refl, _∙_}
 use mathlib.Core.Bool.{Bool, false, true}
@@ -12,7 +12,8 @@ use Rattle.lists.proofs.Every.{every-in}
 use Rattle.lists.proofs.Tests.{pick-all, pick-cases, false-true}
 use Rattle.table.specs.Row.{Tok}
 use Rattle.document.specs.Reader.{Reader, fresh, Scope, document, Past, StartEl, blank, Next, found, gone}
-use Rattle.document.specs.Scope.{Child, scopeOf, skipFrom, shut, done, onNext, nextFrom, level, levelIn, children, childrenOf, endOf, dropping, leave, afterChildren, onRoot, rootOf}
+use Rattle.document.specs.Scope.{Child, scopeOf, skipFrom, shut, done, onNext, nextFrom, level, levelIn, children, childrenOf, endOf}
+use Rattle.document.specs.Scope.{dropping, leave, afterChildren, onRoot, rootOf}
 use Rattle.document.proofs.Laws.Onward.{GoneOn, still, skip-goes-on, next-goes-on, afterNext}
 use Rattle.document.specs.Tags.{Tags}
 use Rattle.document.proofs.Laws.Tags.{skip-outside, Begun, Ends, at-start, at-none, next-ends}
@@ -51,7 +52,8 @@ module _ (all : List Tok) where
   on-outside : {a b : Reader} → Outside all a → GoneOn a b → Tags false (b .rest) → Outside all b
   on-outside w g t = record { at = g .stands all (w .at); rows = g .rows ∙ w .rows; tags = t }
 
-  on-left : {a : Reader} (p : Past) {b : Bool} → Outside all a → GoneOn a (p .reader) → Tags b (p .reader .rest) → (p .ended ≡ true → b ≡ false) → Left all p
+  on-left : {a : Reader} (p : Past) {b : Bool} → Outside all a → GoneOn a (p .reader) → Tags b (p .reader .rest)
+      → (p .ended ≡ true → b ≡ false) → Left all p
   on-left p {b} w g t f = record { inTag = b; tags = t; out = f; at = g .stands all (w .at); rows = g .rows ∙ w .rows }
 
   pub next-meets : (s : Scope) (r : Reader) → Outside all r → Meets all (r .row) (nextFrom s r)
@@ -61,48 +63,60 @@ module _ (all : List Tok) where
     where
       go : (x : Next) → Ends all (r .row) x → GoneOn r (afterNext x) → Meets all (r .row) x
       go x (at-start {el = el} b t) g =
-          meets-child {el = el} (record { begun = record { later = b .later; at = b .at; since = omega arith; before = b .before }; inner = on-outside w g t }) (b .since)
+          meets-child {el = el} (record {
+            begun = record { later = b .later; at = b .at; since = omega arith; before = b .before };
+            inner = on-outside w g t;
+          }) (b .since)
       go x (at-none {p = p} t f) g = meets-none (on-left p w g t f)
 
   -- ---- the children of a scope
-  pub level-placed : (past : Child → Reader) → Outward past → (f : ℕ) (s : Scope) (r : Reader) → Outside all r → Every (Placed all) (children (level f past s r))
+  pub level-placed : (past : Child → Reader) → Outward past → (f : ℕ) (s : Scope) (r : Reader) → Outside all r
+      → Every (Placed all) (children (level f past s r))
   unfolding level children
   level-placed past out zero s r w = none
   level-placed past out (suc f) s r w = go (next-meets s r w) (level-placed past out f s)
     where
       go : {x : Next} → Meets all (r .row) x → ((q : Reader) → Outside all q → Every (Placed all) (children (level f past s q)))
           → Every (Placed all) (children (onNext past (level f past s) x))
-      go (meets-child {el = el} {r = q} p h) ih = let c : Child = record { start = el; inner = q } in and p (ih (past c) (out all c (p .inner)))
+      go (meets-child {el = el} {r = q} p h) ih = let c : Child = record { start = el; inner = q } in
+          and p (ih (past c) (out all c (p .inner)))
       go (meets-none l) ih = none
 
-  level-left : (past : Child → Reader) → Outward past → (f : ℕ) (s : Scope) (r : Reader) → Outside all r → Left all (endOf (level f past s r))
+  level-left : (past : Child → Reader) → Outward past → (f : ℕ) (s : Scope) (r : Reader) → Outside all r
+      → Left all (endOf (level f past s r))
   unfolding level endOf
   level-left past out zero s r w = on-left _ w (still r) (w .tags) (λ e. refl)
   level-left past out (suc f) s r w = go (next-meets s r w) (level-left past out f s)
     where
-      go : {x : Next} → Meets all (r .row) x → ((q : Reader) → Outside all q → Left all (endOf (level f past s q))) → Left all (endOf (onNext past (level f past s) x))
+      go : {x : Next} → Meets all (r .row) x → ((q : Reader) → Outside all q → Left all (endOf (level f past s q)))
+          → Left all (endOf (onNext past (level f past s) x))
       go (meets-child {el = el} {r = q} p h) ih = let c : Child = record { start = el; inner = q } in ih (past c) (out all c (p .inner))
       go (meets-none l) ih = l
 
   -- of an element
-  pub level-in-placed : (past : Child → Reader) → Outward past → (c : Child) → Outside all (c .inner) → Every (Placed all) (children (levelIn past c))
+  pub level-in-placed : (past : Child → Reader) → Outward past → (c : Child) → Outside all (c .inner)
+      → Every (Placed all) (children (levelIn past c))
   unfolding children
   level-in-placed past out c w =
-      pick-all (λ l. Every (Placed all) (children l)) (c .start .closed) (done (shut (c .inner))) (level (suc (length (c .inner .rest))) past (scopeOf (c .start)) (c .inner))
+      pick-all (λ l. Every (Placed all) (children l)) (c .start .closed) (done (shut (c .inner)))
+      (level (suc (length (c .inner .rest))) past (scopeOf (c .start)) (c .inner))
       none (level-placed past out (suc (length (c .inner .rest))) (scopeOf (c .start)) (c .inner) w)
 
   level-in-left : (past : Child → Reader) → Outward past → (c : Child) → Outside all (c .inner) → Left all (endOf (levelIn past c))
   unfolding endOf
   level-in-left past out c w =
-      pick-all (λ l. Left all (endOf l)) (c .start .closed) (done (shut (c .inner))) (level (suc (length (c .inner .rest))) past (scopeOf (c .start)) (c .inner))
-      (on-left _ w (still (c .inner)) (w .tags) (λ e. refl)) (level-left past out (suc (length (c .inner .rest))) (scopeOf (c .start)) (c .inner) w)
+      pick-all (λ l. Left all (endOf l)) (c .start .closed) (done (shut (c .inner)))
+      (level (suc (length (c .inner .rest))) past (scopeOf (c .start)) (c .inner))
+      (on-left _ w (still (c .inner)) (w .tags) (λ e. refl))
+      (level-left past out (suc (length (c .inner .rest))) (scopeOf (c .start)) (c .inner) w)
 
 -- ---- a child that is dropped, and one whose children were read
 pub dropping-outward : Outward dropping
 dropping-outward all c w =
     let own = scopeOf (c .start) in
     pick-all (λ (p : Past). Outside all (p .reader)) (c .start .closed) (shut (c .inner)) (skipFrom own (c .inner))
-    w (on-outside all w (skip-goes-on own (c .inner .depth) (c .inner .row) (c .inner .rest)) (skip-outside own (c .inner .depth) (c .inner .row) (w .tags)))
+    w (on-outside all w (skip-goes-on own (c .inner .depth) (c .inner .row) (c .inner .rest))
+    (skip-outside own (c .inner .depth) (c .inner .row) (w .tags)))
 
 pub afterChildren-outward : Outward afterChildren
 unfolding afterChildren

@@ -14,10 +14,12 @@ use Rattle.refusal.specs.Answer.{Answer, gives, refuses}
 use Rattle.reference.specs.Text.{Out, bytes, unescaped}
 use Rattle.reference.specs.Text as text
 use Rattle.reference.proofs.Result.{unescaped-shorter}
-use Rattle.table.specs.Row.{Row, Name, Tok, start, attr, gt, close, slash, Matter, text, misc, referencesIn, matter, bad, cut, nameOf, valueOf, toksOf}
+use Rattle.table.specs.Row.{Row, Name, Tok, start, attr, gt, close, slash, text, misc, referencesIn, matter, bad, cut, nameOf, valueOf}
+use Rattle.table.specs.Row.{toksOf}
 use Rattle.table.proofs.Classes.{Kind, of-start, of-attr, of-gt, of-close, of-slash, of-matter, of-error, kind-of}
 use Rattle.document.specs.declared.Depth.{Depth}
-use Rattle.document.specs.Reader.{Reader, reader, fresh, shallower, depthAfter, Scope, document, isEnd, Past, Attribute, StartEl, blank, addAttribute, onAttribute, onClose, Next, found, gone, takeTurn, next}
+use Rattle.document.specs.Reader.{Reader, reader, fresh, shallower, depthAfter, Scope, document, isEnd, Past, Attribute, StartEl}
+use Rattle.document.specs.Reader.{blank, addAttribute, onAttribute, onClose, Next, found, gone, takeTurn, next}
 use Rattle.document.specs.Scope.{Child, scopeOf, shut, done, onNext, level, levelIn, children, onRoot, rootOf}
 use Rattle.document.specs.Text.{unescapedText, atEnd, textTurn, takeFirst, firstText, textOf}
 use Rattle.document.proofs.Laws.Onward.{Leaves, leaves-found, leaves-none, next-leaves}
@@ -52,7 +54,9 @@ cut-short body from len = omega (arith, length-take len (drop from body), length
 -- of any rows over a body
 pub values-short : (body : List ℕ) (rows : List Row) → Every (ShortValue (length body)) (toksOf body rows)
 values-short body [] = none
-values-short body (r ∷ rows) = and (short-value (kind-of (r .kind) (nameOf body r) (valueOf body r)) (cut-short body (r .valueStart) (r .valueLen))) (values-short body rows)
+values-short body (r ∷ rows) =
+    and (short-value (kind-of (r .kind) (nameOf body r) (valueOf body r)) (cut-short body (r .valueStart) (r .valueLen)))
+    (values-short body rows)
 
 -- ---- attributes of a start element that is found
 abbrev pub ShortAttribute : ℕ → Attribute → Type 0
@@ -63,7 +67,8 @@ data ShortStart (most : ℕ) : Next → Type 0 where
   no-start : {p : Past} → ShortStart most (gone p)
 
 module _ (most : ℕ) (s : Scope) where
-  next-short : (o : StartEl) (d : Depth) (k : ℕ) (l : List Tok) → Every (ShortValue most) l → Every (ShortAttribute most) (o .attributes) → ShortStart most (next s o d k l)
+  next-short : (o : StartEl) (d : Depth) (k : ℕ) (l : List Tok) → Every (ShortValue most) l → Every (ShortAttribute most) (o .attributes)
+      → ShortStart most (next s o d k l)
   unfolding next
   next-short o d k [] none a = no-start
   next-short o d k (start n ∷ l) (and h e) a = next-short _ _ (suc k) l e a
@@ -78,14 +83,16 @@ module _ (most : ℕ) (s : Scope) where
   next-short o d k (close n ∷ l) (and h e) a = go (isEnd s (shallower d) n) (next-short o (shallower d) (suc k) l e a)
     where
       go : (ends : Bool) → ShortStart most (next s o (shallower d) (suc k) l)
-          → ShortStart most (takeTurn (onClose o ends) (reader (shallower d) (suc k) l) (λ (o' : StartEl). next s o' (shallower d) (suc k) l))
+          → ShortStart most (takeTurn (onClose o ends) (reader (shallower d) (suc k) l)
+          (λ (o' : StartEl). next s o' (shallower d) (suc k) l))
       go true ih = no-start
       go false ih = ih
   next-short o d k (slash ∷ l) (and h e) a = short-start a
   next-short o d k (matter b ∷ l) (and h e) a = next-short o d (suc k) l e a
   next-short o d k (bad ∷ l) (and h e) a = next-short o d (suc k) l e a
 
-pub root-attributes-short : (most : ℕ) (toks : List Tok) → Every (ShortValue most) toks → (c : Child) → rootOf toks ≡ some c → Every (ShortAttribute most) (c .start .attributes)
+pub root-attributes-short : (most : ℕ) (toks : List Tok) → Every (ShortValue most) toks → (c : Child) → rootOf toks ≡ some c
+    → Every (ShortAttribute most) (c .start .attributes)
 unfolding rootOf
 root-attributes-short most toks h c e = go (next-short most document blank (fresh toks .depth) 0 toks h none) e
   where
@@ -110,7 +117,8 @@ module _ (most : ℕ) where
       go (bytes x) q = short-text {b = x} (omega (arith, unescaped-shorter v x q, h))
       go (text.bad at) q = no-text
 
-  turn-short : (s : Scope) (d : Depth) (t : Tok) → ShortValue most t → (more : Answer (List ℕ)) → ShortText most more → ShortText most (textTurn takeFirst s d t more)
+  turn-short : (s : Scope) (d : Depth) (t : Tok) → ShortValue most t → (more : Answer (List ℕ)) → ShortText most more
+      → ShortText most (textTurn takeFirst s d t more)
   turn-short s d (start n) h more m = no-text
   turn-short s d (attr n v) h more m = m
   turn-short s d gt h more m = m
@@ -120,7 +128,8 @@ module _ (most : ℕ) where
   turn-short s d (matter misc) h more m = m
   turn-short s d bad h more m = m
 
-  first-text-short : (failure : Option Refusal) (s : Scope) (d : Depth) {l : List Tok} → Every (ShortValue most) l → ShortText most (firstText failure s d l)
+  first-text-short : (failure : Option Refusal) (s : Scope) (d : Depth) {l : List Tok} → Every (ShortValue most) l
+      → ShortText most (firstText failure s d l)
   unfolding firstText
   first-text-short failure s d none = at-end-short failure
   first-text-short failure s d (and {x = t} {l = l} h e) =
@@ -133,12 +142,14 @@ module _ (most : ℕ) where
       (short-text {b = []} (omega arith)) (first-text-short failure (scopeOf (c .start)) (c .inner .depth) e)
 
 -- ---- each child takes a token at least
-pub few-children : (past : Child → Reader) → Shortens past → (f : ℕ) (s : Scope) (r : Reader) → length (children (level f past s r)) ≤ length (r .rest)
+pub few-children : (past : Child → Reader) → Shortens past → (f : ℕ) (s : Scope) (r : Reader)
+    → length (children (level f past s r)) ≤ length (r .rest)
 unfolding level children
 few-children past short zero s r = omega arith
 few-children past short (suc f) s r = go (next-leaves s blank (r .depth) (r .row) (r .rest)) (few-children past short f s)
   where
-    go : {x : Next} → Leaves r x → ((q : Reader) → length (children (level f past s q)) ≤ length (q .rest)) → length (children (onNext past (level f past s) x)) ≤ length (r .rest)
+    go : {x : Next} → Leaves r x → ((q : Reader) → length (children (level f past s q)) ≤ length (q .rest))
+        → length (children (onNext past (level f past s) x)) ≤ length (r .rest)
     go (leaves-found {el = el} q g h) ih =
         let c : Child = record { start = el; inner = q } in
         omega (arith, ih (past c), short c, h)
@@ -147,5 +158,6 @@ few-children past short (suc f) s r = go (next-leaves s blank (r .depth) (r .row
 pub few-inside : (past : Child → Reader) → Shortens past → (c : Child) → length (children (levelIn past c)) ≤ length (c .inner .rest)
 unfolding children
 few-inside past short c =
-    pick-all (λ l. length (children l) ≤ length (c .inner .rest)) (c .start .closed) (done (shut (c .inner))) (level (suc (length (c .inner .rest))) past (scopeOf (c .start)) (c .inner))
+    pick-all (λ l. length (children l) ≤ length (c .inner .rest)) (c .start .closed) (done (shut (c .inner)))
+    (level (suc (length (c .inner .rest))) past (scopeOf (c .start)) (c .inner))
     (omega arith) (few-children past short (suc (length (c .inner .rest))) (scopeOf (c .start)) (c .inner))

@@ -6,12 +6,11 @@ use mathlib.Core.List.{List, [], _∷_}
 use mathlib.Core.Option.{Option}
 use Rattle.lists.specs.Tests.{pick}
 use Rattle.refusal.specs.declared.Refusal.{Refusal}
-use Rattle.refusal.specs.Answer.{gives}
 use Rattle.table.specs.Row.{Tok}
 use Rattle.document.specs.declared.Depth.{Depth}
 use Rattle.document.specs.Reader.{reader, depthAfter, Scope, endsAt, skip, StartEl, turn, gone, takeTurn, next}
 use Rattle.document.specs.Scope.{shut}
-use Rattle.document.specs.Text.{atEnd, textTurn, takeFirst, firstText, takeEach, joined}
+use Rattle.document.specs.Text.{atEnd, textTurn, takeFirst, firstText}
 
 -- ---- the skip to a scope's end
 pub skip-end : (s : Scope) (d : Depth) (k : ℕ) → skip s d k [] ≡ record { ended = false; reader = reader d k [] }
@@ -29,7 +28,8 @@ unfolding next
 next-end s o d k = refl
 
 pub next-token : (s : Scope) (o : StartEl) (d : Depth) (k : ℕ) (t : Tok) (l : List Tok)
-    → next s o d k (t ∷ l) ≡ takeTurn (turn s o d k t) (reader (depthAfter t d) (suc k) l) (λ (o' : StartEl). next s o' (depthAfter t d) (suc k) l)
+    → next s o d k (t ∷ l) ≡ takeTurn (turn s o d k t) (reader (depthAfter t d) (suc k) l)
+    (λ (o' : StartEl). next s o' (depthAfter t d) (suc k) l)
 unfolding next
 next-token s o d k t l = refl
 

@@ -1,12 +1,11 @@
--- Where start tags stand among tokens: an attribute, `>` and `/>` come only in a start tag, and nothing else but a token error does. So a reader that
--- stands outside of start tags meets each start element at the row of its own start. One that goes on anyhow need not: a search that begins in a start
--- tag finds an element without a start of its own.
-use Prim.Native.Nat.{ℕ, zero, suc, _≤_, _<_}
+-- Where start tags stand among tokens: an attribute, `>` and `/>` come only in a start tag, and nothing else but a token error does. So a
+-- reader that stands outside of start tags meets each start element at the row of its own start. One that goes on anyhow need not: a search
+-- that begins in a start tag finds an element without a start of its own.
+use Prim.Native.Nat.{ℕ, suc, _≤_, _<_}
 use mathlib.Core.Path.{_≡_, refl, sym, _∙_}
 use mathlib.Core.Bool.{Bool, true, false, not}
 use mathlib.Core.List.{List, [], _∷_}
 use native.Mathlib.Omega.{arith}
-use borrow.Author.Tests.{ne-eqb}
 use lib.Dec.{eqb}
 use lib.ListN.{drop}
 use Rattle.lists.specs.Tests.{pick}
@@ -15,10 +14,11 @@ use Rattle.reference.specs.Text.{Out, bytes, unescaped}
 use Rattle.reference.specs.Text as text
 use Rattle.table.specs.Row.{Row, Name, Tok, start, attr, gt, close, slash, matter, bad, nameOf, valueOf, tokOf, toksOf}
 use Rattle.table.proofs.Classes.{Kind, of-start, of-attr, of-gt, of-close, of-slash, of-matter, of-error, kind-of}
-use Rattle.table.specs.Rules.{endsTag, inTagOnly, mayBeInTag, among, Place, EachRow, none, row}
+use Rattle.table.specs.Rules.{endsTag, inTagOnly, mayBeInTag, Place, EachRow, none, row}
 use Rattle.xml.proofs.Past.{at-next}
 use Rattle.document.specs.declared.Depth.{Depth}
-use Rattle.document.specs.Reader.{Reader, reader, depthAfter, shallower, Scope, isEnd, endsAt, Past, skip, StartEl, addAttribute, asClosed, onAttribute, onClose, Next, found, gone, takeTurn, next}
+use Rattle.document.specs.Reader.{Reader, reader, depthAfter, shallower, Scope, isEnd, endsAt, Past, skip, StartEl, addAttribute}
+use Rattle.document.specs.Reader.{asClosed, onAttribute, onClose, Next, found, gone, takeTurn, next}
 use Rattle.document.specs.Scope.{shut}
 use Rattle.document.specs.Tags.{mayStand, inTagAfter, Tags, no-token, token}
 
@@ -60,10 +60,12 @@ pub rows-tags : {body : List ℕ} {p : Place} {rows : List Row} → EachRow body
 rows-tags none = no-token
 rows-tags {body} (row {p = p} {r = r} {rest = rest} o t) =
     let k = kind-of (r .kind) (nameOf body r) (valueOf body r) in
-    token {b = p .inTag} {t = tokOf body r} {l = toksOf body rest} (may-stand k (p .inTag) (o .tagOrder .inside) (o .tagOrder .outside)) (rw (tag-after k (p .inTag)) (rows-tags t))
+    token {b = p .inTag} {t = tokOf body r} {l = toksOf body rest} (may-stand k (p .inTag) (o .tagOrder .inside) (o .tagOrder .outside))
+    (rw (tag-after k (p .inTag)) (rows-tags t))
 
 -- ---- the skip ends outside of start tags: after a close tag, or where the tokens run out
-after-end : (s : Scope) (d : Depth) (t : Tok) (b : Bool) {l : List Tok} → endsAt s d t ≡ true → mayStand t b ≡ true → Tags (inTagAfter t b) l → Tags false l
+after-end : (s : Scope) (d : Depth) (t : Tok) (b : Bool) {l : List Tok} → endsAt s d t ≡ true → mayStand t b ≡ true
+    → Tags (inTagAfter t b) l → Tags false l
 after-end s d (start n) b e m g = false-true e
 after-end s d (attr n v) b e m g = false-true e
 after-end s d gt b e m g = false-true e
@@ -88,8 +90,8 @@ pub record Begun (all : List Tok) (from k : ℕ) (el : StartEl) : Type 0 where
   pub since : from ≤ el .row
   pub before : el .row < k
 
--- where a search ends: an element's own start was met, and the reader stands outside of start tags; or there is none, and the reader stands outside if it
--- read the scope's end
+-- where a search ends: an element's own start was met, and the reader stands outside of start tags; or there is none, and the reader stands
+-- outside if it read the scope's end
 pub data Ends (all : List Tok) (from : ℕ) : Next → Type 0 where
   at-start : {el : StartEl} {r : Reader} → Begun all from (r .row) el → Tags false (r .rest) → Ends all from (found el r)
   at-none : {p : Past} {b : Bool} → Tags b (p .reader .rest) → (p .ended ≡ true → b ≡ false) → Ends all from (gone p)
@@ -109,12 +111,16 @@ module _ (all : List Tok) (from : ℕ) where
   more-closed : {k : ℕ} {o : StartEl} → Begun all from k o → Begun all from (suc k) (asClosed o)
   more-closed w = record { later = w .later; at = w .at; since = w .since; before = omega (arith, w .before) }
 
-  pub next-ends : (s : Scope) (o : StartEl) (d : Depth) (k : ℕ) (l : List Tok) {b : Bool} → from ≤ k → drop k all ≡ l → Tags b l → SoFar b k o → Ends all from (next s o d k l)
+  pub next-ends : (s : Scope) (o : StartEl) (d : Depth) (k : ℕ) (l : List Tok) {b : Bool} → from ≤ k → drop k all ≡ l → Tags b l
+      → SoFar b k o → Ends all from (next s o d k l)
   unfolding next
   next-ends s o d k [] low h g f = at-none g (λ e. false-true e)
   next-ends s o d k (start n ∷ l) low h (token m g) f =
-      next-ends s _ _ (suc k) l (omega (arith, low)) (at-next all k h) g (λ e. record { later = l; at = h; since = low; before = omega arith })
-  next-ends s o d k (attr n v ∷ l) {b} low h (token m g) f = go (unescaped v) (λ (x : List ℕ). next-ends s (addAttribute o n x) d (suc k) l (omega (arith, low)) (at-next all k h) g (λ e. more-attribute n x (f e)))
+      next-ends s _ _ (suc k) l (omega (arith, low)) (at-next all k h) g
+      (λ e. record { later = l; at = h; since = low; before = omega arith })
+  next-ends s o d k (attr n v ∷ l) {b} low h (token m g) f =
+      go (unescaped v) (λ (x : List ℕ). next-ends s (addAttribute o n x) d (suc k) l (omega (arith, low)) (at-next all k h) g
+      (λ e. more-attribute n x (f e)))
     where
       go : (u : Out) → ((x : List ℕ) → Ends all from (next s (addAttribute o n x) d (suc k) l))
           → Ends all from (takeTurn (onAttribute o n u) (reader d (suc k) l) (λ (o' : StartEl). next s o' d (suc k) l))
@@ -129,5 +135,6 @@ module _ (all : List Tok) (from : ℕ) where
       go true ih = at-none g (λ e. not-inside b m)
       go false ih = ih
   next-ends s o d k (slash ∷ l) low h (token m g) f = at-start (more-closed (f m)) g
-  next-ends s o d k (matter x ∷ l) low h (token m g) f = next-ends s o d (suc k) l (omega (arith, low)) (at-next all k h) g (λ e. more (f e))
+  next-ends s o d k (matter x ∷ l) low h (token m g) f =
+      next-ends s o d (suc k) l (omega (arith, low)) (at-next all k h) g (λ e. more (f e))
   next-ends s o d k (bad ∷ l) low h (token m g) f = next-ends s o d (suc k) l (omega (arith, low)) (at-next all k h) g (λ e. more (f e))

@@ -1,5 +1,5 @@
--- Of a table that passes the drain: the root and the children that a reader meets are elements of the table, their texts are texts or have an element
--- inside, and their pieces are the elements' own (demand 3).
+-- Of a table that passes the drain: the root and the children that a reader meets are elements of the table, their texts are texts or have
+-- an element inside, and their pieces are the elements' own (demand 3).
 use Prim.Native.Nat.{ℕ, zero, suc}
 use mathlib.Core.Path.{_≡_, refl}
 use mathlib.Core.Logic.{_⊎_, inl, inr, ⊎-elim}
@@ -11,7 +11,8 @@ use Rattle.refusal.specs.declared.Refusal.{Refusal}
 use Rattle.refusal.specs.Answer.{Answer, gives, refuses}
 use Rattle.table.specs.Row.{Name, text, misc, Tok, close, rowsOf, toksOf}
 use Rattle.xml.specs.declared.Drained.{Drained}
-use Rattle.xml.specs.Grammar.{Element, empty-element, full-element, Content, no-content, between-tags, child, Miscs, no-misc, one-misc, Document}
+use Rattle.xml.specs.Grammar.{Element, empty-element, full-element, Content, no-content, between-tags, child, Miscs, no-misc, one-misc}
+use Rattle.xml.specs.Grammar.{Document}
 use Rattle.xml.specs.Grammar as grammar
 use Rattle.xml.specs.Drain.{drained}
 use Rattle.xml.proofs.Tests.{name-same}
@@ -23,21 +24,24 @@ use Rattle.document.specs.View.{whole}
 use Rattle.document.specs.Reader.{depth, deeper, document, element, StartEl, blank, begun, next}
 use Rattle.document.specs.Scope.{Child, childrenOf, rootOf, Piece, pieceOf}
 use Rattle.document.specs.Text.{firstText, textOf}
-use Rattle.document.proofs.Passed.Walks.{unescapes, asChild, contents, inside, with-name, with-depth, with-row, with-closed, next-element, dropped-element, children-are}
+use Rattle.document.proofs.Passed.Walks.{unescapes, asChild, contents, inside, with-name, with-depth, with-row, with-closed}
+use Rattle.document.proofs.Passed.Walks.{next-element, dropped-element, children-are}
 
 -- ---- an element of the tokens that was met in its own row
 pub data Met (all : List Tok) : Child → Type 0 where
   met : {l r : List Tok} (e : Element l r) (d : Depth) (k : ℕ) → drop k all ≡ l → Met all (asChild e d k)
 
 module _ (all : List Tok) where
-  contents-met : {l r : List Tok} (c : Content l r) (d : Depth) (k : ℕ) → drop k all ≡ l → (x : Child) → List·Memᴰ x (contents c d k) → Met all x
+  contents-met : {l r : List Tok} (c : Content l r) (d : Depth) (k : ℕ) → drop k all ≡ l → (x : Child) → List·Memᴰ x (contents c d k)
+      → Met all x
   unfolding contents
   contents-met no-content d k h x i = absurd (List·Memᴰ·not-nil i)
   contents-met (between-tags e c) d k h x i = contents-met c d (suc k) (at-next all k h) x i
   contents-met (child e c) d k h x i =
       ⊎-elim (λ q. rw q (met e d k h)) (λ j. contents-met c d (pastElement e k) (past-element all e k h) x j) (List·Memᴰ·cases-cons i)
 
-  pub inside-met : {l r : List Tok} (e : Element l r) (d : Depth) (k : ℕ) → drop k all ≡ l → (x : Child) → List·Memᴰ x (inside e d k) → Met all x
+  pub inside-met : {l r : List Tok} (e : Element l r) (d : Depth) (k : ℕ) → drop k all ≡ l → (x : Child) → List·Memᴰ x (inside e d k)
+      → Met all x
   unfolding inside
   inside-met (empty-element n a) d k h x i = absurd (List·Memᴰ·not-nil i)
   inside-met (full-element n a c) d k h x i = contents-met c (deeper d) (suc (pastAttributes a (suc k))) (in-content all a k h) x i
@@ -47,7 +51,8 @@ module _ (all : List Tok) where
   children-met c (met e d k h) x i = inside-met e d k h x (rw (children-are e d k) at i)
 
 -- ---- the root
-next-miscs : {l r : List Tok} (m : Miscs l r) (o : StartEl) (d : Depth) (k : ℕ) → next document o d k l ≡ next document o d (pastMiscs m k) r
+next-miscs : {l r : List Tok} (m : Miscs l r) (o : StartEl) (d : Depth) (k : ℕ)
+    → next document o d k l ≡ next document o d (pastMiscs m k) r
 unfolding next pastMiscs
 next-miscs no-misc o d k = refl
 next-miscs (one-misc m) o d k = next-miscs m o d (suc k)
@@ -100,7 +105,8 @@ abbrev pub IsPieceAt : List ℕ → List ℕ → ℕ → Piece → Type 0
 IsPieceAt body table row p = PieceAt body table row (p .start) (p .len)
 
 -- what is handed out as the piece of a child is that element's piece
-pub piece-met : {body table : List ℕ} (final : ℕ) → drained body table final ≡ Drained.Passes → (c : Child) → Met (toksOf body (rowsOf table)) c
+pub piece-met : {body table : List ℕ} (final : ℕ) → drained body table final ≡ Drained.Passes → (c : Child)
+    → Met (toksOf body (rowsOf table)) c
     → IsPieceAt body table (c .start .row) (pieceOf body (whole (rowsOf table) final) c)
 unfolding pieceOf
 piece-met final passes c (met e d k h) = rw (element-row e d k, dropped-element e d k) (element-piece final passes e k h)

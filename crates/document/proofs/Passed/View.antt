@@ -7,7 +7,8 @@ use mathlib.Core.List.{List, []}
 use mathlib.Core.Option.{none}
 use Rattle.table.specs.Row.{Name, Tok, rowsOf}
 use Rattle.xml.specs.declared.Drained.{Drained}
-use Rattle.xml.specs.Grammar.{Attributes, no-attribute, attribute, Element, empty-element, full-element, Content, no-content, between-tags, child, Miscs, no-misc, one-misc, Document, document}
+use Rattle.xml.specs.Grammar.{Attributes, no-attribute, attribute, Element, empty-element, full-element, Content, no-content, between-tags}
+use Rattle.xml.specs.Grammar.{child, Miscs, no-misc, one-misc, Document, document}
 use Rattle.xml.specs.Drain.{drained}
 use Rattle.xml.proofs.Pass.{document-passes, drained-document-is}
 use Rattle.document.specs.View.{whole, errorAt, view}
@@ -41,7 +42,8 @@ no-error (inl (document m e q)) = right-miscs m (right-element e (right-miscs q 
 no-error (inr m) = right-miscs m refl
 
 -- ---- the view of a table that passes
-pub view-passed : (body table : List ℕ) (final : ℕ) → drained body table final ≡ Drained.Passes → (strict : Bool) → view strict body (rowsOf table) final ≡ whole (rowsOf table) final
+pub view-passed : (body table : List ℕ) (final : ℕ) → drained body table final ≡ Drained.Passes → (strict : Bool)
+    → view strict body (rowsOf table) final ≡ whole (rowsOf table) final
 unfolding view
 view-passed body table final h true = rw (document-passes (drained-document-is body table final .0 h .1))
 view-passed body table final h false = rw (no-error (drained-document-is body table final .0 h .1))

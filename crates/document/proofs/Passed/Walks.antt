@@ -8,17 +8,20 @@ use borrow.Author.Tests.{eq-eqb, ne-eqb}
 use lib.ListN.{length}
 use Rattle.lists.specs.Tests.{pick}
 use Rattle.reference.specs.Xml.{EachReference}
-use Rattle.reference.specs.Text.{Out, bytes, unescaped, meaning}
+use Rattle.reference.specs.Text.{bytes, unescaped, meaning}
 use Rattle.reference.specs.Text as text
 use Rattle.reference.proofs.Lenient.{valid-unescapes}
 use Rattle.reference.proofs.Grammar.{validate-complete}
 use Rattle.table.specs.Row.{Name, Tok, start, close}
-use Rattle.xml.specs.Grammar.{Attributes, no-attribute, attribute, Element, empty-element, full-element, Content, no-content, between-tags, child}
+use Rattle.xml.specs.Grammar.{Attributes, no-attribute, attribute, Element, empty-element, full-element, Content, no-content, between-tags}
+use Rattle.xml.specs.Grammar.{child}
 use Rattle.xml.proofs.Tests.{name-same}
 use Rattle.xml.proofs.Past.{pastAttributes, pastElement, pastContent, count, grow-content}
 use Rattle.document.specs.declared.Depth.{Depth}
-use Rattle.document.specs.Reader.{deeper, Reader, reader, Scope, element, Past, skip, StartEl, blank, begun, addAttribute, asClosed, found, next}
-use Rattle.document.specs.Scope.{Child, shut, dropped, Level, meets, done, level, levelIn, children, endOf, dropping, childrenOf, afterChildren}
+use Rattle.document.specs.Reader.{deeper, Reader, reader, Scope, element, Past, skip, StartEl, blank, begun, addAttribute, asClosed}
+use Rattle.document.specs.Reader.{found, next}
+use Rattle.document.specs.Scope.{Child, shut, dropped, Level, meets, done, level, levelIn, children, endOf, dropping, childrenOf}
+use Rattle.document.specs.Scope.{afterChildren}
 
 -- ---- what a text stands for, where all its references are right
 pub unescapes : (v : List ℕ) → EachReference v → unescaped v ≡ bytes (meaning (unescaped v))
@@ -65,14 +68,16 @@ with-closed no-attribute o = refl
 with-closed (attribute {m = m} {v = v} f e a) o = with-closed a (addAttribute o m (meaning (unescaped v)))
 
 -- ---- the skip over a part of the grammar that lies deeper than the scope
-skip-attributes : (s : Scope) {b : List Name} {l r : List Tok} (a : Attributes b l r) (d : Depth) (k : ℕ) → skip s d k l ≡ skip s d (pastAttributes a k) r
+skip-attributes : (s : Scope) {b : List Name} {l r : List Tok} (a : Attributes b l r) (d : Depth) (k : ℕ)
+    → skip s d k l ≡ skip s d (pastAttributes a k) r
 unfolding skip pastAttributes
 skip-attributes s no-attribute d k = refl
 skip-attributes s (attribute f e a) d k = skip-attributes s a d (suc k)
 
 module _ (own : Depth) (n : Name) where
   -- an end tag inside is passed over
-  skip-inner : (m : Name) (l : List Tok) (d : Depth) (k : ℕ) → own .0 < d .0 → skip (element own n) (deeper d) k (close m ∷ l) ≡ skip (element own n) d (suc k) l
+  skip-inner : (m : Name) (l : List Tok) (d : Depth) (k : ℕ) → own .0 < d .0
+      → skip (element own n) (deeper d) k (close m ∷ l) ≡ skip (element own n) d (suc k) l
   unfolding skip
   skip-inner m l d k h = rw (ne-eqb (d .0) (own .0) (omega arith))
 
@@ -83,20 +88,23 @@ module _ (own : Depth) (n : Name) where
   mutual
     unfolding skip pastElement
 
-    skip-element : {l r : List Tok} (e : Element l r) (d : Depth) (k : ℕ) → own .0 < d .0 → skip (element own n) d k l ≡ skip (element own n) d (pastElement e k) r
+    skip-element : {l r : List Tok} (e : Element l r) (d : Depth) (k : ℕ) → own .0 < d .0
+        → skip (element own n) d k l ≡ skip (element own n) d (pastElement e k) r
     skip-element (empty-element m a) d k h = skip-attributes (element own n) a (deeper d) (suc k)
     skip-element (full-element m {r = r} a c) d k h =
         skip-attributes (element own n) a (deeper d) (suc k)
         ∙ skip-content c (deeper d) (suc (pastAttributes a (suc k))) (omega arith)
         ∙ skip-inner m r d _ h
 
-    skip-content : {l r : List Tok} (c : Content l r) (d : Depth) (k : ℕ) → own .0 < d .0 → skip (element own n) d k l ≡ skip (element own n) d (pastContent c k) r
+    skip-content : {l r : List Tok} (c : Content l r) (d : Depth) (k : ℕ) → own .0 < d .0
+        → skip (element own n) d k l ≡ skip (element own n) d (pastContent c k) r
     skip-content no-content d k h = refl
     skip-content (between-tags e c) d k h = skip-content c d (suc k) h
     skip-content (child x c) d k h = skip-element x d k h ∙ skip-content c d (pastElement x k) h
 
   -- from the content of an element to right after its own end tag
-  pub skip-to-end : {l r : List Tok} (c : Content l (close n ∷ r)) (k : ℕ) → skip (element own n) (deeper own) k l ≡ shut (reader own (suc (pastContent c k)) r)
+  pub skip-to-end : {l r : List Tok} (c : Content l (close n ∷ r)) (k : ℕ)
+      → skip (element own n) (deeper own) k l ≡ shut (reader own (suc (pastContent c k)) r)
   skip-to-end {r = r} c k = skip-content c (deeper own) k (omega arith) ∙ skip-own r _
 
 -- ---- the next start element
@@ -135,7 +143,8 @@ module _ (past : Child → Reader) (goes : PastElements past) (own : Depth) (n :
   unfolding level
   level-child e f k = rw (next-element (element own n) e, goes .after e (deeper own) k)
 
-  level-done : (f k : ℕ) (r : List Tok) → level (suc f) past (element own n) (reader (deeper own) k (close n ∷ r)) ≡ done (shut (reader own (suc k) r))
+  level-done : (f k : ℕ) (r : List Tok)
+      → level (suc f) past (element own n) (reader (deeper own) k (close n ∷ r)) ≡ done (shut (reader own (suc k) r))
   unfolding level
   level-done f k r = rw (eq-eqb (own .0) (own .0) refl, name-same n)
 
@@ -188,7 +197,8 @@ module _ (past : Child → Reader) (goes : PastElements past) where
       )
       (contents-are c (deeper d) (suc (pastAttributes a (suc k))) _)
 
-  pub level-end : {l r : List Tok} (e : Element l r) (d : Depth) (k : ℕ) → endOf (levelIn past (asChild e d k)) ≡ shut (reader d (pastElement e k) r)
+  pub level-end : {l r : List Tok} (e : Element l r) (d : Depth) (k : ℕ)
+      → endOf (levelIn past (asChild e d k)) ≡ shut (reader d (pastElement e k) r)
   unfolding endOf asChild pastElement
   level-end (empty-element n a) d k = refl
   level-end (full-element n {m = m} {r = r} a c) d k =
@@ -213,5 +223,6 @@ pick-either : (t : Bool) {a b r : Reader} → a ≡ r → b ≡ r → pick t a b
 pick-either true e f = e
 pick-either false e f = f
 
-pub either-past : (test : Child → Bool) (past past' : Child → Reader) → PastElements past → PastElements past' → PastElements (λ c. pick (test c) (past c) (past' c))
+pub either-past : (test : Child → Bool) (past past' : Child → Reader) → PastElements past → PastElements past'
+    → PastElements (λ c. pick (test c) (past c) (past' c))
 either-past test past past' f g = record { after = λ e d k. pick-either (test (asChild e d k)) (f .after e d k) (g .after e d k) }

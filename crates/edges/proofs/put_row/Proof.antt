@@ -1,5 +1,5 @@
--- `edges::put_row` is safe and ends. The loop's invariant: the stores leave the length of the table as it was. The measure is what is left of the row.
--- Assumes nothing.
+-- `edges::put_row` is safe and ends. The loop's invariant: the stores leave the length of the table as it was. The measure is what is left
+-- of the row. Assumes nothing.
 use Prim.Native.Nat.{_-_}
 use borrow.Author.Needs.{needs}
 use lib.ListN.{length}

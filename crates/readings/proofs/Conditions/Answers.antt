@@ -1,4 +1,5 @@
--- What an answer is: given, with what holds of what it gives; or refused, with the condition of the refusal. Answers that go on from one another are so in turn.
+-- What an answer is: given, with what holds of what it gives; or refused, with the condition of the refusal. Answers that go on from one
+-- another are so in turn.
 use mathlib.Core.Path.{_≡_, refl, sym, ap, subst}
 use mathlib.Core.Bool.{Bool, true, false}
 use Rattle.lists.proofs.Tests.{false-true}
@@ -36,11 +37,13 @@ module _ {A : Type 0} {Given : A → Type 0} {Refused : Refusal → Type 0} wher
   refused-is (is-given g) e = given-refused e
   refused-is (is-refused n) e = subst Refused (refuses-same e) n
 
-  pub also : {Given' : A → Type 0} {Refused' : Refusal → Type 0} {x : Answer A} → Is Given Refused x → ((a : A) → Given a → Given' a) → ((r : Refusal) → Refused r → Refused' r) → Is Given' Refused' x
+  pub also : {Given' : A → Type 0} {Refused' : Refusal → Type 0} {x : Answer A} → Is Given Refused x → ((a : A) → Given a → Given' a)
+      → ((r : Refusal) → Refused r → Refused' r) → Is Given' Refused' x
   also (is-given {a = a} g) on off = is-given (on a g)
   also (is-refused {r = r} n) on off = is-refused (off r n)
 
-  pub onward-is : {B : Type 0} {Given' : B → Type 0} {Refused' : Refusal → Type 0} {x : Answer A} (f : A → Answer B) → Is Given Refused x → ((a : A) → Given a → Is Given' Refused' (f a))
+  pub onward-is : {B : Type 0} {Given' : B → Type 0} {Refused' : Refusal → Type 0} {x : Answer A} (f : A → Answer B) → Is Given Refused x
+      → ((a : A) → Given a → Is Given' Refused' (f a))
       → ((r : Refusal) → Refused r → Refused' r) → Is Given' Refused' (onward x f)
   onward-is f (is-given {a = a} g) on off = on a g
   onward-is f (is-refused {r = r} n) on off = is-refused (off r n)

@@ -23,11 +23,14 @@ use Rattle.readings.specs.Find.{find}
 use Rattle.readings.proofs.Conditions.Opening.{broken-table, no-root, by-table, by-sheet, by-depth, by-root, AskedAs}
 use Rattle.readings.proofs.Conditions.View.{Stopped, at-drain, at-error}
 use Rattle.readings.proofs.Conditions.Text.{NoText, element-inside, bad-reference, rows-end, passed, opened-text-refusal}
-use Rattle.readings.proofs.Conditions.Readings.{Stops, root-differs, no-text, ill-formed, Refused, early, stops, full, groups-full, reading-refused}
+use Rattle.readings.proofs.Conditions.Readings.{Stops, root-differs, no-text, ill-formed, Refused, early, stops, full, groups-full}
+use Rattle.readings.proofs.Conditions.Readings.{reading-refused}
 use Rattle.readings.proofs.Conditions.Values.{NotABoolean, not-boolean, NotAnInteger, not-integer, StringTooLong, too-long}
-use Rattle.readings.proofs.Conditions.Scalar.{not-opened, no-text, after-the-rest, Unread, not-read, wrong, boolean-refusal, integer-refusal, string-refusal}
+use Rattle.readings.proofs.Conditions.Scalar.{not-opened, no-text, after-the-rest, Unread, not-read, wrong, boolean-refusal}
+use Rattle.readings.proofs.Conditions.Scalar.{integer-refusal, string-refusal}
 use Rattle.readings.proofs.Conditions.Find.{FindRefused, find-table, find-no-root, find-none, find-refusal}
-use Rattle.readings.proofs.Conditions.Whole.{WholeRefused, whole-table, whole-ill-formed, whole-no-root, whole-has-element, whole-no-room, whole-text-refusal}
+use Rattle.readings.proofs.Conditions.Whole.{WholeRefused, whole-table, whole-ill-formed, whole-no-root, whole-has-element}
+use Rattle.readings.proofs.Conditions.Whole.{whole-no-room, whole-text-refusal}
 
 -- the refusal's number is one of these
 abbrev pub Only : List ℕ → Refusal → Type 0
@@ -75,7 +78,8 @@ text-among eight = refl
 text-among nine = refl
 
 module _ (u : Upload) (call : Call) (room : Room) where
-  stops-among : (shape : Shape) (a : Asked (SheetOf shape)) → AskedAs u (sheetOf shape (call .sheet)) (call .settings) (call .depth) a → {r : Refusal}
+  stops-among : (shape : Shape) (a : Asked (SheetOf shape)) → AskedAs u (sheetOf shape (call .sheet)) (call .settings) (call .depth) a
+      → {r : Refusal}
       → Stops (call .settings) (call .depth) shape a r → Only (1 ∷ 2 ∷ 3 ∷ 4 ∷ later shape) r
   stops-among (structure order) a w (root-differs d) = refl
   stops-among (structure order) a w (ill-formed e) = refl
@@ -91,7 +95,8 @@ module _ (u : Upload) (call : Call) (room : Room) where
   full-among map = refl
   full-among strings = refl
 
-  pub reading-numbers : (shape : Shape) {r : Refusal} {out : Output} → read shape u call room ≡ refused r out → Only (1 ∷ 2 ∷ 3 ∷ 4 ∷ later shape) r
+  pub reading-numbers : (shape : Shape) {r : Refusal} {out : Output} → read shape u call room ≡ refused r out
+      → Only (1 ∷ 2 ∷ 3 ∷ 4 ∷ later shape) r
   reading-numbers shape {r} {out} e = go (reading-refused u call room shape e)
     where
       go : {q : Refusal} {o : Output} → Refused u call room shape q o → Only (1 ∷ 2 ∷ 3 ∷ 4 ∷ later shape) q

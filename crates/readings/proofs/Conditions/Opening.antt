@@ -1,10 +1,10 @@
--- 01, "Numbers": "No other number, and no number where its condition does not hold." What stands here is common to the readings: the conditions of
--- 1, 2, 3 and 4 in their order, what holds where none of them does, and the condition of 9. Every law is for every input.
+-- 01, "Numbers": "No other number, and no number where its condition does not hold." What stands here is common to the readings: the
+-- conditions of 1, 2, 3 and 4 in their order, what holds where none of them does, and the condition of 9. Every law is for every input.
 use Prim.Native.Nat.{_≤_, _<_}
 use mathlib.Core.Path.{_≡_, refl, _∙_}
 use mathlib.Core.Bool.{Bool, true, false}
 use mathlib.Core.Option.{Option, none, some}
-use borrow.Author.Tests.{leb-true, leb-false, le-leb, lt-leb}
+use borrow.Author.Tests.{leb-true, leb-false}
 use Rattle.refusal.specs.declared.Refusal.{Refusal}
 use Rattle.refusal.specs.Answer.{Answer, gives, refuses, onward}
 use Rattle.table.specs.Row.{rowsOf, toksOf}
@@ -40,22 +40,28 @@ module _ (u : Upload) where
     pub root : rootOf (toksOf (u .body) (o .seen .rows)) ≡ some (o .root)
 
   -- a table that obeys the rules, or not
-  pub obeyed : {A : Type 0} (a : Answer A) (d : Dec (TableRules (u .body) (u .rows) (u .end))) → TableRules (u .body) (u .rows) (u .end) → withTable d a ≡ a
+  pub obeyed : {A : Type 0} (a : Answer A) (d : Dec (TableRules (u .body) (u .rows) (u .end))) → TableRules (u .body) (u .rows) (u .end)
+      → withTable d a ≡ a
   obeyed a (yes rules) t = refl
   obeyed a (no broken) t = absurd (broken t)
 
-  pub not-obeyed : {A : Type 0} (a : Answer A) (d : Dec (TableRules (u .body) (u .rows) (u .end))) → TableBroken → withTable d a ≡ refuses Refusal.Table
+  pub not-obeyed : {A : Type 0} (a : Answer A) (d : Dec (TableRules (u .body) (u .rows) (u .end))) → TableBroken
+      → withTable d a ≡ refuses Refusal.Table
   not-obeyed a (yes rules) n = absurd (n rules)
   not-obeyed a (no broken) n = refl
 
-  given-rooted : (strict : Bool) {o : Opened} → OpenedAs strict o → rooted (u .body) (view strict (u .body) (rowsOf (u .rows)) (u .end)) ≡ gives o
+  given-rooted : (strict : Bool) {o : Opened} → OpenedAs strict o
+      → rooted (u .body) (view strict (u .body) (rowsOf (u .rows)) (u .end)) ≡ gives o
   given-rooted strict {o} w = rw (← w .seen, w .root)
 
-  rooted-is : (strict : Bool) → TableRules (u .body) (u .rows) (u .end) → Is (OpenedAs strict) (OpenedRefused strict) (rooted (u .body) (view strict (u .body) (rowsOf (u .rows)) (u .end)))
+  rooted-is : (strict : Bool) → TableRules (u .body) (u .rows) (u .end)
+      → Is (OpenedAs strict) (OpenedRefused strict) (rooted (u .body) (view strict (u .body) (rowsOf (u .rows)) (u .end)))
   rooted-is strict t = go (rootOf (toksOf (u .body) (view strict (u .body) (rowsOf (u .rows)) (u .end) .rows))) refl
     where
-      go : (c : Option Child) → rootOf (toksOf (u .body) (view strict (u .body) (rowsOf (u .rows)) (u .end) .rows)) ≡ c → Is (OpenedAs strict) (OpenedRefused strict)
-          (onward (present Refusal.NoRoot c) (λ (c : Child). gives (record { seen = view strict (u .body) (rowsOf (u .rows)) (u .end); root = c })))
+      go : (c : Option Child) → rootOf (toksOf (u .body) (view strict (u .body) (rowsOf (u .rows)) (u .end) .rows)) ≡ c
+          → Is (OpenedAs strict) (OpenedRefused strict)
+          (onward (present Refusal.NoRoot c)
+          (λ (c : Child). gives (record { seen = view strict (u .body) (rowsOf (u .rows)) (u .end); root = c })))
       go none e = is-refused (no-root t e)
       go (some c) e = is-given (record { rules = t; seen = refl; root = e })
 
@@ -63,7 +69,8 @@ module _ (u : Upload) where
   unfolding opened
   opened-is strict = go (decTable (u .body) (u .rows) (u .end))
     where
-      go : (d : Dec (TableRules (u .body) (u .rows) (u .end))) → Is (OpenedAs strict) (OpenedRefused strict) (withTable d (rooted (u .body) (view strict (u .body) (rowsOf (u .rows)) (u .end))))
+      go : (d : Dec (TableRules (u .body) (u .rows) (u .end)))
+          → Is (OpenedAs strict) (OpenedRefused strict) (withTable d (rooted (u .body) (view strict (u .body) (rowsOf (u .rows)) (u .end))))
       go (yes rules) = rooted-is strict rules
       go (no broken) = is-refused (broken-table broken)
 
@@ -85,9 +92,11 @@ module _ (u : Upload) where
       -- "2 sheet"
       by-sheet : TableRules (u .body) (u .rows) (u .end) → sheet ≡ none → AskedRefused Refusal.Sheet
       -- "3 depth at or above the maximum"
-      by-depth : {s : S} → TableRules (u .body) (u .rows) (u .end) → sheet ≡ some s → settings .maxDepth ≤ depth .0 → AskedRefused Refusal.Depth
+      by-depth : {s : S} → TableRules (u .body) (u .rows) (u .end) → sheet ≡ some s → settings .maxDepth ≤ depth .0
+          → AskedRefused Refusal.Depth
       -- "4 no root"
-      by-root : {s : S} → TableRules (u .body) (u .rows) (u .end) → sheet ≡ some s → depth .0 < settings .maxDepth → NoRootSeen (isStrict settings depth) → AskedRefused Refusal.NoRoot
+      by-root : {s : S} → TableRules (u .body) (u .rows) (u .end) → sheet ≡ some s → depth .0 < settings .maxDepth
+          → NoRootSeen (isStrict settings depth) → AskedRefused Refusal.NoRoot
 
     -- where none of them holds: the sheet says something, the depth is under the maximum, and there is a root
     pub record AskedAs (a : Asked S) : Type 0 where
@@ -96,7 +105,8 @@ module _ (u : Upload) where
       pub begun : OpenedAs (isStrict settings depth) (a .opened)
 
     abbrev withRoot : S → Answer (Asked S)
-    withRoot s = onward (rooted (u .body) (view (isStrict settings depth) (u .body) (rowsOf (u .rows)) (u .end))) (λ (o : Opened). gives (record { sheet = s; opened = o }))
+    withRoot s = onward (rooted (u .body) (view (isStrict settings depth) (u .body) (rowsOf (u .rows)) (u .end)))
+        (λ (o : Opened). gives (record { sheet = s; opened = o }))
 
     abbrev withSheet : Option S → Answer (Asked S)
     withSheet o = onward (present Refusal.Sheet o) (λ (s : S). withDepth (tooDeep settings depth) (withRoot s))
@@ -105,9 +115,11 @@ module _ (u : Upload) where
     unfolding asked
     asked-is = onTable (decTable (u .body) (u .rows) (u .end))
       where
-        onDepth : (s : S) (b : Bool) → tooDeep settings depth ≡ b → TableRules (u .body) (u .rows) (u .end) → sheet ≡ some s → Is AskedAs AskedRefused (withDepth b (withRoot s))
+        onDepth : (s : S) (b : Bool) → tooDeep settings depth ≡ b → TableRules (u .body) (u .rows) (u .end) → sheet ≡ some s
+            → Is AskedAs AskedRefused (withDepth b (withRoot s))
         onDepth s true p t q = is-refused (by-depth t q (leb-true _ _ p))
-        onDepth s false p t q = onward-is _ (rooted-is (isStrict settings depth) t) (λ o w. is-given (record { says = q; below = leb-false _ _ p; begun = w })) off
+        onDepth s false p t q = onward-is _ (rooted-is (isStrict settings depth) t)
+            (λ o w. is-given (record { says = q; below = leb-false _ _ p; begun = w })) off
           where
             off : (r : Refusal) → OpenedRefused (isStrict settings depth) r → AskedRefused r
             off r (broken-table n) = by-table n

@@ -1,6 +1,6 @@
--- 01, "Structure", "List", "Map" and "String list": each refusal, on every input, with its condition: "no number where its condition does not hold". The
--- conditions of 1, 2, 3 and 4 are in Opening.antt, those of 5 and 10 in specs/Demand.antt; what 6 to 9 mean for the table is in Text.antt and View.antt. That
--- a reading ends so exactly where its plan does is `performed-exactly` (Plans/Perform.antt).
+-- 01, "Structure", "List", "Map" and "String list": each refusal, on every input, with its condition: "no number where its condition does
+-- not hold". The conditions of 1, 2, 3 and 4 are in Opening.antt, those of 5 and 10 in specs/Demand.antt; what 6 to 9 mean for the table is
+-- in Text.antt and View.antt. That a reading ends so exactly where its plan does is `performed-exactly` (Plans/Perform.antt).
 use Prim.Native.Nat.{ℕ}
 use mathlib.Core.Path.{_≡_, sym, _∙_, subst}
 use mathlib.Core.Bool.{true}
@@ -26,7 +26,8 @@ use Rattle.readings.proofs.Plans.Readings.{read-is, askedPlan, PlanIs, 
 -- ---- why a plan stops that goes on with what was asked
 pub data Stops (settings : Settings) (depth : ShapeDepth) (shape : Shape) (a : Asked (SheetOf shape)) : Refusal → Type 0 where
   root-differs : RootDiffers settings depth shape a → Stops settings depth shape a Refusal.RootName
-  no-text : (c : Child) {r : Refusal} → TextWanted settings shape a c → textOf (a .opened .seen .failure) c ≡ refuses r → Stops settings depth shape a r
+  no-text : (c : Child) {r : Refusal} → TextWanted settings shape a c → textOf (a .opened .seen .failure) c ≡ refuses r
+      → Stops settings depth shape a r
   ill-formed : a .opened .seen .illFormed ≡ true → Stops settings depth shape a Refusal.IllFormed
 
 any-source : (body : List ℕ) (o : Opened) → Sources Anything Anything Anything Anything body o
@@ -40,14 +41,17 @@ any-source body o =
       piece = λ c h. tt {0};
     }
 
-any-shape : (body : List ℕ) (shape : Shape) (a : Asked (SheetOf shape)) → ShapeSources Anything Anything (λ (i : ℕ). Anything) Anything body shape a
-any-shape body (structure order) a = record { member = λ m i. tt {0}; ordered = λ i j. tt {0}; attribute = λ name v e. tt {0}; group = λ i. tt {0}; root = tt {0} }
+any-shape : (body : List ℕ) (shape : Shape) (a : Asked (SheetOf shape))
+    → ShapeSources Anything Anything (λ (i : ℕ). Anything) Anything body shape a
+any-shape body (structure order) a =
+    record { member = λ m i. tt {0}; ordered = λ i j. tt {0}; attribute = λ name v e. tt {0}; group = λ i. tt {0}; root = tt {0} }
 any-shape body list a = tt {0}
 any-shape body map a = tt {0}
 any-shape body strings a = tt {0}
 
 plan-stops : (body : List ℕ) (settings : Settings) (depth : ShapeDepth) (shape : Shape) (a : Asked (SheetOf shape))
-    → MadeWhole (Source Anything Anything Anything (λ (i : ℕ). Anything) Anything) (Stops settings depth shape a) (mostMet settings shape a) (mostGroups shape)
+    → MadeWhole (Source Anything Anything Anything (λ (i : ℕ). Anything) Anything) (Stops settings depth shape a) (mostMet settings shape a)
+    (mostGroups shape)
     (askedPlan shape body settings depth a)
 plan-stops body settings depth shape a =
     plan-made settings depth shape a (any-source body (a .opened)) (any-shape body shape a)
@@ -57,19 +61,24 @@ module _ (u : Upload) (call : Call) (room : Room) (shape : Shape) where
   -- it is refused before it reads, having written nothing; or where it stops; or where there is no room, as met or for the groups
   pub data Refused : Refusal → Output → Type 0 where
     early : {r : Refusal} → AskedRefused u (sheetOf shape (call .sheet)) (call .settings) (call .depth) r → Refused r nothing
-    stops : {a : Asked (SheetOf shape)} {r : Refusal} {out : Output} → AskedAs u (sheetOf shape (call .sheet)) (call .settings) (call .depth) a
+    stops : {a : Asked (SheetOf shape)} {r : Refusal} {out : Output}
+        → AskedAs u (sheetOf shape (call .sheet)) (call .settings) (call .depth) a
         → Stops (call .settings) (call .depth) shape a r → Refused r out
-    full : {entry : ℕ → Entry} {bytes : List ℕ} {more : Plan} {out : Output} → Reaches (planOf shape u call .asMet) nothing (put entry bytes more) out
+    full : {entry : ℕ → Entry} {bytes : List ℕ} {more : Plan} {out : Output}
+        → Reaches (planOf shape u call .asMet) nothing (put entry bytes more) out
         → Exceeds room (appended entry bytes out) → Refused Refusal.NoRoom out
-    groups-full : {entry : ℕ → Entry} {bytes : List ℕ} {more : Plan} {out last : Output} → Reaches (planOf shape u call .asMet) nothing end out
-        → Reaches (planOf shape u call .groups) out (put entry bytes more) last → Exceeds room (appended entry bytes last) → Refused Refusal.NoRoom out
+    groups-full : {entry : ℕ → Entry} {bytes : List ℕ} {more : Plan} {out last : Output}
+        → Reaches (planOf shape u call .asMet) nothing end out
+        → Reaches (planOf shape u call .groups) out (put entry bytes more) last → Exceeds room (appended entry bytes last)
+        → Refused Refusal.NoRoom out
 
   -- where the plan stops
   met : {w : Whole} → PlanIs u call shape w → {r : Refusal} {out : Output} → Reaches (w .asMet) nothing (stop r) out → Refused r out
   met (before x) here = early x
   met (while {a = a} x) t = stops x (made-stops (plan-stops (u .body) (call .settings) (call .depth) shape a .asMet) t)
 
-  grouped : {w : Whole} → PlanIs u call shape w → {r : Refusal} {out kept last : Output} → Reaches (w .groups) out (stop r) last → Refused r kept
+  grouped : {w : Whole} → PlanIs u call shape w → {r : Refusal} {out kept last : Output} → Reaches (w .groups) out (stop r) last
+      → Refused r kept
   grouped (while {a = a} x) t = stops x (made-stops (plan-stops (u .body) (call .settings) (call .depth) shape a .groups) t)
 
   pub reading-refused : {r : Refusal} {out : Output} → read shape u call room ≡ refused r out → Refused r out

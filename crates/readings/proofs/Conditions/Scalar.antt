@@ -1,4 +1,5 @@
--- 01, "Scalar", of a body: which refusals booleans, integers and strings give, and that each is given exactly where its condition holds, on every input.
+-- 01, "Scalar", of a body: which refusals booleans, integers and strings give, and that each is given exactly where its condition holds, on
+-- every input.
 use Prim.Native.Nat.{ℕ}
 use mathlib.Core.Path.{_≡_, refl}
 use mathlib.Core.Logic.{_↔_}
@@ -11,13 +12,15 @@ use Rattle.sheet.specs.declared.ShapeDepth.{ShapeDepth}
 use Rattle.sheet.specs.Settings.{Settings, isStrict}
 use Rattle.readings.specs.Call.{Upload}
 use Rattle.readings.specs.Opening.{Opened}
-use Rattle.readings.specs.Scalar.{booleanOf, integerOf, stringIn, unlessIllFormed, scalarText, booleanReading, integerReading, stringReading}
+use Rattle.readings.specs.Scalar.{booleanOf, integerOf, stringIn, unlessIllFormed, scalarText, booleanReading, integerReading}
+use Rattle.readings.specs.Scalar.{stringReading}
 use Rattle.readings.proofs.Plans.Sources.{Anything}
 use Rattle.readings.proofs.Conditions.Answers.{Is, is-given, is-refused, refused-is, also, onward-is, itself}
 use Rattle.readings.proofs.Conditions.Opening.{OpenedRefused, OpenedAs, opened-is, refused-opened, given-opened}
 use Rattle.readings.proofs.Conditions.View.{DrainFails, Stopped, opened-fails}
 use Rattle.readings.proofs.Conditions.Text.{NoTextIn, opened-text-refusal}
-use Rattle.readings.proofs.Conditions.Values.{NotABoolean, boolean-text-refusal, NotAnInteger, integer-text-refusal, StringTooLong, string-text-refusal}
+use Rattle.readings.proofs.Conditions.Values.{NotABoolean, boolean-text-refusal, NotAnInteger, integer-text-refusal, StringTooLong}
+use Rattle.readings.proofs.Conditions.Values.{string-text-refusal}
 
 module _ (u : Upload) (settings : Settings) (depth : ShapeDepth) where
   abbrev strict : Bool
@@ -34,10 +37,12 @@ module _ (u : Upload) (settings : Settings) (depth : ShapeDepth) where
   unfolding scalarText
   scalar-is =
       onward-is _ (opened-is u strict)
-      (λ o w. onward-is _ (itself (textOf (o .seen .failure) (o .root))) (λ t e. end w e (o .seen .illFormed) refl) (λ r e. no-text w (opened-text-refusal u w (o .root) r .0 e)))
+      (λ o w. onward-is _ (itself (textOf (o .seen .failure) (o .root))) (λ t e. end w e (o .seen .illFormed) refl)
+      (λ r e. no-text w (opened-text-refusal u w (o .root) r .0 e)))
       (λ r w. not-opened w)
     where
-      end : {o : Opened} {t : List ℕ} → OpenedAs u strict o → textOf (o .seen .failure) (o .root) ≡ gives t → (b : Bool) → o .seen .illFormed ≡ b
+      end : {o : Opened} {t : List ℕ} → OpenedAs u strict o → textOf (o .seen .failure) (o .root) ≡ gives t → (b : Bool)
+          → o .seen .illFormed ≡ b
           → Is Anything ScalarRefused (unlessIllFormed b t)
       end w e true p = is-refused (after-the-rest w e (opened-fails u w .0 p))
       end w e false p = is-given (tt {0})
@@ -56,7 +61,8 @@ module _ (u : Upload) (settings : Settings) (depth : ShapeDepth) where
     not-read : {r : Refusal} → ScalarRefused r → Unread Wrong r
     wrong : {text : List ℕ} {r : Refusal} → scalarText u settings depth ≡ gives text → Wrong text r → Unread Wrong r
 
-  unread : {A : Type 0} (of : List ℕ → Answer A) (Wrong : List ℕ → Refusal → Type 0) → ((text : List ℕ) (r : Refusal) → (of text ≡ refuses r) ↔ Wrong text r) →
+  unread : {A : Type 0} (of : List ℕ → Answer A) (Wrong : List ℕ → Refusal → Type 0)
+      → ((text : List ℕ) (r : Refusal) → (of text ≡ refuses r) ↔ Wrong text r) →
       (r : Refusal) → (onward (scalarText u settings depth) of ≡ refuses r) ↔ Unread Wrong r
   unread {A} of Wrong law r = (refused-is is, back)
     where

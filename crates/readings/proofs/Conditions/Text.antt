@@ -1,5 +1,5 @@
--- What it means that there is no text where one is wanted: 6, 7, 8 and 9 "as met" (01, "Numbers": "6 element where text is wanted", "7 reference", "8 token
--- error where text is wanted"; "In a text under strict reading a mismatched or unclosed tag gives 9").
+-- What it means that there is no text where one is wanted: 6, 7, 8 and 9 "as met" (01, "Numbers": "6 element where text is wanted", "7
+-- reference", "8 token error where text is wanted"; "In a text under strict reading a mismatched or unclosed tag gives 9").
 use Prim.Native.Nat.{ℕ}
 use mathlib.Core.Path.{_≡_, refl, _∙_, ap, subst}
 use mathlib.Core.Logic.{_↔_}
@@ -34,13 +34,15 @@ isPassed s d (matter (text v)) = false
 isPassed s d (matter misc) = true
 isPassed s d bad = true
 
--- from these tokens on there is no text: tokens are passed up to a start tag (6), up to a text that does not unescape (7), or to the end of the
--- rows, where the reader is stopped
+-- from these tokens on there is no text: tokens are passed up to a start tag (6), up to a text that does not unescape (7), or to the end of
+-- the rows, where the reader is stopped
 pub data NoText (Stop : Refusal → Type 0) (s : Scope) : Depth → List Tok → Refusal → Type 0 where
   element-inside : {d : Depth} {n : Name} {l : List Tok} → NoText Stop s d (start n ∷ l) Refusal.ElementInText
-  bad-reference : {d : Depth} {v : List ℕ} {at : ℕ} {l : List Tok} → unescaped v ≡ text.bad at → NoText Stop s d (matter (text v) ∷ l) Refusal.BadReference
+  bad-reference : {d : Depth} {v : List ℕ} {at : ℕ} {l : List Tok} → unescaped v ≡ text.bad at
+      → NoText Stop s d (matter (text v) ∷ l) Refusal.BadReference
   rows-end : {d : Depth} {r : Refusal} → Stop r → NoText Stop s d [] r
-  passed : {d : Depth} {t : Tok} {l : List Tok} {r : Refusal} → isPassed s (depthAfter t d) t ≡ true → NoText Stop s (depthAfter t d) l r → NoText Stop s d (t ∷ l) r
+  passed : {d : Depth} {t : Tok} {l : List Tok} {r : Refusal} → isPassed s (depthAfter t d) t ≡ true → NoText Stop s (depthAfter t d) l r
+      → NoText Stop s d (t ∷ l) r
 
 -- the same of an element, which did not end in `/>`
 pub record NoTextIn (Stop : Refusal → Type 0) (c : Child) (r : Refusal) : Type 0 where
@@ -61,8 +63,10 @@ module _ (Stop : Refusal → Type 0) (failure : Option Refusal) (stops : (r : Re
   first-text-refused s d (close m ∷ l) {r} e =
       go (isEnd s (depthAfter (close m) d) m) refl e (first-text-refused s (depthAfter (close m) d) l)
     where
-      go : (b : Bool) → isEnd s (depthAfter (close m) d) m ≡ b → pick b (gives []) (firstText failure s (depthAfter (close m) d) l) ≡ refuses r →
-          (firstText failure s (depthAfter (close m) d) l ≡ refuses r → NoText Stop s (depthAfter (close m) d) l r) → NoText Stop s d (close m ∷ l) r
+      go : (b : Bool) → isEnd s (depthAfter (close m) d) m ≡ b
+          → pick b (gives []) (firstText failure s (depthAfter (close m) d) l) ≡ refuses r →
+          (firstText failure s (depthAfter (close m) d) l ≡ refuses r → NoText Stop s (depthAfter (close m) d) l r)
+          → NoText Stop s d (close m ∷ l) r
       go true p e ih = given-refused e
       go false p e ih = passed (ap not p) (ih e)
   first-text-refused s d (slash ∷ l) e = passed refl (first-text-refused s (depthAfter slash d) l e)
@@ -93,13 +97,15 @@ module _ (Stop : Refusal → Type 0) (failure : Option Refusal) (stops : (r : Re
   refused-first-text element-inside = refl
   refused-first-text (bad-reference e) = rw e
   refused-first-text (rows-end {r = r} e) = rw (stops r .1 e)
-  refused-first-text {s = s} (passed {d = d} {t = t} {l = l} p w) = passes-on s (depthAfter t d) t (firstText failure s (depthAfter t d) l) p ∙ refused-first-text w
+  refused-first-text {s = s} (passed {d = d} {t = t} {l = l} p w) =
+      passes-on s (depthAfter t d) t (firstText failure s (depthAfter t d) l) p ∙ refused-first-text w
 
   text-refusal : (c : Child) (r : Refusal) → (textOf failure c ≡ refuses r) ↔ NoTextIn Stop c r
   unfolding textOf
   text-refusal c r = (go (c .start .closed) refl, λ w. rw (w .notClosed) (refused-first-text (w .inside)))
     where
-      go : (b : Bool) → c .start .closed ≡ b → pick b (gives []) (firstText failure (scopeOf (c .start)) (c .inner .depth) (c .inner .rest)) ≡ refuses r → NoTextIn Stop c r
+      go : (b : Bool) → c .start .closed ≡ b
+          → pick b (gives []) (firstText failure (scopeOf (c .start)) (c .inner .depth) (c .inner .rest)) ≡ refuses r → NoTextIn Stop c r
       go true p e = given-refused e
       go false p e = record { notClosed = p; inside = first-text-refused (scopeOf (c .start)) (c .inner .depth) (c .inner .rest) e }
 

@@ -1,5 +1,5 @@
--- 01, "Scalar": "A text taken from an entry is read by the same rules, with 10, 11 or 12 alone." Each is given exactly where its condition holds, on every
--- text.
+-- 01, "Scalar": "A text taken from an entry is read by the same rules, with 10, 11 or 12 alone." Each is given exactly where its condition
+-- holds, on every text.
 use Prim.Native.Nat.{ℕ, _^_, _-_, _≤_, _<_}
 use mathlib.Core.Path.{_≡_, refl, sym, _∙_, ap, subst, subst⁻¹}
 use mathlib.Core.Logic.{_↔_}
@@ -42,7 +42,8 @@ boolean-text-refusal t r = (go (sameb t (ascii "true")) (sameb t (ascii "false")
     same word n true p = absurd (n (same-is t word p))
     same word n false p = refl
 
-    back : {q : Refusal} → NotABoolean t q → pick (sameb t (ascii "true")) (gives true) (pick (sameb t (ascii "false")) (gives false) (refuses Refusal.NotBoolean)) ≡ refuses q
+    back : {q : Refusal} → NotABoolean t q
+        → pick (sameb t (ascii "true")) (gives true) (pick (sameb t (ascii "false")) (gives false) (refuses Refusal.NotBoolean)) ≡ refuses q
     back (not-boolean m n) = rw (same (ascii "true") m _ refl, same (ascii "false") n _ refl)
 
 -- "Integers: optional sign, one or more digits, range of 32 bits, nothing trimmed."
@@ -76,7 +77,8 @@ positive-given : (x : Number) (z : ℤ) → positive x ≡ gives z → (n : ℕ)
 positive-given No z e = given-refused (sym e)
 positive-given (Value n) z e = go (leb n (2 ^ 31 - 1)) refl e
   where
-    go : (t : Bool) → leb n (2 ^ 31 - 1) ≡ t → pick t (gives (pos n)) (refuses Refusal.NotInteger) ≡ gives z → (m : ℕ) × (Value n ≡ Value m) × (m ≤ 2 ^ 31 - 1) × (pos m ≡ z)
+    go : (t : Bool) → leb n (2 ^ 31 - 1) ≡ t → pick t (gives (pos n)) (refuses Refusal.NotInteger) ≡ gives z
+        → (m : ℕ) × (Value n ≡ Value m) × (m ≤ 2 ^ 31 - 1) × (pos m ≡ z)
     go true p e = (n, refl, leb-true n (2 ^ 31 - 1) p, gives-same e)
     go false p e = given-refused (sym e)
 
@@ -84,7 +86,8 @@ negative-given : (x : Number) (z : ℤ) → negative x ≡ gives z → (n : ℕ)
 negative-given No z e = given-refused (sym e)
 negative-given (Value n) z e = go (leb n (2 ^ 31)) refl e
   where
-    go : (t : Bool) → leb n (2 ^ 31) ≡ t → pick t (gives (minus n)) (refuses Refusal.NotInteger) ≡ gives z → (m : ℕ) × (Value n ≡ Value m) × (m ≤ 2 ^ 31) × (minus m ≡ z)
+    go : (t : Bool) → leb n (2 ^ 31) ≡ t → pick t (gives (minus n)) (refuses Refusal.NotInteger) ≡ gives z
+        → (m : ℕ) × (Value n ≡ Value m) × (m ≤ 2 ^ 31) × (minus m ≡ z)
     go true p e = (n, refl, leb-true n (2 ^ 31) p, gives-same e)
     go false p e = given-refused (sym e)
 
@@ -96,9 +99,12 @@ integer-text-given t z = (there t, back)
     there [] e = given-refused (sym e)
     there (b ∷ s) e = go (eqb b 43) (eqb b 45) refl refl e
       where
-        go : (x y : Bool) → eqb b 43 ≡ x → eqb b 45 ≡ y → pick x (positive (digitsOf s)) (pick y (negative (digitsOf s)) (positive (digitsOf (b ∷ s)))) ≡ gives z → Integer (b ∷ s) z
-        go true y p q e = let w = positive-given (digitsOf s) z e in subst (Integer (b ∷ s)) (w .3) (plus-sign (eqb-true b 43 p) (w .1) (w .2))
-        go false true p q e = let w = negative-given (digitsOf s) z e in subst (Integer (b ∷ s)) (w .3) (minus-sign (eqb-true b 45 q) (w .1) (w .2))
+        go : (x y : Bool) → eqb b 43 ≡ x → eqb b 45 ≡ y
+            → pick x (positive (digitsOf s)) (pick y (negative (digitsOf s)) (positive (digitsOf (b ∷ s)))) ≡ gives z → Integer (b ∷ s) z
+        go true y p q e = let w = positive-given (digitsOf s) z e in
+            subst (Integer (b ∷ s)) (w .3) (plus-sign (eqb-true b 43 p) (w .1) (w .2))
+        go false true p q e = let w = negative-given (digitsOf s) z e in
+            subst (Integer (b ∷ s)) (w .3) (minus-sign (eqb-true b 45 q) (w .1) (w .2))
         go false false p q e = let w = positive-given (digitsOf (b ∷ s)) z e in subst (Integer (b ∷ s)) (w .3) (unsigned (w .1) (w .2))
 
     bare : (b : ℕ) (s : List ℕ) (n : ℕ) → digitsOf (b ∷ s) ≡ Value n → n ≤ 2 ^ 31 - 1 → (x y : Bool) → eqb b 43 ≡ x → eqb b 45 ≡ y →
@@ -111,9 +117,11 @@ integer-text-given t z = (there t, back)
     back (unsigned {s = []} p h) = no-value p
     back (unsigned {s = b ∷ s} {n = n} p h) = bare b s n p h (eqb b 43) (eqb b 45) refl refl
     back (plus-sign {b = b} {s = s} {n = n} e p h) =
-        ap (λ (x : Bool). pick x (positive (digitsOf s)) (pick (eqb b 45) (negative (digitsOf s)) (positive (digitsOf (b ∷ s))))) (eq-eqb b 43 e) ∙ ap positive p ∙ rw (le-leb n (2 ^ 31 - 1) h)
+        ap (λ (x : Bool). pick x (positive (digitsOf s)) (pick (eqb b 45) (negative (digitsOf s)) (positive (digitsOf (b ∷ s)))))
+        (eq-eqb b 43 e) ∙ ap positive p ∙ rw (le-leb n (2 ^ 31 - 1) h)
     back (minus-sign {b = b} {s = s} {n = n} e p h) =
-        ap (λ (x : ℕ). pick (eqb x 43) (positive (digitsOf s)) (pick (eqb x 45) (negative (digitsOf s)) (positive (digitsOf (x ∷ s))))) e ∙ ap negative p ∙ rw (le-leb n (2 ^ 31) h)
+        ap (λ (x : ℕ). pick (eqb x 43) (positive (digitsOf s)) (pick (eqb x 45) (negative (digitsOf s)) (positive (digitsOf (x ∷ s))))) e
+        ∙ ap negative p ∙ rw (le-leb n (2 ^ 31) h)
 
 -- "12 not an integer"
 pub data NotAnInteger (text : List ℕ) : Refusal → Type 0 where
@@ -140,7 +148,8 @@ integer-text-refusal t r =
     twelve [] e = sym (refuses-same e)
     twelve (b ∷ s) {q} e = go (eqb b 43) (eqb b 45) e
       where
-        go : (x y : Bool) → pick x (positive (digitsOf s)) (pick y (negative (digitsOf s)) (positive (digitsOf (b ∷ s)))) ≡ refuses q → q ≡ Refusal.NotInteger
+        go : (x y : Bool) → pick x (positive (digitsOf s)) (pick y (negative (digitsOf s)) (positive (digitsOf (b ∷ s)))) ≡ refuses q
+            → q ≡ Refusal.NotInteger
         go true y e = ofPositive (digitsOf s) e
         go false true e = ofNegative (digitsOf s) e
         go false false e = ofPositive (digitsOf (b ∷ s)) e

@@ -1,5 +1,5 @@
--- What a reading sees of a table where the drain fails or a token error stands: the condition of 9, and what is met when the rows run out, both said of
--- the table and not of the view.
+-- What a reading sees of a table where the drain fails or a token error stands: the condition of 9, and what is met when the rows run out,
+-- both said of the table and not of the view.
 use Prim.Native.Nat.{ℕ}
 use mathlib.Core.Path.{_≡_, refl, sym, _∙_, ap, subst}
 use mathlib.Core.Logic.{_↔_}
@@ -46,28 +46,37 @@ module _ (u : Upload) where
 
   -- what a text meets where the rows run out: under strict reading the cause that the drain gives, 8, 9 or 7; otherwise 8, at a token error
   pub data Stopped : Bool → Refusal → Type 0 where
-    at-drain : {row : ℕ} {cause : Cause} → drained (u .body) (u .rows) (u .end) ≡ Drained.IllFormed row cause → Stopped true (failureOf cause)
+    at-drain : {row : ℕ} {cause : Cause} → drained (u .body) (u .rows) (u .end) ≡ Drained.IllFormed row cause
+        → Stopped true (failureOf cause)
     at-error : {k : ℕ} → errorAt (toksOf (u .body) (rowsOf (u .rows))) ≡ some k → Stopped false Refusal.TokenError
 
   -- the walk is the drain, where the rules hold
-  drained-walk : TableRules (u .body) (u .rows) (u .end) → drained (u .body) (u .rows) (u .end) ≡ walked (toksOf (u .body) (rowsOf (u .rows)))
+  drained-walk : TableRules (u .body) (u .rows) (u .end)
+      → drained (u .body) (u .rows) (u .end) ≡ walked (toksOf (u .body) (rowsOf (u .rows)))
   unfolding drained
   drained-walk t = go (decTable (u .body) (u .rows) (u .end))
     where
-      go : (d : Dec (TableRules (u .body) (u .rows) (u .end))) → drainedBy d (toksOf (u .body) (rowsOf (u .rows))) ≡ walked (toksOf (u .body) (rowsOf (u .rows)))
+      go : (d : Dec (TableRules (u .body) (u .rows) (u .end)))
+          → drainedBy d (toksOf (u .body) (rowsOf (u .rows))) ≡ walked (toksOf (u .body) (rowsOf (u .rows)))
       go (yes rules) = refl
       go (no broken) = absurd (broken t)
 
-  view-fails : (strict : Bool) → TableRules (u .body) (u .rows) (u .end) → (view strict (u .body) (rowsOf (u .rows)) (u .end) .illFormed ≡ true) ↔ DrainFails strict
+  view-fails : (strict : Bool) → TableRules (u .body) (u .rows) (u .end)
+      → (view strict (u .body) (rowsOf (u .rows)) (u .end) .illFormed ≡ true) ↔ DrainFails strict
   unfolding view
-  view-fails true t = (go (walked (toksOf (u .body) (rowsOf (u .rows)))) (drained-walk t), λ w. back (walked (toksOf (u .body) (rowsOf (u .rows)))) (drained-walk t) w)
+  view-fails true t = (
+    go (walked (toksOf (u .body) (rowsOf (u .rows)))) (drained-walk t),
+    λ w. back (walked (toksOf (u .body) (rowsOf (u .rows)))) (drained-walk t) w,
+  )
     where
-      go : (x : Drained) → drained (u .body) (u .rows) (u .end) ≡ x → strictView (rowsOf (u .rows)) (u .end) x .illFormed ≡ true → DrainFails true
+      go : (x : Drained) → drained (u .body) (u .rows) (u .end) ≡ x → strictView (rowsOf (u .rows)) (u .end) x .illFormed ≡ true
+          → DrainFails true
       go Drained.Passes p e = false-true e
       go Drained.Table p e = false-true e
       go (Drained.IllFormed k c) p e = record { strictly = refl; row = k; cause = c; drain = p }
 
-      back : (x : Drained) → drained (u .body) (u .rows) (u .end) ≡ x → DrainFails true → strictView (rowsOf (u .rows)) (u .end) x .illFormed ≡ true
+      back : (x : Drained) → drained (u .body) (u .rows) (u .end) ≡ x → DrainFails true
+          → strictView (rowsOf (u .rows)) (u .end) x .illFormed ≡ true
       back Drained.Passes p w = not-ill (sym p ∙ w .drain)
       back Drained.Table p w = table-not-ill (sym p ∙ w .drain)
       back (Drained.IllFormed k c) p w = refl
@@ -77,26 +86,35 @@ module _ (u : Upload) where
       go none e = false-true e
       go (some k) e = false-true e
 
-  view-stops : (strict : Bool) → TableRules (u .body) (u .rows) (u .end) → (r : Refusal) → (view strict (u .body) (rowsOf (u .rows)) (u .end) .failure ≡ some r) ↔ Stopped strict r
+  view-stops : (strict : Bool) → TableRules (u .body) (u .rows) (u .end) → (r : Refusal)
+      → (view strict (u .body) (rowsOf (u .rows)) (u .end) .failure ≡ some r) ↔ Stopped strict r
   unfolding view
-  view-stops true t r = (go (walked (toksOf (u .body) (rowsOf (u .rows)))) (drained-walk t), back (walked (toksOf (u .body) (rowsOf (u .rows)))) (drained-walk t))
+  view-stops true t r = (
+    go (walked (toksOf (u .body) (rowsOf (u .rows)))) (drained-walk t),
+    back (walked (toksOf (u .body) (rowsOf (u .rows)))) (drained-walk t),
+  )
     where
-      go : (x : Drained) → drained (u .body) (u .rows) (u .end) ≡ x → strictView (rowsOf (u .rows)) (u .end) x .failure ≡ some r → Stopped true r
+      go : (x : Drained) → drained (u .body) (u .rows) (u .end) ≡ x → strictView (rowsOf (u .rows)) (u .end) x .failure ≡ some r
+          → Stopped true r
       go Drained.Passes p e = absurd (Option·none-ne-some r e)
       go Drained.Table p e = absurd (Option·none-ne-some r e)
       go (Drained.IllFormed k c) p e = subst (Stopped true) (Option·some-injective _ _ e) (at-drain p)
 
-      back : (x : Drained) → drained (u .body) (u .rows) (u .end) ≡ x → {n : Refusal} → Stopped true n → strictView (rowsOf (u .rows)) (u .end) x .failure ≡ some n
+      back : (x : Drained) → drained (u .body) (u .rows) (u .end) ≡ x → {n : Refusal} → Stopped true n
+          → strictView (rowsOf (u .rows)) (u .end) x .failure ≡ some n
       back Drained.Passes p (at-drain e) = not-ill (sym p ∙ e)
       back Drained.Table p (at-drain e) = table-not-ill (sym p ∙ e)
-      back (Drained.IllFormed k c) p (at-drain {cause = d} e) = let q : c ≡ d = ill-same (sym p ∙ e) in ap (λ (x : Cause). some (failureOf x)) q
+      back (Drained.IllFormed k c) p (at-drain {cause = d} e) = let q : c ≡ d = ill-same (sym p ∙ e) in
+          ap (λ (x : Cause). some (failureOf x)) q
   view-stops false t r = (go (errorAt (toksOf (u .body) (rowsOf (u .rows)))) refl, back)
     where
-      go : (x : Option ℕ) → errorAt (toksOf (u .body) (rowsOf (u .rows))) ≡ x → lenientView (rowsOf (u .rows)) (u .end) x .failure ≡ some r → Stopped false r
+      go : (x : Option ℕ) → errorAt (toksOf (u .body) (rowsOf (u .rows))) ≡ x → lenientView (rowsOf (u .rows)) (u .end) x .failure ≡ some r
+          → Stopped false r
       go none p e = absurd (Option·none-ne-some r e)
       go (some k) p e = subst (Stopped false) (Option·some-injective _ _ e) (at-error p)
 
-      back : {n : Refusal} → Stopped false n → lenientView (rowsOf (u .rows)) (u .end) (errorAt (toksOf (u .body) (rowsOf (u .rows)))) .failure ≡ some n
+      back : {n : Refusal} → Stopped false n
+          → lenientView (rowsOf (u .rows)) (u .end) (errorAt (toksOf (u .body) (rowsOf (u .rows)))) .failure ≡ some n
       back (at-error e) = rw e
 
   -- the same of what is opened

@@ -1,5 +1,5 @@
--- 01, "Whole text": "1, 9, 4, 6 (any element inside the root), 10", each exactly where its condition holds, on every input. It is never 7: what passes the
--- drain unescapes.
+-- 01, "Whole text": "1, 9, 4, 6 (any element inside the root), 10", each exactly where its condition holds, on every input. It is never 7:
+-- what passes the drain unescapes.
 use Prim.Native.Nat.{ℕ, suc, _<_}
 use mathlib.Core.Path.{_≡_, refl, sym, _∙_, ap, subst, subst⁻¹}
 use mathlib.Core.Logic.{_↔_}
@@ -21,7 +21,8 @@ use Rattle.xml.specs.Drain.{drained}
 use Rattle.xml.proofs.First.{drained-table-is}
 use Rattle.xml.proofs.Means.{drained-passes-is}
 use Rattle.document.specs.declared.Depth.{Depth}
-use Rattle.document.specs.Reader.{Reader, reader, fresh, depthAfter, Scope, document, isEnd, endsAt, StartEl, blank, Turn, goes, complete, over, turn, Next, found, gone, takeTurn, next}
+use Rattle.document.specs.Reader.{Reader, reader, fresh, depthAfter, Scope, document, isEnd, endsAt, StartEl, blank, Turn, goes, complete}
+use Rattle.document.specs.Reader.{over, turn, Next, found, gone, takeTurn, next}
 use Rattle.document.specs.Scope.{Child, scopeOf, rootOf, onRoot, nextFrom}
 use Rattle.document.specs.Text.{unescapedText, textTurn, takeEach, joined, wholeOf}
 use Rattle.readings.specs.Call.{Upload}
@@ -47,7 +48,8 @@ abbrev isFound : Next → Bool
 isFound (found el r) = true
 isFound (gone p) = false
 
-pub next-rest : (s : Scope) (o : StartEl) (d : Depth) (k : ℕ) (l : List Tok) {el : StartEl} {r : Reader} → next s o d k l ≡ found el r → {t : Tok} → List·Memᴰ t (r .rest) → List·Memᴰ t l
+pub next-rest : (s : Scope) (o : StartEl) (d : Depth) (k : ℕ) (l : List Tok) {el : StartEl} {r : Reader} → next s o d k l ≡ found el r
+    → {t : Tok} → List·Memᴰ t (r .rest) → List·Memᴰ t l
 unfolding next
 next-rest s o d k [] e i = false-true (ap isFound e)
 next-rest s o d k (x ∷ l) {el} {r} e {t} i = go (turn s o d k x) e (λ (o' : StartEl) q. next-rest s o' (depthAfter x d) (suc k) l q i)
@@ -63,7 +65,8 @@ unfolding rootOf
 root-rest toks c e t i = go (nextFrom document (fresh toks)) refl e
   where
     go : (n : Next) → nextFrom document (fresh toks) ≡ n → onRoot n ≡ some c → List·Memᴰ t toks
-    go (found el r) p e = next-rest document blank _ _ toks p (subst⁻¹ (λ (x : Child). List·Memᴰ t (x .inner .rest)) (Option·some-injective _ _ e) i)
+    go (found el r) p e = next-rest document blank _ _ toks p
+        (subst⁻¹ (λ (x : Child). List·Memᴰ t (x .inner .rest)) (Option·some-injective _ _ e) i)
     go (gone q) p e = absurd (Option·none-ne-some c e)
 
 -- ---- what passes the drain unescapes
@@ -74,7 +77,8 @@ member-parts : {t : Tok} {l : List Tok} → List·Memᴰ t l → (a : List Tok) 
 member-parts {t} (List·Memᴰ·head {xs = l} e) = ([], l, ap (λ (x : Tok). x ∷ l) (sym e))
 member-parts {t} (List·Memᴰ·tail {x = x} i) = let w = member-parts i in (x ∷ w .0, w .1, ap (λ (k : List Tok). x ∷ k) (w .2))
 
-pub passed-unescapes : (u : Upload) → drained (u .body) (u .rows) (u .end) ≡ Drained.Passes → Unescapes (toksOf (u .body) (rowsOf (u .rows)))
+pub passed-unescapes : (u : Upload) → drained (u .body) (u .rows) (u .end) ≡ Drained.Passes
+    → Unescapes (toksOf (u .body) (rowsOf (u .rows)))
 passed-unescapes u e v i =
     let w = member-parts i in
     valid-unescapes v (drained-passes-is (u .body) (u .rows) (u .end) .0 e .wellFormed .textValues (w .0) v (w .1) (w .2))
@@ -82,23 +86,28 @@ passed-unescapes u e v i =
 -- ---- "6 (any element inside the root)": a start tag before the end of the scope
 pub data ElementAhead (s : Scope) : Depth → List Tok → Type 0 where
   element-here : {d : Depth} {n : Name} {l : List Tok} → ElementAhead s d (start n ∷ l)
-  element-later : {d : Depth} {t : Tok} {l : List Tok} → endsAt s (depthAfter t d) t ≡ false → ElementAhead s (depthAfter t d) l → ElementAhead s d (t ∷ l)
+  element-later : {d : Depth} {t : Tok} {l : List Tok} → endsAt s (depthAfter t d) t ≡ false → ElementAhead s (depthAfter t d) l
+      → ElementAhead s d (t ∷ l)
 
-joined-refused : (s : Scope) (d : Depth) (l : List Tok) → Unescapes l → {r : Refusal} → joined s d l ≡ refuses r → (r ≡ Refusal.ElementInText) × ElementAhead s d l
+joined-refused : (s : Scope) (d : Depth) (l : List Tok) → Unescapes l → {r : Refusal} → joined s d l ≡ refuses r
+    → (r ≡ Refusal.ElementInText) × ElementAhead s d l
 unfolding joined
 joined-refused s d [] u e = given-refused e
 joined-refused s d (start n ∷ l) u e = (sym (refuses-same e), element-here)
 joined-refused s d (attr m v ∷ l) u e = let w = joined-refused s d l (λ x i. u x (List·Memᴰ·tail i)) e in (w .0, element-later refl (w .1))
 joined-refused s d (gt ∷ l) u e = let w = joined-refused s d l (λ x i. u x (List·Memᴰ·tail i)) e in (w .0, element-later refl (w .1))
-joined-refused s d (close m ∷ l) u {r} e = go (isEnd s (depthAfter (close m) d) m) refl e (λ q. joined-refused s (depthAfter (close m) d) l (λ x i. u x (List·Memᴰ·tail i)) q)
+joined-refused s d (close m ∷ l) u {r} e =
+    go (isEnd s (depthAfter (close m) d) m) refl e (λ q. joined-refused s (depthAfter (close m) d) l (λ x i. u x (List·Memᴰ·tail i)) q)
   where
     go : (b : Bool) → isEnd s (depthAfter (close m) d) m ≡ b → pick b (gives []) (joined s (depthAfter (close m) d) l) ≡ refuses r →
         (joined s (depthAfter (close m) d) l ≡ refuses r → (r ≡ Refusal.ElementInText) × ElementAhead s (depthAfter (close m) d) l) →
         (r ≡ Refusal.ElementInText) × ElementAhead s d (close m ∷ l)
     go true p e ih = given-refused e
     go false p e ih = let w = ih e in (w .0, element-later p (w .1))
-joined-refused s d (slash ∷ l) u e = let w = joined-refused s (depthAfter slash d) l (λ x i. u x (List·Memᴰ·tail i)) e in (w .0, element-later refl (w .1))
-joined-refused s d (matter (text v) ∷ l) u {r} e = go (unescaped v) (u v (List·Memᴰ·head refl)) e (λ q. joined-refused s d l (λ x i. u x (List·Memᴰ·tail i)) q)
+joined-refused s d (slash ∷ l) u e =
+    let w = joined-refused s (depthAfter slash d) l (λ x i. u x (List·Memᴰ·tail i)) e in (w .0, element-later refl (w .1))
+joined-refused s d (matter (text v) ∷ l) u {r} e =
+    go (unescaped v) (u v (List·Memᴰ·head refl)) e (λ q. joined-refused s d l (λ x i. u x (List·Memᴰ·tail i)) q)
   where
     more : (a : Answer (List ℕ)) (front : List ℕ) → onward a (λ (rest : List ℕ). gives (front ++ rest)) ≡ refuses r → a ≡ refuses r
     more (gives rest) front e = given-refused e
@@ -106,14 +115,17 @@ joined-refused s d (matter (text v) ∷ l) u {r} e = go (unescaped v) (u v (List
 
     go : (o : Out) → (b : List ℕ) × (o ≡ text.bytes b) →
         onward (unescapedText o) (λ (front : List ℕ). onward (joined s d l) (λ (rest : List ℕ). gives (front ++ rest))) ≡ refuses r →
-        (joined s d l ≡ refuses r → (r ≡ Refusal.ElementInText) × ElementAhead s d l) → (r ≡ Refusal.ElementInText) × ElementAhead s d (matter (text v) ∷ l)
+        (joined s d l ≡ refuses r → (r ≡ Refusal.ElementInText) × ElementAhead s d l)
+        → (r ≡ Refusal.ElementInText) × ElementAhead s d (matter (text v) ∷ l)
     go (text.bytes b) p e ih = let w = ih (more (joined s d l) b e) in (w .0, element-later refl (w .1))
     go (text.bad at) p e ih = not-bytes (p .1)
-joined-refused s d (matter misc ∷ l) u e = let w = joined-refused s d l (λ x i. u x (List·Memᴰ·tail i)) e in (w .0, element-later refl (w .1))
+joined-refused s d (matter misc ∷ l) u e =
+    let w = joined-refused s d l (λ x i. u x (List·Memᴰ·tail i)) e in (w .0, element-later refl (w .1))
 joined-refused s d (bad ∷ l) u e = let w = joined-refused s d l (λ x i. u x (List·Memᴰ·tail i)) e in (w .0, element-later refl (w .1))
 
 -- a token that is no end hands on the refusal of those after it
-hands-on : (s : Scope) (d : Depth) (t : Tok) (more : Answer (List ℕ)) → ((v : List ℕ) → t ≡ matter (text v) → (b : List ℕ) × (unescaped v ≡ text.bytes b)) → endsAt s d t ≡ false →
+hands-on : (s : Scope) (d : Depth) (t : Tok) (more : Answer (List ℕ))
+    → ((v : List ℕ) → t ≡ matter (text v) → (b : List ℕ) × (unescaped v ≡ text.bytes b)) → endsAt s d t ≡ false →
     more ≡ refuses Refusal.ElementInText → textTurn takeEach s d t more ≡ refuses Refusal.ElementInText
 hands-on s d (start n) more u e q = refl
 hands-on s d (attr m v) more u e q = q
@@ -128,7 +140,8 @@ refused-joined : {s : Scope} {d : Depth} {l : List Tok} → Unescapes l → Elem
 unfolding joined
 refused-joined u element-here = refl
 refused-joined {s = s} u (element-later {d = d} {t = t} {l = l} e w) =
-    hands-on s (depthAfter t d) t (joined s (depthAfter t d) l) (λ (v : List ℕ) q. u v (List·Memᴰ·head (sym q))) e (refused-joined (λ x i. u x (List·Memᴰ·tail i)) w)
+    hands-on s (depthAfter t d) t (joined s (depthAfter t d) l) (λ (v : List ℕ) q. u v (List·Memᴰ·head (sym q))) e
+    (refused-joined (λ x i. u x (List·Memᴰ·tail i)) w)
 
 -- an element that did not end in `/>`, with an element inside it
 pub record HasElement (c : Child) : Type 0 where
@@ -139,9 +152,11 @@ whole-element : (c : Child) (r : Refusal) → Unescapes (c .inner .rest) → who
 unfolding wholeOf
 whole-element c r u e = go (c .start .closed) refl e
   where
-    go : (b : Bool) → c .start .closed ≡ b → pick b (gives []) (joined (scopeOf (c .start)) (c .inner .depth) (c .inner .rest)) ≡ refuses r → (r ≡ Refusal.ElementInText) × HasElement c
+    go : (b : Bool) → c .start .closed ≡ b → pick b (gives []) (joined (scopeOf (c .start)) (c .inner .depth) (c .inner .rest)) ≡ refuses r
+        → (r ≡ Refusal.ElementInText) × HasElement c
     go true p e = given-refused e
-    go false p e = let w = joined-refused (scopeOf (c .start)) (c .inner .depth) (c .inner .rest) u e in (w .0, record { notClosed = p; inside = w .1 })
+    go false p e = let w = joined-refused (scopeOf (c .start)) (c .inner .depth) (c .inner .rest) u e in
+        (w .0, record { notClosed = p; inside = w .1 })
 
 element-whole : (c : Child) → Unescapes (c .inner .rest) → HasElement c → wholeOf c ≡ refuses Refusal.ElementInText
 unfolding wholeOf
@@ -155,13 +170,16 @@ module _ (u : Upload) (room : ℕ) where
     -- "1"
     whole-table : TableBroken u → WholeRefused Refusal.Table
     -- "9"
-    whole-ill-formed : {row : ℕ} {cause : Cause} → drained (u .body) (u .rows) (u .end) ≡ Drained.IllFormed row cause → WholeRefused Refusal.IllFormed
+    whole-ill-formed : {row : ℕ} {cause : Cause} → drained (u .body) (u .rows) (u .end) ≡ Drained.IllFormed row cause
+        → WholeRefused Refusal.IllFormed
     -- "4"
     whole-no-root : drained (u .body) (u .rows) (u .end) ≡ Drained.Passes → root ≡ none → WholeRefused Refusal.NoRoot
     -- "6 (any element inside the root)"
-    whole-has-element : {c : Child} → drained (u .body) (u .rows) (u .end) ≡ Drained.Passes → root ≡ some c → HasElement c → WholeRefused Refusal.ElementInText
+    whole-has-element : {c : Child} → drained (u .body) (u .rows) (u .end) ≡ Drained.Passes → root ≡ some c → HasElement c
+        → WholeRefused Refusal.ElementInText
     -- "10"
-    whole-no-room : {c : Child} {text : List ℕ} → drained (u .body) (u .rows) (u .end) ≡ Drained.Passes → root ≡ some c → wholeOf c ≡ gives text → room < length text →
+    whole-no-room : {c : Child} {text : List ℕ} → drained (u .body) (u .rows) (u .end) ≡ Drained.Passes → root ≡ some c
+        → wholeOf c ≡ gives text → room < length text →
         WholeRefused Refusal.NoRoom
 
   pub whole-text-refusal : (r : Refusal) → (wholeText u room ≡ refuses r) ↔ WholeRefused r
@@ -171,10 +189,12 @@ module _ (u : Upload) (room : ℕ) where
       inner : drained (u .body) (u .rows) (u .end) ≡ Drained.Passes → {c : Child} → root ≡ some c → Unescapes (c .inner .rest)
       inner p {c} q v i = passed-unescapes u p v (root-rest (toksOf (u .body) (rowsOf (u .rows))) c q (matter (text v)) i)
 
-      long : {c : Child} {t : List ℕ} → drained (u .body) (u .rows) (u .end) ≡ Drained.Passes → root ≡ some c → wholeOf c ≡ gives t → {q : Refusal} → StringTooLong room t q → WholeRefused q
+      long : {c : Child} {t : List ℕ} → drained (u .body) (u .rows) (u .end) ≡ Drained.Passes → root ≡ some c → wholeOf c ≡ gives t
+          → {q : Refusal} → StringTooLong room t q → WholeRefused q
       long p c w (too-long h) = whole-no-room p c w h
 
-      onText : (c : Child) (a : Answer (List ℕ)) → wholeOf c ≡ a → drained (u .body) (u .rows) (u .end) ≡ Drained.Passes → root ≡ some c → onward a (stringIn room) ≡ refuses r → WholeRefused r
+      onText : (c : Child) (a : Answer (List ℕ)) → wholeOf c ≡ a → drained (u .body) (u .rows) (u .end) ≡ Drained.Passes → root ≡ some c
+          → onward a (stringIn room) ≡ refuses r → WholeRefused r
       onText c (gives t) w p q e = long p q w (string-text-refusal room t r .0 e)
       onText c (refuses n) w p q e =
           let k = whole-element c n (inner p q) w in
@@ -191,7 +211,9 @@ module _ (u : Upload) (room : ℕ) where
       onDrain Drained.Table p e = subst WholeRefused (refuses-same e) (whole-table (drained-table-is (u .body) (u .rows) (u .end) .0 p))
       onDrain (Drained.IllFormed k c) p e = subst WholeRefused (refuses-same e) (whole-ill-formed p)
 
-      back : {n : Refusal} → WholeRefused n → passing (drained (u .body) (u .rows) (u .end)) (onward (present Refusal.NoRoot root) (λ (c : Child). onward (wholeOf c) (stringIn room))) ≡ refuses n
+      back : {n : Refusal} → WholeRefused n
+          → passing (drained (u .body) (u .rows) (u .end))
+          (onward (present Refusal.NoRoot root) (λ (c : Child). onward (wholeOf c) (stringIn room))) ≡ refuses n
       back (whole-table b) = rw (drained-table-is (u .body) (u .rows) (u .end) .1 b)
       back (whole-ill-formed p) = rw p
       back (whole-no-root p q) = rw (p, q)

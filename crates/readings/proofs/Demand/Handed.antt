@@ -1,4 +1,5 @@
--- Demand 3: what is written of texts, elements, groups of elements and texts that have an element inside is handed out as promised (specs/Demand.antt).
+-- Demand 3: what is written of texts, elements, groups of elements and texts that have an element inside is handed out as promised
+-- (specs/Demand.antt).
 use Prim.Native.Nat.{ℕ, _+_, _≤_}
 use mathlib.Core.Path.{_≡_, refl, ap}
 use mathlib.Core.List.{List, _++_}
@@ -36,7 +37,8 @@ module _ (u : Upload) (sheet : List ℕ) where
         key = omega (arith, h .key, length-append texts more);
         text = λ q. omega (arith, h .text q, length-append texts more);
         piece = h .piece;
-        group = λ q. let g = h .group q in (omega (arith, g .0, length-append texts more), rw (cut-longer texts more (e .start) (e .len) (g .0)) (g .1));
+        group = λ q. let g = h .group q in
+            (omega (arith, g .0, length-append texts more), rw (cut-longer texts more (e .start) (e .len) (g .0)) (g .1));
         failed = h .failed;
       }
 
@@ -44,15 +46,32 @@ module _ (u : Upload) (sheet : List ℕ) where
   abbrev pub HandedSource : (ℕ → Entry) → List ℕ → Type 0
   HandedSource = Source Anything Anything (λ (r : Refusal). r ≡ Refusal.ElementInText) (GroupBytes u sheet) (IsElement u)
 
-  text-handed : {texts : List ℕ} (e : Entry) → e .kind ≡ textKind → e .keyStart + e .keyLen ≤ length texts → e .start + e .len ≤ length texts → Handed u sheet texts e
+  text-handed : {texts : List ℕ} (e : Entry) → e .kind ≡ textKind → e .keyStart + e .keyLen ≤ length texts
+      → e .start + e .len ≤ length texts → Handed u sheet texts e
   text-handed e q k t =
-      record { kinds = omega arith; key = k; text = λ p. t; piece = λ p. absurd (omega arith); group = λ p. absurd (omega arith); failed = λ p. absurd (omega arith) }
+      record {
+        kinds = omega arith;
+        key = k;
+        text = λ p. t;
+        piece = λ p. absurd (omega arith);
+        group = λ p. absurd (omega arith);
+        failed = λ p. absurd (omega arith);
+      }
 
-  piece-handed : {texts : List ℕ} (e : Entry) → e .kind ≡ pieceKind → e .keyStart + e .keyLen ≤ length texts → ElementPiece (u .body) (u .rows) (e .start) (e .len) → Handed u sheet texts e
+  piece-handed : {texts : List ℕ} (e : Entry) → e .kind ≡ pieceKind → e .keyStart + e .keyLen ≤ length texts
+      → ElementPiece (u .body) (u .rows) (e .start) (e .len) → Handed u sheet texts e
   piece-handed e q k x =
-      record { kinds = omega arith; key = k; text = λ p. absurd (omega arith); piece = λ p. x; group = λ p. absurd (omega arith); failed = λ p. absurd (omega arith) }
+      record {
+        kinds = omega arith;
+        key = k;
+        text = λ p. absurd (omega arith);
+        piece = λ p. x;
+        group = λ p. absurd (omega arith);
+        failed = λ p. absurd (omega arith);
+      }
 
-  group-handed : (texts : List ℕ) (i : ℕ) (bytes : List ℕ) → GroupBytes u sheet i bytes → Handed u sheet (texts ++ bytes) (groupEntry i bytes (length texts))
+  group-handed : (texts : List ℕ) (i : ℕ) (bytes : List ℕ) → GroupBytes u sheet i bytes
+      → Handed u sheet (texts ++ bytes) (groupEntry i bytes (length texts))
   group-handed texts i bytes g =
       record {
         kinds = omega arith;
@@ -63,7 +82,8 @@ module _ (u : Upload) (sheet : List ℕ) where
         failed = λ p. absurd (omega arith);
       }
 
-  source-handed : (texts : List ℕ) {entry : ℕ → Entry} {bytes : List ℕ} → HandedSource entry bytes → Handed u sheet (texts ++ bytes) (entry (length texts))
+  source-handed : (texts : List ℕ) {entry : ℕ → Entry} {bytes : List ℕ} → HandedSource entry bytes
+      → Handed u sheet (texts ++ bytes) (entry (length texts))
   source-handed texts (of-text {b = b} m t) = text-handed _ refl (omega arith) (omega (arith, length-append texts b))
   source-handed texts (of-failed m r) =
       record {
@@ -94,5 +114,6 @@ module _ (u : Upload) (sheet : List ℕ) where
       record {
         start = none-handed;
         idle = λ n m out h q. q;
-        write = λ n out entry bytes s f q. record { each = every-snoc (every-map (handed-longer bytes) (q .each)) (source-handed (out .texts) s) };
+        write = λ n out entry bytes s f q.
+            record { each = every-snoc (every-map (handed-longer bytes) (q .each)) (source-handed (out .texts) s) };
       }

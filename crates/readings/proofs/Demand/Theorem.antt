@@ -1,5 +1,5 @@
--- DEMAND 3: for every body and table that the strict drain passes, a structure, list or map reading, strict or lenient, with any sheet, settings, depth, room
--- and order of groups, keeps the promise of specs/Demand.antt.
+-- DEMAND 3: for every body and table that the strict drain passes, a structure, list or map reading, strict or lenient, with any sheet,
+-- settings, depth, room and order of groups, keeps the promise of specs/Demand.antt.
 use Prim.Native.Nat.{ℕ}
 use mathlib.Core.Path.{_≡_, refl, sym, _∙_, subst}
 use mathlib.Core.Bool.{Bool, true, false}
@@ -25,7 +25,8 @@ use Rattle.document.specs.Scope.{Child, childrenOf, dropping, afterChildren, ro
 use Rattle.document.specs.Text.{textOf}
 use Rattle.document.proofs.Passed.View.{view-passed}
 use Rattle.document.proofs.Passed.Walks.{either-past, PastElements, level-in, dropping-past, after-children-past}
-use Rattle.document.proofs.Passed.Pieces.{Met, met, inside-met, children-met, RootMet, root-met, no-root, document-root, TextOrElement, is-text, is-element, text-met, element-row, IsPieceAt, piece-met}
+use Rattle.document.proofs.Passed.Pieces.{Met, met, inside-met, children-met, RootMet, root-met, no-root, document-root, TextOrElement}
+use Rattle.document.proofs.Passed.Pieces.{is-text, is-element, text-met, element-row, IsPieceAt, piece-met}
 use Rattle.sheet.specs.Settings.{isStrict}
 use Rattle.sheet.specs.Sheet.{Structure}
 use Rattle.sheet.specs.Names.{entryName}
@@ -35,11 +36,13 @@ use Rattle.readings.specs.Opening.{Asked}
 use Rattle.readings.specs.Structure.{inGroup, siblings, groupOf, rootPiece}
 use Rattle.readings.specs.Collection.{isWanted, afterEntry, entriesOf}
 use Rattle.readings.specs.Shape.{Shape, structure, list, map, strings, SheetOf, sheetOf, read}
-use Rattle.readings.specs.Demand.{Siblings, no-child, sibling, stranger, GroupBytes, Handed, TextWanted, of-item, of-field, ReadOf, MayRefuse, broken-sheet, depth-limit, element-in-text, groups-no-room, Promised, finishes, Demand3}
+use Rattle.readings.specs.Demand.{Siblings, no-child, sibling, stranger, GroupBytes, Handed, TextWanted, of-item, of-field, ReadOf}
+use Rattle.readings.specs.Demand.{MayRefuse, broken-sheet, depth-limit, element-in-text, groups-no-room, Promised, finishes, Demand3}
 use Rattle.readings.specs.Demand as promise
 use Rattle.readings.proofs.Conditions.Answers.{given-refused, refuses-same}
 use Rattle.readings.proofs.Conditions.Opening.{AskedRefused, by-table, by-sheet, by-depth, by-root, AskedAs}
-use Rattle.readings.proofs.Conditions.Readings.{Stops, root-differs, no-text, ill-formed, Refused, early, stops, full, groups-full, reading-refused}
+use Rattle.readings.proofs.Conditions.Readings.{Stops, root-differs, no-text, ill-formed, Refused, early, stops, full, groups-full}
+use Rattle.readings.proofs.Conditions.Readings.{reading-refused}
 use Rattle.readings.proofs.Plans.Made.{made-kept}
 use Rattle.readings.proofs.Plans.Sources.{Anything, Sources, ShapeSources}
 use Rattle.readings.proofs.Plans.Readings.{output-carried, may-stop, plan-made}
@@ -57,13 +60,16 @@ module _ (u : Upload) (passes : drained (u .body) (u .rows) (u .end) ≡ Drained
   unfolding toks seen
   piece-of c m = piece-met (u .end) passes c m
 
-  root-piece : (root : Child) → Met toks root → IsPieceAt (u .body) (u .rows) (root .start .row) (rootPiece (u .body) (record { seen = seen; root = root }))
+  root-piece : (root : Child) → Met toks root
+      → IsPieceAt (u .body) (u .rows) (root .start .row) (rootPiece (u .body) (record { seen = seen; root = root }))
   unfolding rootPiece seen toks
   root-piece root (met e d k h) =
-      rw (element-row e d k, element-closed (u .body) (rowsOf (u .rows)) e k h, element-last (u .body) (rowsOf (u .rows)) e k h) (element-piece (u .end) passes e k h)
+      rw (element-row e d k, element-closed (u .body) (rowsOf (u .rows)) e k h, element-last (u .body) (rowsOf (u .rows)) e k h)
+      (element-piece (u .end) passes e k h)
 
   -- the siblings of a group are elements, and the others are no siblings
-  siblings-are : (s : Structure) (i : ℕ) (l : List Child) → ((c : Child) → List·Memᴰ c l → Met toks c) → Siblings u s i l (siblings (u .body) seen s i l)
+  siblings-are : (s : Structure) (i : ℕ) (l : List Child) → ((c : Child) → List·Memᴰ c l → Met toks c)
+      → Siblings u s i l (siblings (u .body) seen s i l)
   unfolding siblings
   siblings-are s i [] f = no-child
   siblings-are s i (c ∷ l) f = go (inGroup s i c) refl (siblings-are s i l (λ x m. f x (List·Memᴰ·tail m)))
@@ -97,9 +103,11 @@ module _ (u : Upload) (passes : drained (u .body) (u .rows) (u .end) ≡ Drained
   -- ---- what is read
   met-root : {root : Child} → rootOf toks ≡ some root → Met toks root
   unfolding toks
-  met-root {root} e = go (document-root (toksOf (u .body) (rowsOf (u .rows))) (drained-document-is (u .body) (u .rows) (u .end) .0 passes .1)) e
+  met-root {root} e = go (document-root (toksOf (u .body) (rowsOf (u .rows)))
+      (drained-document-is (u .body) (u .rows) (u .end) .0 passes .1)) e
     where
-      go : {c : Option Child} → RootMet (toksOf (u .body) (rowsOf (u .rows))) c → c ≡ some root → Met (toksOf (u .body) (rowsOf (u .rows))) root
+      go : {c : Option Child} → RootMet (toksOf (u .body) (rowsOf (u .rows))) c → c ≡ some root
+          → Met (toksOf (u .body) (rowsOf (u .rows))) root
       go (root-met m) e = subst (Met (toksOf (u .body) (rowsOf (u .rows)))) (Option·some-injective _ _ e) m
       go no-root e = absurd (Option·none-ne-some root e)
 
@@ -138,7 +146,10 @@ module _ (u : Upload) (passes : drained (u .body) (u .rows) (u .end) ≡ Drained
           siblings = siblings-are (a .sheet) i kids (children-met toks (a .opened .root) (root sheet (structure order) a w));
           are = rw (w .seen);
         };
-        root = record { row = a .opened .root .start .row; is = rw (w .seen) (root-piece (a .opened .root) (root sheet (structure order) a w)) };
+        root = record {
+          row = a .opened .root .start .row;
+          is = rw (w .seen) (root-piece (a .opened .root) (root sheet (structure order) a w));
+        };
       }
   shape-sources sheet list a w = tt {0}
   shape-sources sheet map a w = tt {0}
@@ -146,23 +157,28 @@ module _ (u : Upload) (passes : drained (u .body) (u .rows) (u .end) ≡ Drained
 
   -- ---- where it is refused
   module _ (call : Call) (room : Room) where
-    read-of : (shape : Shape) (a : Asked (SheetOf shape)) → AskedAs u (sheetOf shape (call .sheet)) (call .settings) (call .depth) a → ReadOf u (call .sheet) shape a
+    read-of : (shape : Shape) (a : Asked (SheetOf shape)) → AskedAs u (sheetOf shape (call .sheet)) (call .settings) (call .depth) a
+        → ReadOf u (call .sheet) shape a
     read-of shape a w =
         let all = w .begun .seen ∙ view-passed (u .body) (u .rows) (u .end) passes (isStrict (call .settings) (call .depth)) in
         record { says = w .says; seen = all; root = rw all at (w .begun .root) }
 
-    before-reading : (shape : Shape) {r : Refusal} → AskedRefused u (sheetOf shape (call .sheet)) (call .settings) (call .depth) r → MayRefuse u call room shape nothing r
+    before-reading : (shape : Shape) {r : Refusal} → AskedRefused u (sheetOf shape (call .sheet)) (call .settings) (call .depth) r
+        → MayRefuse u call room shape nothing r
     before-reading shape (by-table n) = absurd (n (drained-document-is (u .body) (u .rows) (u .end) .0 passes .0))
     before-reading shape (by-sheet t q) = broken-sheet q
     before-reading shape (by-depth t q h) = depth-limit h
-    before-reading shape (by-root t q h n) = promise.no-root (rw (view-passed (u .body) (u .rows) (u .end) passes (isStrict (call .settings) (call .depth))) at n)
+    before-reading shape (by-root t q h n) =
+        promise.no-root (rw (view-passed (u .body) (u .rows) (u .end) passes (isStrict (call .settings) (call .depth))) at n)
 
     -- no view of such a table is ill-formed
-    not-ill-formed : {A : Type 0} {shape : Shape} {a : Asked (SheetOf shape)} → ReadOf u (call .sheet) shape a → a .opened .seen .illFormed ≡ true → A
+    not-ill-formed : {A : Type 0} {shape : Shape} {a : Asked (SheetOf shape)} → ReadOf u (call .sheet) shape a
+        → a .opened .seen .illFormed ≡ true → A
     not-ill-formed w e = false-true (rw (w .seen) at e)
 
     -- a text that is wanted is refused with 6
-    six : (shape : Shape) (a : Asked (SheetOf shape)) → ReadOf u (call .sheet) shape a → (c : Child) → TextWanted (call .settings) shape a c → Met toks c → {out : Output} {r : Refusal}
+    six : (shape : Shape) (a : Asked (SheetOf shape)) → ReadOf u (call .sheet) shape a → (c : Child) → TextWanted (call .settings) shape a c
+        → Met toks c → {out : Output} {r : Refusal}
         → textOf (a .opened .seen .failure) c ≡ refuses r → MayRefuse u call room shape out r
     six shape a w c wanted m {out} {r} e =
         let first : textOf none c ≡ refuses r = rw (w .seen) at e in
@@ -170,12 +186,16 @@ module _ (u : Upload) (passes : drained (u .body) (u .rows) (u .end) ≡ Drained
         rw q (element-in-text a c w wanted (rw q at first))
 
     -- a child of which a text is wanted is met
-    wanted-met : (shape : Shape) (a : Asked (SheetOf shape)) → ReadOf u (call .sheet) shape a → (c : Child) → TextWanted (call .settings) shape a c → Met toks c
+    wanted-met : (shape : Shape) (a : Asked (SheetOf shape)) → ReadOf u (call .sheet) shape a → (c : Child)
+        → TextWanted (call .settings) shape a c → Met toks c
     wanted-met strings a w c (of-item b i e) = children-met toks (a .opened .root) (root (call .sheet) strings a w) c i
-    wanted-met map a w c (of-field b {e = entry} i h j t) = children-met toks entry (entries-met (entryName (call .settings) (a .sheet)) (a .opened .root) (root (call .sheet) map a w) entry i) c j
+    wanted-met map a w c (of-field b {e = entry} i h j t) =
+        children-met toks entry (entries-met (entryName (call .settings) (a .sheet)) (a .opened .root) (root (call .sheet) map a w) entry i)
+        c j
 
     -- where the plan stops
-    stopped : (shape : Shape) (a : Asked (SheetOf shape)) → ReadOf u (call .sheet) shape a → {r : Refusal} {out : Output} → Stops (call .settings) (call .depth) shape a r
+    stopped : (shape : Shape) (a : Asked (SheetOf shape)) → ReadOf u (call .sheet) shape a → {r : Refusal} {out : Output}
+        → Stops (call .settings) (call .depth) shape a r
         → MayRefuse u call room shape out r
     stopped shape a w (root-differs d) = promise.root-name a w d
     stopped shape a w (ill-formed e) = not-ill-formed w e
@@ -191,7 +211,9 @@ module _ (u : Upload) (passes : drained (u .body) (u .rows) (u .end) ≡ Drained
     all-handed shape =
         output-carried u call room shape (AllHanded u (call .sheet)) (none-handed u (call .sheet)) (λ a w.
         let is = read-of shape a w in
-        made-kept (handed-kept u (call .sheet) room) (plan-made (call .settings) (call .depth) shape a (met-sources (call .sheet) shape a is) (shape-sources (call .sheet) shape a is) (may-stop (call .settings) (call .depth) shape a)))
+        made-kept (handed-kept u (call .sheet) room)
+        (plan-made (call .settings) (call .depth) shape a (met-sources (call .sheet) shape a is)
+        (shape-sources (call .sheet) shape a is) (may-stop (call .settings) (call .depth) shape a)))
 
     keeps : (shape : Shape) → Promised u call room shape (read shape u call room)
     keeps shape = go (read shape u call room) refl (all-handed shape)
@@ -200,7 +222,8 @@ module _ (u : Upload) (passes : drained (u .body) (u .rows) (u .end) ≡ Drained
         go (finished out) e h = finishes (h .each)
         go (refused r out) e h = promise.refuses (may-refuse shape (reading-refused u call room shape e)) (h .each)
 
--- THE THEOREM, demand 3: of a body and table that passed, each reading, with any sheet, settings, depth, room and order of groups, keeps its promise
+-- THE THEOREM, demand 3: of a body and table that passed, each reading, with any sheet, settings, depth, room and order of groups, keeps
+-- its promise
 pub demand-3 : Demand3
 demand-3 u p shape call room = keeps u (drained-passes-is (u .body) (u .rows) (u .end) .1 p) call room shape
 
@@ -210,7 +233,8 @@ pub promised-output : {u : Upload} {call : Call} {room : Room} {shape : Shape} {
 promised-output (finishes a) = a
 promised-output (promise.refuses m a) = a
 
--- of its pieces alone: each entry of kind 2 that such a reading hands out, finished or refused, is an element of the table that passes the drain again
+-- of its pieces alone: each entry of kind 2 that such a reading hands out, finished or refused, is an element of the table that passes the
+-- drain again
 pub each-piece : (u : Upload) → Passed (u .body) (u .rows) (u .end) → (shape : Shape) (call : Call) (room : Room) (e : Entry)
     → List·Memᴰ e (output (read shape u call room) .entries) → e .kind ≡ pieceKind → ElementPiece (u .body) (u .rows) (e .start) (e .len)
 each-piece u p shape call room e i = every-in (promised-output (demand-3 u p shape call room)) e i .piece

@@ -1,5 +1,5 @@
--- What structure readings answer, in numbers and bytes. The tables and the answers are the Rust's, but where a case says that there is no Rust
--- reference.
+-- What structure readings answer, in numbers and bytes. The tables and the answers are the Rust's, but where a case says that there is no
+-- Rust reference.
 use Prim.Native.Nat.{ℕ}
 use Prim.Native.String.{String}
 use mathlib.Core.Path.{_≡_, refl}
@@ -13,8 +13,12 @@ use Rattle.document.specs.Scope.{Child, rootOf, childrenOf}
 use Rattle.sheet.specs.Sheet.{Structure, structureOf}
 use Rattle.readings.specs.Structure.{inGroup}
 use Rattle.readings.specs.Shape.{structure}
-use Rattle.readings.proofs.Examples.Asking.{reading, ask, answer, case, Answered, plain, settings, lenient, strict, rootNames, room, enough, named, scalarA, scalarsAB, unwrappedA}
-use Rattle.readings.proofs.Examples.Tables.{empty, bare, one, two, four, nested, nested-text, nested-empty, two-unclosed, behind-comment, comment, prefixed, prefixed-one, prefixed-end, attribute, attribute-empty, attribute-child, attributes-two, attributes-prefixed, attribute-second, one-text4, element-text, second-error, blank}
+use Rattle.readings.proofs.Examples.Asking.{reading, ask, answer, case, Answered, plain, settings, lenient, strict, rootNames, room}
+use Rattle.readings.proofs.Examples.Asking.{enough, named, scalarA, scalarsAB, unwrappedA}
+use Rattle.readings.proofs.Examples.Tables.{empty, bare, one, two, four, nested, nested-text, nested-empty, two-unclosed}
+use Rattle.readings.proofs.Examples.Tables.{behind-comment, comment, prefixed, prefixed-one, prefixed-end, attribute}
+use Rattle.readings.proofs.Examples.Tables.{attribute-empty, attribute-child, attributes-two, attributes-prefixed, attribute-second}
+use Rattle.readings.proofs.Examples.Tables.{one-text4, element-text, second-error, blank}
 use Rattle.readings.proofs.All.{computed}
 
 -- "Structure. 1, 2, 3, 4, 5": each of these bodies gives cause for the next number too.
@@ -49,11 +53,14 @@ pub root-names : Answered ask (
     -- all four: the XML name
     case (reading (structure []) "<x/>" empty 4 (7 ∷ named "x" ++ (named "o" ++ (named "m" ++ (named "s" ++ (0 ∷ []))))) rootNames 0 enough)
     (answer 0 0 [] "")
-    ∷ case (reading (structure []) "<o/>" empty 4 (7 ∷ named "x" ++ (named "o" ++ (named "m" ++ (named "s" ++ (0 ∷ []))))) rootNames 0 enough)
+    ∷ case (reading (structure []) "<o/>" empty 4
+    (7 ∷ named "x" ++ (named "o" ++ (named "m" ++ (named "s" ++ (0 ∷ []))))) rootNames 0 enough)
     (answer 5 0 [] "")
     -- without XML name: the original name
-    ∷ case (reading (structure []) "<o/>" empty 4 (6 ∷ named "o" ++ (named "m" ++ (named "s" ++ (0 ∷ [])))) rootNames 0 enough) (answer 0 0 [] "")
-    ∷ case (reading (structure []) "<m/>" empty 4 (6 ∷ named "o" ++ (named "m" ++ (named "s" ++ (0 ∷ [])))) rootNames 0 enough) (answer 5 0 [] "")
+    ∷ case (reading (structure []) "<o/>" empty 4 (6 ∷ named "o" ++ (named "m" ++ (named "s" ++ (0 ∷ [])))) rootNames 0 enough)
+    (answer 0 0 [] "")
+    ∷ case (reading (structure []) "<m/>" empty 4 (6 ∷ named "o" ++ (named "m" ++ (named "s" ++ (0 ∷ [])))) rootNames 0 enough)
+    (answer 5 0 [] "")
     -- member name and shape name
     ∷ case (reading (structure []) "<m/>" empty 4 (4 ∷ named "m" ++ (named "s" ++ (0 ∷ []))) rootNames 0 enough) (answer 0 0 [] "")
     ∷ case (reading (structure []) "<s/>" empty 4 (4 ∷ named "m" ++ (named "s" ++ (0 ∷ []))) rootNames 0 enough) (answer 5 0 [] "")
@@ -74,10 +81,12 @@ root-names = refl
 -- "attribute members in sheet order"
 pub attributes : Answered ask (
     -- in sheet order, not in body order; an absent one has no entry
-    case (reading (structure []) "<r a=\"1\" b=\"2\"/>" attributes-two 16 (plain (3 ∷ 6 ∷ named "b" ++ (6 ∷ named "c" ++ (6 ∷ named "a")))) lenient 0 enough)
+    case (reading (structure []) "<r a=\"1\" b=\"2\"/>" attributes-two 16
+    (plain (3 ∷ 6 ∷ named "b" ++ (6 ∷ named "c" ++ (6 ∷ named "a")))) lenient 0 enough)
     (answer 0 2 (1 ∷ 0 ∷ 0 ∷ 0 ∷ 0 ∷ 1 ∷ 1 ∷ 2 ∷ 0 ∷ 0 ∷ 1 ∷ 1 ∷ []) "21")
     -- `p:x` finds the attribute with that prefix; `x` the first with that local name
-    ∷ case (reading (structure []) "<r q:x=\"1\" p:x=\"2\"/>" attributes-prefixed 20 (plain (2 ∷ 6 ∷ named "p:x" ++ (6 ∷ named "x"))) lenient 0 enough)
+    ∷ case (reading (structure []) "<r q:x=\"1\" p:x=\"2\"/>" attributes-prefixed 20
+    (plain (2 ∷ 6 ∷ named "p:x" ++ (6 ∷ named "x"))) lenient 0 enough)
     (answer 0 2 (1 ∷ 0 ∷ 0 ∷ 0 ∷ 0 ∷ 1 ∷ 1 ∷ 1 ∷ 0 ∷ 0 ∷ 1 ∷ 1 ∷ []) "21")
     -- "The XML name goes before the member name"
     ∷ case (reading (structure []) "<r a=\"1\" b=\"2\"/>" attributes-two 16 (plain (1 ∷ 7 ∷ named "b" ++ named "a")) lenient 0 enough)
@@ -100,10 +109,12 @@ attributes = refl
 -- "then children in body order"
 pub children : Answered ask (
     -- texts, pieces and a flattened scalar, which is a text; a child of no member has no entry
-    case (reading (structure []) "<r><a>1</a><b>2</b><c>3</c><d>4</d></r>" four 39 (plain (2 ∷ 10 ∷ named "c" ++ (18 ∷ named "b"))) lenient 0 enough)
+    case (reading (structure []) "<r><a>1</a><b>2</b><c>3</c><d>4</d></r>" four 39
+    (plain (2 ∷ 10 ∷ named "c" ++ (18 ∷ named "b"))) lenient 0 enough)
     (answer 0 2 (2 ∷ 1 ∷ 0 ∷ 0 ∷ 11 ∷ 8 ∷ 1 ∷ 0 ∷ 0 ∷ 0 ∷ 0 ∷ 1 ∷ []) "3")
     -- "The XML name goes before the member name"; the first member of that name is meant; a member without a name has no child
-    ∷ case (reading (structure []) "<r><a>1</a><b>2</b></r>" two 23 (plain (3 ∷ 0 ∷ 3 ∷ named "b" ++ (named "a" ++ (18 ∷ named "b")))) lenient 0 enough)
+    ∷ case (reading (structure []) "<r><a>1</a><b>2</b></r>" two 23
+    (plain (3 ∷ 0 ∷ 3 ∷ named "b" ++ (named "a" ++ (18 ∷ named "b")))) lenient 0 enough)
     (answer 0 1 (1 ∷ 1 ∷ 0 ∷ 0 ∷ 0 ∷ 1 ∷ []) "2")
     -- attribute members are candidates: a text by its attribute, a piece by its child
     ∷ case (reading (structure []) "<r a=\"1\"><a>2</a></r>" attribute-child 21 (plain (1 ∷ 22 ∷ named "a")) lenient 0 enough)
@@ -186,12 +197,17 @@ levels = refl
 -- "then the groups, in an order left open": the order is given with the question
 pub groups : Answered ask (
     -- two groups of two siblings
-    case (reading (structure (0 ∷ 1 ∷ [])) "<r><a>1</a><b>2</b><a>3</a><b>4</b></r>" four 39 (plain (2 ∷ 26 ∷ named "a" ++ (26 ∷ named "b"))) lenient 0 (room 2 66))
-    (answer 0 2 (3 ∷ 0 ∷ 0 ∷ 0 ∷ 0 ∷ 33 ∷ 3 ∷ 1 ∷ 0 ∷ 0 ∷ 33 ∷ 33 ∷ []) "<__flat><a>1</a><a>3</a></__flat><__flat><b>2</b><b>4</b></__flat>")
-    ∷ case (reading (structure (1 ∷ 0 ∷ [])) "<r><a>1</a><b>2</b><a>3</a><b>4</b></r>" four 39 (plain (2 ∷ 26 ∷ named "a" ++ (26 ∷ named "b"))) lenient 0 (room 2 66))
-    (answer 0 2 (3 ∷ 1 ∷ 0 ∷ 0 ∷ 0 ∷ 33 ∷ 3 ∷ 0 ∷ 0 ∷ 0 ∷ 33 ∷ 33 ∷ []) "<__flat><b>2</b><b>4</b></__flat><__flat><a>1</a><a>3</a></__flat>")
+    case (reading (structure (0 ∷ 1 ∷ [])) "<r><a>1</a><b>2</b><a>3</a><b>4</b></r>" four 39
+    (plain (2 ∷ 26 ∷ named "a" ++ (26 ∷ named "b"))) lenient 0 (room 2 66))
+    (answer 0 2 (3 ∷ 0 ∷ 0 ∷ 0 ∷ 0 ∷ 33 ∷ 3 ∷ 1 ∷ 0 ∷ 0 ∷ 33 ∷ 33 ∷ [])
+    "<__flat><a>1</a><a>3</a></__flat><__flat><b>2</b><b>4</b></__flat>")
+    ∷ case (reading (structure (1 ∷ 0 ∷ [])) "<r><a>1</a><b>2</b><a>3</a><b>4</b></r>" four 39
+    (plain (2 ∷ 26 ∷ named "a" ++ (26 ∷ named "b"))) lenient 0 (room 2 66))
+    (answer 0 2 (3 ∷ 1 ∷ 0 ∷ 0 ∷ 0 ∷ 33 ∷ 3 ∷ 0 ∷ 0 ∷ 0 ∷ 33 ∷ 33 ∷ [])
+    "<__flat><b>2</b><b>4</b></__flat><__flat><a>1</a><a>3</a></__flat>")
     -- behind the texts; a flattened scalar is no group
-    ∷ case (reading (structure (0 ∷ [])) "<r><a>1</a><b>2</b><a>3</a><b>4</b></r>" four 39 (plain (2 ∷ 26 ∷ named "a" ++ (10 ∷ named "b"))) lenient 0 enough)
+    ∷ case (reading (structure (0 ∷ [])) "<r><a>1</a><b>2</b><a>3</a><b>4</b></r>" four 39
+    (plain (2 ∷ 26 ∷ named "a" ++ (10 ∷ named "b"))) lenient 0 enough)
     (answer 0 3 (1 ∷ 1 ∷ 0 ∷ 0 ∷ 0 ∷ 1 ∷ 1 ∷ 1 ∷ 0 ∷ 0 ∷ 1 ∷ 1 ∷ 3 ∷ 0 ∷ 0 ∷ 0 ∷ 2 ∷ 33 ∷ []) "24<__flat><a>1</a><a>3</a></__flat>")
     -- a sibling by its local name
     ∷ case (reading (structure (0 ∷ [])) "<r><p:a>1</p:a></r>" prefixed-one 19 (plain (1 ∷ 26 ∷ named "a")) lenient 0 enough)
@@ -203,34 +219,46 @@ pub groups : Answered ask (
     ∷ case (reading (structure (0 ∷ [])) "<r a=\"1\"><a>2</a></r>" attribute-child 21 (plain (1 ∷ 30 ∷ named "a")) lenient 0 enough)
     (answer 0 2 (1 ∷ 0 ∷ 0 ∷ 0 ∷ 0 ∷ 1 ∷ 3 ∷ 0 ∷ 0 ∷ 0 ∷ 1 ∷ 25 ∷ []) "1<__flat><a>2</a></__flat>")
     -- "if all groups together do not fit, 10 and none is written" (no Rust reference for room): a text byte too few, an entry too few
-    ∷ case (reading (structure (0 ∷ 1 ∷ [])) "<r><a>1</a><b>2</b><a>3</a><b>4</b></r>" four 39 (plain (2 ∷ 26 ∷ named "a" ++ (26 ∷ named "b"))) lenient 0 (room 2 65))
+    ∷ case (reading (structure (0 ∷ 1 ∷ [])) "<r><a>1</a><b>2</b><a>3</a><b>4</b></r>" four 39
+    (plain (2 ∷ 26 ∷ named "a" ++ (26 ∷ named "b"))) lenient 0 (room 2 65))
     (answer 10 0 [] "")
-    ∷ case (reading (structure (0 ∷ 1 ∷ [])) "<r><a>1</a><b>2</b><a>3</a><b>4</b></r>" four 39 (plain (2 ∷ 26 ∷ named "a" ++ (26 ∷ named "b"))) lenient 0 (room 1 66))
+    ∷ case (reading (structure (0 ∷ 1 ∷ [])) "<r><a>1</a><b>2</b><a>3</a><b>4</b></r>" four 39
+    (plain (2 ∷ 26 ∷ named "a" ++ (26 ∷ named "b"))) lenient 0 (room 1 66))
     (answer 10 0 [] "")
     -- what was written before stays, also where the first group would fit
-    ∷ case (reading (structure (0 ∷ 1 ∷ [])) "<r><a>1</a><b>2</b><c>3</c><d>4</d></r>" four 39 (plain (3 ∷ 26 ∷ named "a" ++ (26 ∷ named "b" ++ (2 ∷ named "c")))) lenient 0 (room 3 51))
-    (answer 0 3 (1 ∷ 2 ∷ 0 ∷ 0 ∷ 0 ∷ 1 ∷ 3 ∷ 0 ∷ 0 ∷ 0 ∷ 1 ∷ 25 ∷ 3 ∷ 1 ∷ 0 ∷ 0 ∷ 26 ∷ 25 ∷ []) "3<__flat><a>1</a></__flat><__flat><b>2</b></__flat>")
-    ∷ case (reading (structure (0 ∷ 1 ∷ [])) "<r><a>1</a><b>2</b><c>3</c><d>4</d></r>" four 39 (plain (3 ∷ 26 ∷ named "a" ++ (26 ∷ named "b" ++ (2 ∷ named "c")))) lenient 0 (room 3 50))
+    ∷ case (reading (structure (0 ∷ 1 ∷ [])) "<r><a>1</a><b>2</b><c>3</c><d>4</d></r>" four 39
+    (plain (3 ∷ 26 ∷ named "a" ++ (26 ∷ named "b" ++ (2 ∷ named "c")))) lenient 0 (room 3 51))
+    (answer 0 3 (1 ∷ 2 ∷ 0 ∷ 0 ∷ 0 ∷ 1 ∷ 3 ∷ 0 ∷ 0 ∷ 0 ∷ 1 ∷ 25 ∷ 3 ∷ 1 ∷ 0 ∷ 0 ∷ 26 ∷ 25 ∷ [])
+    "3<__flat><a>1</a></__flat><__flat><b>2</b></__flat>")
+    ∷ case (reading (structure (0 ∷ 1 ∷ [])) "<r><a>1</a><b>2</b><c>3</c><d>4</d></r>" four 39
+    (plain (3 ∷ 26 ∷ named "a" ++ (26 ∷ named "b" ++ (2 ∷ named "c")))) lenient 0 (room 3 50))
     (answer 10 1 (1 ∷ 2 ∷ 0 ∷ 0 ∷ 0 ∷ 1 ∷ []) "3")
     -- "Handing out groups before the strict end test": 9, though there is no room for them
-    ∷ case (reading (structure (0 ∷ [])) "<r><a>1</a><b>2</b></x>" two 23 (plain (1 ∷ 26 ∷ named "a")) strict 0 (room 0 0)) (answer 9 0 [] "")
+    ∷ case (reading (structure (0 ∷ [])) "<r><a>1</a><b>2</b></x>" two 23 (plain (1 ∷ 26 ∷ named "a")) strict 0 (room 0 0))
+    (answer 9 0 [] "")
     ∷ [])
 unfolding computed
 groups = refl
 
--- "An entry and its text are written only if both fit; else 10" (no Rust reference): at the limit, and below it by one entry and by one byte
+-- "An entry and its text are written only if both fit; else 10" (no Rust reference): at the limit, and below it by one entry and by one
+-- byte
 pub room-for-entries : Answered ask (
     -- children
     case (reading (structure []) "<r><a>1</a><b>2</b></r>" two 23 scalarsAB lenient 0 (room 2 2))
     (answer 0 2 (1 ∷ 0 ∷ 0 ∷ 0 ∷ 0 ∷ 1 ∷ 1 ∷ 1 ∷ 0 ∷ 0 ∷ 1 ∷ 1 ∷ []) "12")
-    ∷ case (reading (structure []) "<r><a>1</a><b>2</b></r>" two 23 scalarsAB lenient 0 (room 1 2)) (answer 10 1 (1 ∷ 0 ∷ 0 ∷ 0 ∷ 0 ∷ 1 ∷ []) "1")
-    ∷ case (reading (structure []) "<r><a>1</a><b>2</b></r>" two 23 scalarsAB lenient 0 (room 2 1)) (answer 10 1 (1 ∷ 0 ∷ 0 ∷ 0 ∷ 0 ∷ 1 ∷ []) "1")
-    -- attributes
-    ∷ case (reading (structure []) "<r a=\"1\" b=\"2\"/>" attributes-two 16 (plain (2 ∷ 6 ∷ named "a" ++ (6 ∷ named "b"))) lenient 0 (room 2 2))
-    (answer 0 2 (1 ∷ 0 ∷ 0 ∷ 0 ∷ 0 ∷ 1 ∷ 1 ∷ 1 ∷ 0 ∷ 0 ∷ 1 ∷ 1 ∷ []) "12")
-    ∷ case (reading (structure []) "<r a=\"1\" b=\"2\"/>" attributes-two 16 (plain (2 ∷ 6 ∷ named "a" ++ (6 ∷ named "b"))) lenient 0 (room 1 2))
+    ∷ case (reading (structure []) "<r><a>1</a><b>2</b></r>" two 23 scalarsAB lenient 0 (room 1 2))
     (answer 10 1 (1 ∷ 0 ∷ 0 ∷ 0 ∷ 0 ∷ 1 ∷ []) "1")
-    ∷ case (reading (structure []) "<r a=\"1\" b=\"2\"/>" attributes-two 16 (plain (2 ∷ 6 ∷ named "a" ++ (6 ∷ named "b"))) lenient 0 (room 2 1))
+    ∷ case (reading (structure []) "<r><a>1</a><b>2</b></r>" two 23 scalarsAB lenient 0 (room 2 1))
+    (answer 10 1 (1 ∷ 0 ∷ 0 ∷ 0 ∷ 0 ∷ 1 ∷ []) "1")
+    -- attributes
+    ∷ case (reading (structure []) "<r a=\"1\" b=\"2\"/>" attributes-two 16 (plain (2 ∷ 6 ∷ named "a" ++ (6 ∷ named "b"))) lenient 0
+    (room 2 2))
+    (answer 0 2 (1 ∷ 0 ∷ 0 ∷ 0 ∷ 0 ∷ 1 ∷ 1 ∷ 1 ∷ 0 ∷ 0 ∷ 1 ∷ 1 ∷ []) "12")
+    ∷ case (reading (structure []) "<r a=\"1\" b=\"2\"/>" attributes-two 16 (plain (2 ∷ 6 ∷ named "a" ++ (6 ∷ named "b"))) lenient 0
+    (room 1 2))
+    (answer 10 1 (1 ∷ 0 ∷ 0 ∷ 0 ∷ 0 ∷ 1 ∷ []) "1")
+    ∷ case (reading (structure []) "<r a=\"1\" b=\"2\"/>" attributes-two 16 (plain (2 ∷ 6 ∷ named "a" ++ (6 ∷ named "b"))) lenient 0
+    (room 2 1))
     (answer 10 1 (1 ∷ 0 ∷ 0 ∷ 0 ∷ 0 ∷ 1 ∷ []) "1")
     -- a piece takes an entry and no byte
     ∷ case (reading (structure []) "<r><a>1</a><b>2</b></r>" two 23 (plain (2 ∷ 18 ∷ named "a" ++ (18 ∷ named "b"))) lenient 0 (room 2 0))
@@ -238,7 +266,8 @@ pub room-for-entries : Answered ask (
     ∷ case (reading (structure []) "<r><a>1</a><b>2</b></r>" two 23 (plain (2 ∷ 18 ∷ named "a" ++ (18 ∷ named "b"))) lenient 0 (room 1 0))
     (answer 10 1 (2 ∷ 0 ∷ 0 ∷ 0 ∷ 3 ∷ 8 ∷ []) "")
     -- so does a text that failed
-    ∷ case (reading (structure []) "<r><a>&lt </a></r>" one-text4 18 scalarA lenient 0 (room 1 0)) (answer 0 1 (4 ∷ 0 ∷ 0 ∷ 0 ∷ 7 ∷ 0 ∷ []) "")
+    ∷ case (reading (structure []) "<r><a>&lt </a></r>" one-text4 18 scalarA lenient 0 (room 1 0))
+    (answer 0 1 (4 ∷ 0 ∷ 0 ∷ 0 ∷ 7 ∷ 0 ∷ []) "")
     ∷ case (reading (structure []) "<r><a>&lt </a></r>" one-text4 18 scalarA lenient 0 (room 0 0)) (answer 10 0 [] "")
     -- and "10 as met" comes before 9
     ∷ case (reading (structure []) "<r><a>1</a><b>2</b></x>" two 23 scalarA strict 0 (room 0 0)) (answer 10 0 [] "")
@@ -254,7 +283,8 @@ pub unwrapped : Answered ask (
     -- none: a root of no member
     ∷ case (reading (structure []) "<r/>" empty 4 unwrappedA lenient 0 enough) (answer 0 0 [] "")
     -- the root element alone
-    ∷ case (reading (structure []) "<!--c--><a/>" behind-comment 12 unwrappedA lenient 0 enough) (answer 0 1 (2 ∷ 0 ∷ 0 ∷ 0 ∷ 8 ∷ 4 ∷ []) "")
+    ∷ case (reading (structure []) "<!--c--><a/>" behind-comment 12 unwrappedA lenient 0 enough)
+    (answer 0 1 (2 ∷ 0 ∷ 0 ∷ 0 ∷ 8 ∷ 4 ∷ []) "")
     -- by its rows, to the one that closes it, whatever its name (01's words: the Rust goes to the final position in these two)
     ∷ case (reading (structure []) "<a></b> " bare 8 unwrappedA lenient 0 enough) (answer 0 1 (2 ∷ 0 ∷ 0 ∷ 0 ∷ 0 ∷ 7 ∷ []) "")
     ∷ case (reading (structure []) "<a><b></a></b> " one 15 unwrappedA lenient 0 enough) (answer 0 1 (2 ∷ 0 ∷ 0 ∷ 0 ∷ 0 ∷ 14 ∷ []) "")
@@ -275,7 +305,8 @@ pub unwrapped : Answered ask (
 unfolding computed
 unwrapped = refl
 
--- ---- the siblings of a group, child by child: those of a member that is flattened and aggregate, an attribute member too; no other member has any
+-- ---- the siblings of a group, child by child: those of a member that is flattened and aggregate, an attribute member too; no other member
+-- has any
 abbrev siblingsOf : String → List ℕ → List ℕ → ℕ → List Bool
 siblingsOf body table sheet i = go (structureOf sheet) (rootOf (toksOf (ascii body) (rowsOf table)))
   where
@@ -285,7 +316,8 @@ siblingsOf body table sheet i = go (structureOf sheet) (rootOf (toksOf (ascii bo
     go (some s) (some root) = list.map (inGroup s i) (childrenOf root)
 
 pub siblings-are :
-    list.map (siblingsOf "<r><a>1</a><b>2</b><c>3</c><d>4</d></r>" four (plain (4 ∷ 26 ∷ named "a" ++ (10 ∷ named "b" ++ (18 ∷ named "c" ++ (30 ∷ named "d"))))))
+    list.map (siblingsOf "<r><a>1</a><b>2</b><c>3</c><d>4</d></r>" four
+    (plain (4 ∷ 26 ∷ named "a" ++ (10 ∷ named "b" ++ (18 ∷ named "c" ++ (30 ∷ named "d"))))))
     (0 ∷ 1 ∷ 2 ∷ 3 ∷ [])
     ≡ (true ∷ false ∷ false ∷ false ∷ [])
     ∷ (false ∷ false ∷ false ∷ false ∷ [])

@@ -49,8 +49,8 @@ named s = length (ascii s) ∷ ascii s
 abbrev pub plain : List ℕ → List ℕ
 plain members = 0 ∷ named "s" ++ members
 
--- sheets that many questions have: a scalar `a`; scalars `a` and `b`; an unwrapped structure with an aggregate `a`; a map whose key and value are named
--- `k` and `v`
+-- sheets that many questions have: a scalar `a`; scalars `a` and `b`; an unwrapped structure with an aggregate `a`; a map whose key and
+-- value are named `k` and `v`
 abbrev pub scalarA : List ℕ
 scalarA = plain (1 ∷ 2 ∷ named "a")
 
@@ -65,10 +65,12 @@ keyed = 14 ∷ named "k" ++ named "v"
 
 -- ---- a question and its answer
 pub data Question : Type 0 where
-  reading : (shape : Shape) (body : String) (table : List ℕ) (final : ℕ) (sheet : List ℕ) (settings : Settings) (depth : ℕ) (room : Room) → Question
+  reading : (shape : Shape) (body : String) (table : List ℕ) (final : ℕ) (sheet : List ℕ) (settings : Settings) (depth : ℕ) (room : Room)
+      → Question
 
 abbrev pub ask : Question → Told
-ask (reading s body table final sheet settings depth room) = told (read s (uploaded (ascii body) table final) (calling sheet settings (shape depth)) room)
+ask (reading s body table final sheet settings depth room) =
+    told (read s (uploaded (ascii body) table final) (calling sheet settings (shape depth)) room)
 
 -- an answer: the number, the count, the six numbers of each entry, and the text bytes
 abbrev pub answer : ℕ → ℕ → List ℕ → String → Told

@@ -1,10 +1,14 @@
--- What list, string list and map readings answer, in numbers and bytes. The tables and the answers are the Rust's, but where a case says that there is
--- no Rust reference.
+-- What list, string list and map readings answer, in numbers and bytes. The tables and the answers are the Rust's, but where a case says
+-- that there is no Rust reference.
 use mathlib.Core.Path.{refl}
 use mathlib.Core.List.{[], _∷_, _++_}
 use Rattle.readings.specs.Shape.{list, map, strings}
-use Rattle.readings.proofs.Examples.Asking.{reading, ask, answer, case, Answered, lenient, strict, itemNames, room, enough, named, keyed}
-use Rattle.readings.proofs.Examples.Tables.{empty, one, two, nested, nested-text, nested-empty, two-unclosed, comment, prefixed-item, attribute-second, second-error, entry1, entry1-closed, entry1-names, entry1-prefixed, entry1-fields, entry1-empty, entry1-nested, entry1-error, entry2, entry2-prefixed, entry2-nested, entry2-open, entry2-field-attribute, entry2-attribute, early}
+use Rattle.readings.proofs.Examples.Asking.{reading, ask, answer, case, Answered, lenient, strict, itemNames, room, enough, named}
+use Rattle.readings.proofs.Examples.Asking.{keyed}
+use Rattle.readings.proofs.Examples.Tables.{empty, one, two, nested, nested-text, nested-empty, two-unclosed, comment, prefixed-item}
+use Rattle.readings.proofs.Examples.Tables.{attribute-second, second-error, entry1, entry1-closed, entry1-names, entry1-prefixed}
+use Rattle.readings.proofs.Examples.Tables.{entry1-fields, entry1-empty, entry1-nested, entry1-error, entry2, entry2-prefixed}
+use Rattle.readings.proofs.Examples.Tables.{entry2-nested, entry2-open, entry2-field-attribute, entry2-attribute, early}
 use Rattle.readings.proofs.All.{computed}
 
 -- "List. 1, 2, 3, 4; 10 as met; 9 last": each item a piece, of member index 0
@@ -18,7 +22,8 @@ pub list-items : Answered ask (
     -- the member name
     ∷ case (reading list "<r><a>1</a><b>2</b></r>" two 23 (9 ∷ named "a") itemNames 0 enough) (answer 0 1 (2 ∷ 0 ∷ 0 ∷ 0 ∷ 3 ∷ 8 ∷ []) "")
     -- `member`, by `Name::matches`; without the flag every child
-    ∷ case (reading list "<r><p:member/><a/></r>" prefixed-item 22 (1 ∷ []) itemNames 0 enough) (answer 0 1 (2 ∷ 0 ∷ 0 ∷ 0 ∷ 3 ∷ 11 ∷ []) "")
+    ∷ case (reading list "<r><p:member/><a/></r>" prefixed-item 22 (1 ∷ []) itemNames 0 enough)
+    (answer 0 1 (2 ∷ 0 ∷ 0 ∷ 0 ∷ 3 ∷ 11 ∷ []) "")
     ∷ case (reading list "<r><p:member/><a/></r>" prefixed-item 22 (1 ∷ []) lenient 0 enough)
     (answer 0 2 (2 ∷ 0 ∷ 0 ∷ 0 ∷ 3 ∷ 11 ∷ 2 ∷ 0 ∷ 0 ∷ 0 ∷ 14 ∷ 4 ∷ []) "")
     -- `p:member` finds it, `p:a` does not find `a`
@@ -57,15 +62,17 @@ pub list-refusals : Answered ask (
     ∷ case (reading list "<r><a>1</a><b>2</b></x>" two 23 (0 ∷ []) strict 0 (room 2 0))
     (answer 9 2 (2 ∷ 0 ∷ 0 ∷ 0 ∷ 3 ∷ 8 ∷ 2 ∷ 0 ∷ 0 ∷ 0 ∷ 11 ∷ 8 ∷ []) "")
     ∷ case (reading list "<r><a>1</a><b>2</b></x>" two 23 (0 ∷ []) strict 0 (room 1 0)) (answer 10 1 (2 ∷ 0 ∷ 0 ∷ 0 ∷ 3 ∷ 8 ∷ []) "")
-    -- a lent table whose token error stands at 6, before the final position 8 (no Rust reference): "A piece ends at the position of the last row read for it, or
-    -- at the final position when the rows run out"; lenient, and strict, where the row that fails is the last one read
+    -- a lent table whose token error stands at 6, before the final position 8 (no Rust reference): "A piece ends at the position of the
+    -- last row read for it, or at the final position when the rows run out"; lenient, and strict, where the row that fails is the last one
+    -- read
     ∷ case (reading list "<r><a>12" early 8 (0 ∷ []) lenient 0 enough) (answer 0 1 (2 ∷ 0 ∷ 0 ∷ 0 ∷ 3 ∷ 5 ∷ []) "")
     ∷ case (reading list "<r><a>12" early 8 (0 ∷ []) strict 0 enough) (answer 9 1 (2 ∷ 0 ∷ 0 ∷ 0 ∷ 3 ∷ 3 ∷ []) "")
     ∷ [])
 unfolding computed
 list-refusals = refl
 
--- "String list. As list, with 6 to 9 as met": what was written before stays. (The Rust drops it: of a refused one only the number is the Rust's.)
+-- "String list. As list, with 6 to 9 as met": what was written before stays. (The Rust drops it: of a refused one only the number is the
+-- Rust's.)
 pub string-lists : Answered ask (
     -- texts one after another
     case (reading strings "<r><a>1</a><b>2</b></r>" two 23 (0 ∷ []) lenient 0 enough)
@@ -77,7 +84,8 @@ pub string-lists : Answered ask (
     ∷ case (reading strings "<r><p:member/><a/></r>" prefixed-item 22 (0 ∷ []) lenient 0 enough)
     (answer 0 2 (1 ∷ 0 ∷ 0 ∷ 0 ∷ 0 ∷ 0 ∷ 1 ∷ 0 ∷ 0 ∷ 0 ∷ 0 ∷ 0 ∷ []) "")
     -- 6 and 7
-    ∷ case (reading strings "<r><a>1</a><b><c/></b></r>" nested-empty 26 (0 ∷ []) lenient 0 enough) (answer 6 1 (1 ∷ 0 ∷ 0 ∷ 0 ∷ 0 ∷ 1 ∷ []) "1")
+    ∷ case (reading strings "<r><a>1</a><b><c/></b></r>" nested-empty 26 (0 ∷ []) lenient 0 enough)
+    (answer 6 1 (1 ∷ 0 ∷ 0 ∷ 0 ∷ 0 ∷ 1 ∷ []) "1")
     -- an item that is not asked for is not read
     ∷ case (reading strings "<r><a>1</a><b><c/></b></r>" nested-empty 26 (5 ∷ named "a") itemNames 0 enough)
     (answer 0 1 (1 ∷ 0 ∷ 0 ∷ 0 ∷ 0 ∷ 1 ∷ []) "1")
@@ -118,7 +126,8 @@ pub map-entries : Answered ask (
     (answer 0 1 (1 ∷ 0 ∷ 0 ∷ 1 ∷ 1 ∷ 1 ∷ []) "12")
     ∷ case (reading map "<m><p:entry><k>1</k><v>2</v></p:entry><e><k>3</k><v>4</v></e></m>" entry2-prefixed 65 keyed lenient 0 enough)
     (answer 0 2 (1 ∷ 0 ∷ 0 ∷ 1 ∷ 1 ∷ 1 ∷ 1 ∷ 0 ∷ 2 ∷ 1 ∷ 3 ∷ 1 ∷ []) "1234")
-    ∷ case (reading map "<m><p:entry><k>1</k><v>2</v></p:entry><e><k>3</k><v>4</v></e></m>" entry2-prefixed 65 (15 ∷ named "k" ++ named "v") itemNames 0 enough)
+    ∷ case (reading map "<m><p:entry><k>1</k><v>2</v></p:entry><e><k>3</k><v>4</v></e></m>" entry2-prefixed 65
+    (15 ∷ named "k" ++ named "v") itemNames 0 enough)
     (answer 0 2 (1 ∷ 0 ∷ 0 ∷ 1 ∷ 1 ∷ 1 ∷ 1 ∷ 0 ∷ 2 ∷ 1 ∷ 3 ∷ 1 ∷ []) "1234")
     -- "Members and map keys compare the local name exactly": `k` finds `p:k`, `p:k` does not
     ∷ case (reading map "<m><e><p:k>1</p:k><p:v>2</p:v></e></m>" entry1-prefixed 38 keyed lenient 0 enough)
@@ -130,7 +139,8 @@ pub map-entries : Answered ask (
     -- a key alone writes nothing, and a value alone
     ∷ case (reading map "<m><e><k>1</k><x>2</x></e><e><v>3</v><x>4</x></e></m>" entry2 53 keyed lenient 0 enough) (answer 0 0 [] "")
     -- an aggregate value is a piece; the key alone is in the text buffer
-    ∷ case (reading map "<m><e><k>1</k><v>2</v></e><e><k>3</k><v><w/></v></e></m>" entry2-nested 56 (30 ∷ named "k" ++ named "v") lenient 0 enough)
+    ∷ case (reading map "<m><e><k>1</k><v>2</v></e><e><k>3</k><v><w/></v></e></m>" entry2-nested 56
+    (30 ∷ named "k" ++ named "v") lenient 0 enough)
     (answer 0 2 (2 ∷ 0 ∷ 0 ∷ 1 ∷ 14 ∷ 8 ∷ 2 ∷ 0 ∷ 1 ∷ 1 ∷ 37 ∷ 11 ∷ []) "13")
     -- an empty key and an empty value
     ∷ case (reading map "<m><e><k/><v/></e></m>" entry1-empty 22 keyed lenient 0 enough) (answer 0 1 (1 ∷ 0 ∷ 0 ∷ 0 ∷ 0 ∷ 0 ∷ []) "")
@@ -149,7 +159,8 @@ pub map-scopes : Answered ask (
     ∷ case (reading map "<m><other><k>1</x></other><entry><k>2</k><v>3</v></entry></m>" entry2-open 61 keyed itemNames 0 enough)
     (answer 0 1 (1 ∷ 0 ∷ 0 ∷ 1 ∷ 1 ∷ 1 ∷ []) "23")
     -- a bad attribute in a field ends the entry's level, and the rest of the entry is passed over; the next entry is read
-    ∷ case (reading map "<m><e><v x=\"&lt\"/><f><k>1</k><v>2</v></f></e><e><k>3</k><v>4</v></e></m>" entry2-field-attribute 72 keyed lenient 0 enough)
+    ∷ case (reading map "<m><e><v x=\"&lt\"/><f><k>1</k><v>2</v></f></e><e><k>3</k><v>4</v></e></m>" entry2-field-attribute 72 keyed lenient
+    0 enough)
     (answer 0 1 (1 ∷ 0 ∷ 0 ∷ 1 ∷ 1 ∷ 1 ∷ []) "34")
     -- a bad attribute in an entry ends the map's level
     ∷ case (reading map "<m><e x=\"&lt\"/><e><k>1</k><v>2</v></e></m>" entry2-attribute 42 keyed lenient 0 enough) (answer 0 0 [] "")
@@ -157,8 +168,8 @@ pub map-scopes : Answered ask (
 unfolding computed
 map-scopes = refl
 
--- "The same, with 6, 7, 8, 9 as met in a key or value; room is tested at the end of each map entry, for its key and value together, so these come before its
--- 10"
+-- "The same, with 6, 7, 8, 9 as met in a key or value; room is tested at the end of each map entry, for its key and value together, so
+-- these come before its 10"
 pub map-refusals : Answered ask (
     -- 6 in a value and in a key; the entries before it stay
     case (reading map "<m><e><k>1</k><v>2</v></e><e><k>3</k><v><w/></v></e></m>" entry2-nested 56 keyed lenient 0 enough)

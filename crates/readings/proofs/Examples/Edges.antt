@@ -1,5 +1,5 @@
--- 01, "Bodies at the edges". The P bodies, all twelve marks, in one statement over one list; and the others, computed by the definitions as well (a program
--- will run them too). The tables are the tokenizer's own, and the answers are 01's.
+-- 01, "Bodies at the edges". The P bodies, all twelve marks, in one statement over one list; and the others, computed by the definitions as
+-- well (a program will run them too). The tables are the tokenizer's own, and the answers are 01's.
 use Prim.Native.Nat.{ℕ}
 use Prim.Native.String.{String}
 use mathlib.Core.Path.{_≡_, refl}

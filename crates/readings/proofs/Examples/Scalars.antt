@@ -1,4 +1,5 @@
--- What scalars, find and whole text answer, in values. The tables and the answers are the Rust's, but where a case says that there is no Rust reference.
+-- What scalars, find and whole text answer, in values. The tables and the answers are the Rust's, but where a case says that there is no
+-- Rust reference.
 use Prim.Native.Nat.{ℕ}
 use Prim.Native.String.{String}
 use mathlib.Core.Path.{_≡_, refl}
@@ -15,7 +16,10 @@ use Rattle.readings.specs.Call.{uploaded}
 use Rattle.readings.specs.Scalar.{booleanOf, stringIn, booleanReading, integerReading, stringReading, wholeText}
 use Rattle.readings.specs.Find.{find, partOf, refusalOf}
 use Rattle.readings.proofs.Examples.Asking.{case, Answered, settings, lenient, strict, shape, room}
-use Rattle.readings.proofs.Examples.Tables.{empty, bare, one-empty, two, nested-text, unclosed, two-unclosed, behind-comment, comment, prefixed, prefixed-one, attribute, attributes-again, attribute-second, text1, text3, text4, text5, text9, cdata, mixed, element-text, text-element, error, text-error, early}
+use Rattle.readings.proofs.Examples.Tables.{empty, bare, one-empty, two, nested-text, unclosed, two-unclosed, behind-comment}
+use Rattle.readings.proofs.Examples.Tables.{comment, prefixed, prefixed-one, attribute, attributes-again, attribute-second, text1}
+use Rattle.readings.proofs.Examples.Tables.{text3, text4, text5, text9, cdata, mixed, element-text, text-element, error, text-error}
+use Rattle.readings.proofs.Examples.Tables.{early}
 use Rattle.readings.proofs.All.{computed}
 
 -- ---- what is asked

@@ -1,5 +1,5 @@
--- 01, "Where a hasty port strays", computed by the definitions; the tables and the answers are the Rust's. (The attribute that does not unescape is
--- among the bodies at the edges; the root and list items stand with the answers.)
+-- 01, "Where a hasty port strays", computed by the definitions; the tables and the answers are the Rust's. (The attribute that does not
+-- unescape is among the bodies at the edges; the root and list items stand with the answers.)
 use mathlib.Core.Path.{refl}
 use mathlib.Core.List.{[], _∷_, _++_}
 use Rattle.readings.specs.Shape.{structure, map}
@@ -15,7 +15,8 @@ pub strays : Answered ask (
     ∷ case (reading (structure []) "<r xsi:type=\"1\"/>" attribute-type 17 (plain (1 ∷ 6 ∷ named "type")) lenient 0 enough)
     (answer 0 1 (1 ∷ 0 ∷ 0 ∷ 0 ∷ 0 ∷ 1 ∷ []) "1")
     -- "Leaving attribute members out when a child element is resolved: they are candidates too."
-    ∷ case (reading (structure []) "<r a=\"1\"><a>2</a></r>" attribute-child 21 (plain (2 ∷ 6 ∷ named "a" ++ (2 ∷ named "a"))) lenient 0 enough)
+    ∷ case (reading (structure []) "<r a=\"1\"><a>2</a></r>" attribute-child 21
+    (plain (2 ∷ 6 ∷ named "a" ++ (2 ∷ named "a"))) lenient 0 enough)
     (answer 0 2 (1 ∷ 0 ∷ 0 ∷ 0 ∷ 0 ∷ 1 ∷ 1 ∷ 0 ∷ 0 ∷ 0 ∷ 1 ∷ 1 ∷ []) "12")
     -- "the first key or value wins (the last does)"
     ∷ case (reading map "<m><e><k>1</k><v>2</v><v>3</v><k>4</k></e></m>" entry1-fields 46 keyed lenient 0 enough)

@@ -1,5 +1,5 @@
--- Demand 3 is not empty: an upload that passes the drain, nested, with a prefix, attributes, a flattened group and a map; its readings, level by level; and
--- the theorem used on its pieces. The tables are the tokenizer's own, those of the pieces too.
+-- Demand 3 is not empty: an upload that passes the drain, nested, with a prefix, attributes, a flattened group and a map; its readings,
+-- level by level; and the theorem used on its pieces. The tables are the tokenizer's own, those of the pieces too.
 use Prim.Native.Nat.{ℕ}
 use mathlib.Core.Path.{_≡_, refl}
 use mathlib.Core.Bool.{true, false}
@@ -30,7 +30,9 @@ use Rattle.readings.proofs.All.{computed}
 
 -- ---- the upload
 abbrev pub body : List ℕ
-body = ascii "<d:core id=\"T&amp;7\"><d:site>North &lt;1</d:site><samples><s>4</s><s/></samples><ring y=\"1\">34</ring><ring/><notes><entry><key>sap</key><value>9</value></entry></notes></d:core>"
+body =
+    ascii "<d:core id=\"T&amp;7\"><d:site>North &lt;1</d:site><samples><s>4</s><s/></samples><ring y=\"1\">34</ring><ring/>" ++
+    ascii "<notes><entry><key>sap</key><value>9</value></entry></notes></d:core>"
 
 abbrev pub table : List ℕ
 table =
@@ -116,7 +118,9 @@ core-order = refl
 -- ---- the theorem, used on its pieces
 pub core-handed : Every (Handed (uploaded body table final) coreSheet (core .texts)) (core .entries)
 core-handed =
-    promised-output (rw core-is at (demand-3 (uploaded body table final) (drained-passes-is body table final .0 passes) (structure (3 ∷ [])) (calling coreSheet strictly (shape 0)) enough))
+    promised-output (rw core-is at
+    (demand-3 (uploaded body table final) (drained-passes-is body table final .0 passes) (structure (3 ∷ []))
+    (calling coreSheet strictly (shape 0)) enough))
 
 -- the samples: an element of the table, whose own rows pass the drain again
 pub samples : ElementPiece body table 49 31
@@ -144,7 +148,10 @@ samples-rows = refl
 
 pub samples-read :
     listReading (uploaded (cut body 49 31) samplesTable 31) (calling (0 ∷ []) strictly (shape 1)) enough
-    ≡ finished (record { entries = pieceEntry 0 (record { start = 9; len = 8 }) 0 ∷ pieceEntry 0 (record { start = 17; len = 4 }) 0 ∷ []; texts = [] })
+    ≡ finished (record {
+      entries = pieceEntry 0 (record { start = 9; len = 8 }) 0 ∷ pieceEntry 0 (record { start = 17; len = 4 }) 0 ∷ [];
+      texts = [];
+    })
 unfolding computed
 samples-read = refl
 

@@ -1,5 +1,5 @@
--- How much is written, on every input: the texts of a reading are shorter than 2 ^ 32 bytes, the spans of its entries lie in the text buffer or in the body, and
--- each number of an entry is below 2 ^ 32.
+-- How much is written, on every input: the texts of a reading are shorter than 2 ^ 32 bytes, the spans of its entries lie in the text
+-- buffer or in the body, and each number of an entry is below 2 ^ 32.
 use Prim.Native.Nat.{ℕ, zero, suc, _+_, _^_, _≤_, _<_}
 use mathlib.Core.Path.{_≡_, refl, sym, ap, subst}
 use mathlib.Core.Bool.{Bool, true, false}
@@ -19,7 +19,8 @@ use Rattle.document.specs.Scope.{childrenOf, dropping}
 use Rattle.document.proofs.Laws.Fuel.{dropping-shortens}
 use Rattle.document.proofs.Laws.Placed.{Placed}
 use Rattle.document.proofs.Laws.Inside.{piece-inside}
-use Rattle.document.proofs.Laws.Short.{ShortValue, values-short, ShortAttribute, root-attributes-short, ShortText, short-text, no-text, text-short, few-inside}
+use Rattle.document.proofs.Laws.Short.{ShortValue, values-short, ShortAttribute, root-attributes-short, ShortText, short-text, no-text}
+use Rattle.document.proofs.Laws.Short.{text-short, few-inside}
 use Rattle.sheet.specs.Sheet.{mostMembers, Member, Structure, structureOf}
 use Rattle.sheet.specs.Names.{indexed, entryName}
 use Rattle.sheet.proofs.Limits.{few-members}
@@ -48,12 +49,14 @@ every-dropped zero e = e
 every-dropped (suc k) none = none
 every-dropped (suc k) (and p e) = every-dropped k e
 
-attribute-short : {most : ℕ} {l : List Attribute} → Every (ShortAttribute most) l → (key v : List ℕ) → attributeOf l key ≡ some v → length v ≤ most
+attribute-short : {most : ℕ} {l : List Attribute} → Every (ShortAttribute most) l → (key v : List ℕ) → attributeOf l key ≡ some v
+    → length v ≤ most
 unfolding attributeOf
 attribute-short none key v e = let z : _≡_ {A = ℕ} 0 1 = cc in absurd (omega arith)
 attribute-short {most} (and {x = a} {l = l} h w) key v e = go (nameMatches (a .name) key) e (attribute-short w key v)
   where
-    go : (b : Bool) → pick b (some (a .value)) (attributeOf l key) ≡ some v → (attributeOf l key ≡ some v → length v ≤ most) → length v ≤ most
+    go : (b : Bool) → pick b (some (a .value)) (attributeOf l key) ≡ some v → (attributeOf l key ≡ some v → length v ≤ most)
+        → length v ≤ most
     go true e ih = let q : a .value ≡ v = cc in rw (← q) h
     go false e ih = ih e
 
@@ -74,14 +77,20 @@ module _ {u : Upload} {strict : Bool} {o : Opened} (w : OpenedAs u strict o) whe
   fits-sources : Sources (Placed (toksOf (u .body) (o .seen .rows))) (FewBytes mostBytes) Anything (PieceFits (u .body)) (u .body) o
   fits-sources =
       placed-sources seen
-      (λ c h b e. omega (arith, few-bytes, given-short (text-short (length (u .body)) (o .seen .failure) c (rw (h .inner .at) at (every-dropped (c .inner .row) values))) b e))
+      (λ c h b e. omega (
+        arith,
+        few-bytes,
+        given-short (text-short (length (u .body)) (o .seen .failure) c (rw (h .inner .at) at (every-dropped (c .inner .row) values))) b
+            e,
+      ))
       (λ c h r e. tt {0}) (λ c h. piece-inside (seen .view) c h .within)
 
   -- the rows bound the children
   few-rows : length (o .root .inner .rest) ≤ mostRows
   few-rows =
       let v = seen .view in
-      let taken : length (o .seen .rows) ≤ length (rowsOf (u .rows)) = rw (v .front) (omega (arith, length-take (v .count) (rowsOf (u .rows)))) in
+      let taken : length (o .seen .rows) ≤ length (rowsOf (u .rows)) =
+      rw (v .front) (omega (arith, length-take (v .count) (rowsOf (u .rows)))) in
       omega (arith, seen .root .inner .rows, length-map (o .seen .rows) (tokOf (u .body)), taken, w .rules .rules .fewRows)
 
   few-kids : length (childrenOf (o .root)) ≤ mostRows
@@ -89,12 +98,18 @@ module _ {u : Upload} {strict : Bool} {o : Opened} (w : OpenedAs u strict o) whe
   few-kids = omega (arith, few-inside dropping dropping-shortens (o .root), few-rows)
 
   fits-structure : (sheet : List ℕ) {s : Structure} {order : List ℕ} → structureOf sheet ≡ some s → FewGroups order
-      → StructureSources (λ (i : ℕ). i < mostMembers) (FewBytes mostBytes) (λ (i : ℕ). FewBytes (mostBytes + 17)) (PieceFits (u .body)) (u .body) s o order
+      → StructureSources (λ (i : ℕ). i < mostMembers) (FewBytes mostBytes) (λ (i : ℕ). FewBytes (mostBytes + 17)) (PieceFits (u .body))
+      (u .body) s o order
   fits-structure sheet {s} says g =
       record {
         member = λ m i. omega (arith, index-below zero (s .members) m i, few-members sheet s says);
         ordered = g .each;
-        attribute = λ key v e. omega (arith, few-bytes, attribute-short (root-attributes-short (length (u .body)) (toksOf (u .body) (o .seen .rows)) values (o .root) (w .root)) key v e);
+        attribute = λ key v e. omega (
+          arith,
+          few-bytes,
+          attribute-short (root-attributes-short (length (u .body)) (toksOf (u .body) (o .seen .rows)) values (o .root) (w .root)) key v
+              e,
+        );
         group = λ i. omega (arith, few-bytes, group-short (seen .view) s i (o .root) (seen .root));
         root = root-piece-inside seen .within;
       }
@@ -161,15 +176,19 @@ FewIn strings = Unit {0}
 
 module _ (u : Upload) (call : Call) where
   -- so many entries at most, of a body that is opened
-  few-writes : (room : Room) (shape : Shape) → FewIn shape → (a : Asked (SheetOf shape)) → AskedAs u (sheetOf shape (call .sheet)) (call .settings) (call .depth) a
+  few-writes : (room : Room) (shape : Shape) → FewIn shape → (a : Asked (SheetOf shape))
+      → AskedAs u (sheetOf shape (call .sheet)) (call .settings) (call .depth) a
       → mostMet (call .settings) shape a + mostGroups shape ≤ 8321
-  few-writes room (structure order) g a w = omega (arith, few-members (call .sheet) (a .sheet) (w .says), length-indexed zero (a .sheet .members), few-kids (w .begun), g .few)
+  few-writes room (structure order) g a w =
+      omega (arith, few-members (call .sheet) (a .sheet) (w .says), length-indexed zero (a .sheet .members), few-kids (w .begun), g .few)
   few-writes room list g a w = omega (arith, few-kids (w .begun))
   few-writes room map g a w = omega (arith, few-entries (w .begun) (entryName (call .settings) (a .sheet)))
   few-writes room strings g a w = omega (arith, few-kids (w .begun))
 
-  fits-shape : (shape : Shape) → FewIn shape → (a : Asked (SheetOf shape)) → AskedAs u (sheetOf shape (call .sheet)) (call .settings) (call .depth) a
-      → ShapeSources (λ (i : ℕ). i < mostMembers) (FewBytes mostBytes) (λ (i : ℕ). FewBytes (mostBytes + 17)) (PieceFits (u .body)) (u .body) shape a
+  fits-shape : (shape : Shape) → FewIn shape → (a : Asked (SheetOf shape))
+      → AskedAs u (sheetOf shape (call .sheet)) (call .settings) (call .depth) a
+      → ShapeSources (λ (i : ℕ). i < mostMembers) (FewBytes mostBytes) (λ (i : ℕ). FewBytes (mostBytes + 17)) (PieceFits (u .body))
+      (u .body) shape a
   fits-shape (structure order) g a w = fits-structure (w .begun) (call .sheet) (w .says) g
   fits-shape list g a w = omega arith
   fits-shape map g a w = omega arith
@@ -179,6 +198,9 @@ pub reading-small : (shape : Shape) → FewIn shape → (u : Upload) (call : Cal
     → Small (u .body) (output (read shape u call room))
 reading-small shape g u call room =
     output-carried u call room shape (Small (u .body)) (none-small (u .body)) (λ a w.
-    steps-small (u .body) (mostMet (call .settings) shape a + mostGroups shape) (output (performed room (askedPlan shape (u .body) (call .settings) (call .depth) a))) (few-bytes (w .begun))
+    steps-small (u .body) (mostMet (call .settings) shape a + mostGroups shape)
+    (output (performed room (askedPlan shape (u .body) (call .settings) (call .depth) a))) (few-bytes (w .begun))
     (few-writes u call room shape g a w)
-    (made-kept (fits-kept (u .body) room) (plan-made (call .settings) (call .depth) shape a (fits-sources (w .begun)) (fits-shape u call shape g a w) (may-stop (call .settings) (call .depth) shape a))))
+    (made-kept (fits-kept (u .body) room)
+    (plan-made (call .settings) (call .depth) shape a (fits-sources (w .begun)) (fits-shape u call shape g a w)
+    (may-stop (call .settings) (call .depth) shape a))))

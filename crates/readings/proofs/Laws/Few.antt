@@ -10,11 +10,9 @@ use borrow.Author.Tests.{eqb-true, eqb-false}
 use lib.Dec.{eqb}
 use lib.ListN.{length}
 use Rattle.lists.specs.Tests.{pick}
-use Rattle.document.specs.Scope.{Child}
-use Rattle.sheet.specs.Sheet.{mostMembers, Member, Structure}
+use Rattle.sheet.specs.Sheet.{mostMembers, Member}
 use Rattle.sheet.specs.Names.{Indexed, indexed}
-use Rattle.readings.specs.Structure.{Once, once-none, once-more, GroupOrder}
-use Rattle.readings.proofs.Laws.Order.{group-member}
+use Rattle.readings.specs.Structure.{Once, once-none, once-more}
 
 -- ---- different numbers below n are at most n
 -- a list without its first x
@@ -65,7 +63,8 @@ few-below zero (x ∷ l) o f = absurd (omega (arith, f x (List·Memᴰ·head ref
 few-below (suc n) l o f =
     let rest = few-below n (without n l) (without-once n o) (λ i m.
     let h : suc i ≤ suc n = f i (without-in n i l m) in
-    ⊎-elim (λ (e : suc i ≡ suc n). let q : n ≡ i = omega (arith, e) in absurd (without-none n o (rw (← q) at m))) (λ g. omega (arith, g)) (eq-or-lt-of-le h)) in
+    ⊎-elim (λ (e : suc i ≡ suc n). let q : n ≡ i = omega (arith, e) in absurd (without-none n o (rw (← q) at m))) (λ g. omega (arith, g))
+    (eq-or-lt-of-le h)) in
     omega (arith, rest, without-shorter n l)
 
 -- ---- members

@@ -42,10 +42,12 @@ first-among : {P : Child → Type 0} (name : List ℕ) (l : List Child) → ((c 
 unfolding firstChild
 first-among name [] f = no-one
 first-among {P} name (c ∷ l) f =
-    pick-all (Among P) (hasLocal name c) (some c) (firstChild name l) (one (f c (List·Memᴰ·head refl))) (first-among name l (λ x i. f x (List·Memᴰ·tail i)))
+    pick-all (Among P) (hasLocal name c) (some c) (firstChild name l) (one (f c (List·Memᴰ·head refl)))
+    (first-among name l (λ x i. f x (List·Memᴰ·tail i)))
 
 module _ {body : List ℕ} {rows : List Row} {final : ℕ} {v : View} (w : ViewIn body rows final v) (name : List ℕ) where
-  child-found : {o : Option Child} → Among (Placed (toksOf body (v .rows))) o → Found body (onward (present Refusal.NoSuchElement o) (λ (c : Child). gives (pieceOf body v c)))
+  child-found : {o : Option Child} → Among (Placed (toksOf body (v .rows))) o
+      → Found body (onward (present Refusal.NoSuchElement o) (λ (c : Child). gives (pieceOf body v c)))
   child-found (one {x = c} h) = let p = piece-inside w c h in found (record { filled = p .filled; within = p .within })
   child-found no-one = not-found
 
@@ -58,7 +60,8 @@ module _ {body : List ℕ} {rows : List Row} {final : ℕ} {v : View} (w : ViewI
       (found (record { filled = omega (arith, p .filled, p .within); within = omega arith }))
       (child-found (first-among name (childrenOf root) (children-placed (toksOf body (v .rows)) root h)))
 
-  root-found : (o : Option Child) → rootOf (toksOf body (v .rows)) ≡ o → Found body (onward (present Refusal.NoSuchElement o) (findIn body v name))
+  root-found : (o : Option Child) → rootOf (toksOf body (v .rows)) ≡ o
+      → Found body (onward (present Refusal.NoSuchElement o) (findIn body v name))
   root-found none e = not-found
   root-found (some c) e = in-found c (root-placed (toksOf body (v .rows)) (rows-tags (w .each)) c e)
 
@@ -68,8 +71,11 @@ module _ (u : Upload) (name : List ℕ) where
   all-found = go (decTable (u .body) (u .rows) (u .end))
     where
       go : (d : Dec (TableRules (u .body) (u .rows) (u .end)))
-          → Found (u .body) (withTable d (onward (present Refusal.NoSuchElement (rootOf (toksOf (u .body) (view false (u .body) (rowsOf (u .rows)) (u .end) .rows)))) (findIn (u .body) (view false (u .body) (rowsOf (u .rows)) (u .end)) name)))
-      go (yes t) = root-found (view-in t false) name (rootOf (toksOf (u .body) (view false (u .body) (rowsOf (u .rows)) (u .end) .rows))) refl
+          → Found (u .body) (withTable d
+          (onward (present Refusal.NoSuchElement (rootOf (toksOf (u .body) (view false (u .body) (rowsOf (u .rows)) (u .end) .rows))))
+          (findIn (u .body) (view false (u .body) (rowsOf (u .rows)) (u .end)) name)))
+      go (yes t) = root-found (view-in t false) name
+          (rootOf (toksOf (u .body) (view false (u .body) (rowsOf (u .rows)) (u .end) .rows))) refl
       go (no broken) = not-found
 
   -- THE LAW: what is found is a filled part of the body

@@ -70,7 +70,8 @@ module _ (body : List ℕ) where
       }
 
   -- an entry more, with its bytes
-  more : (n : ℕ) (out : Output) (bytes : List ℕ) (e : Entry) → Fits body n out → length bytes ≤ mostWritten → EntryFits body (length (out .texts) + length bytes) e
+  more : (n : ℕ) (out : Output) (bytes : List ℕ) (e : Entry) → Fits body n out → length bytes ≤ mostWritten
+      → EntryFits body (length (out .texts) + length bytes) e
       → Fits body (suc n) (record { entries = out .entries ++ e ∷ []; texts = out .texts ++ bytes })
   more n out bytes e w h f =
       let joined = length-append (out .texts) bytes in
@@ -80,33 +81,71 @@ module _ (body : List ℕ) where
       }
 
   -- an entry of each kind
-  text-fits : {t : ℕ} (e : Entry) → e .kind ≡ textKind → e .member < mostMembers → e .keyStart + e .keyLen ≤ t → e .start + e .len ≤ t → EntryFits body t e
+  text-fits : {t : ℕ} (e : Entry) → e .kind ≡ textKind → e .member < mostMembers → e .keyStart + e .keyLen ≤ t → e .start + e .len ≤ t
+      → EntryFits body t e
   text-fits e k m key h =
-      record { kind = (omega (arith, k), omega (arith, k)); member = m; key = key; text = λ q. h; piece = λ q. absurd (omega (arith, k, q)); group = λ q. h; failed = λ q. absurd (omega (arith, k, q)) }
+      record {
+        kind = (omega (arith, k), omega (arith, k));
+        member = m;
+        key = key;
+        text = λ q. h;
+        piece = λ q. absurd (omega (arith, k, q));
+        group = λ q. h;
+        failed = λ q. absurd (omega (arith, k, q));
+      }
 
-  piece-fits : {t : ℕ} (e : Entry) → e .kind ≡ pieceKind → e .member < mostMembers → e .keyStart + e .keyLen ≤ t → e .start + e .len ≤ length body → EntryFits body t e
+  piece-fits : {t : ℕ} (e : Entry) → e .kind ≡ pieceKind → e .member < mostMembers → e .keyStart + e .keyLen ≤ t
+      → e .start + e .len ≤ length body → EntryFits body t e
   piece-fits e k m key h =
-      record { kind = (omega (arith, k), omega (arith, k)); member = m; key = key; text = λ q. absurd (omega (arith, k, q)); piece = λ q. h; group = λ q. absurd (omega (arith, k, q)); failed = λ q. absurd (omega (arith, k, q)) }
+      record {
+        kind = (omega (arith, k), omega (arith, k));
+        member = m;
+        key = key;
+        text = λ q. absurd (omega (arith, k, q));
+        piece = λ q. h;
+        group = λ q. absurd (omega (arith, k, q));
+        failed = λ q. absurd (omega (arith, k, q));
+      }
 
-  group-fits : {t : ℕ} (e : Entry) → e .kind ≡ groupKind → e .member < mostMembers → e .keyStart + e .keyLen ≤ t → e .start + e .len ≤ t → EntryFits body t e
+  group-fits : {t : ℕ} (e : Entry) → e .kind ≡ groupKind → e .member < mostMembers → e .keyStart + e .keyLen ≤ t → e .start + e .len ≤ t
+      → EntryFits body t e
   group-fits e k m key h =
-      record { kind = (omega (arith, k), omega (arith, k)); member = m; key = key; text = λ q. h; piece = λ q. absurd (omega (arith, k, q)); group = λ q. h; failed = λ q. absurd (omega (arith, k, q)) }
+      record {
+        kind = (omega (arith, k), omega (arith, k));
+        member = m;
+        key = key;
+        text = λ q. h;
+        piece = λ q. absurd (omega (arith, k, q));
+        group = λ q. h;
+        failed = λ q. absurd (omega (arith, k, q));
+      }
 
-  failed-fits : {t : ℕ} (e : Entry) → e .kind ≡ failedKind → e .member < mostMembers → e .keyStart + e .keyLen ≤ t → (e .start ≤ 13) × (e .len ≡ 0) → EntryFits body t e
+  failed-fits : {t : ℕ} (e : Entry) → e .kind ≡ failedKind → e .member < mostMembers → e .keyStart + e .keyLen ≤ t
+      → (e .start ≤ 13) × (e .len ≡ 0) → EntryFits body t e
   failed-fits e k m key h =
-      record { kind = (omega (arith, k), omega (arith, k)); member = m; key = key; text = λ q. absurd (omega (arith, k, q)); piece = λ q. absurd (omega (arith, k, q)); group = λ q. absurd (omega (arith, k, q)); failed = λ q. h }
+      record {
+        kind = (omega (arith, k), omega (arith, k));
+        member = m;
+        key = key;
+        text = λ q. absurd (omega (arith, k, q));
+        piece = λ q. absurd (omega (arith, k, q));
+        group = λ q. absurd (omega (arith, k, q));
+        failed = λ q. h;
+      }
 
   -- members of a sheet, texts and pieces of the body, and groups
   abbrev pub FitSource : (ℕ → Entry) → List ℕ → Type 0
   FitSource = Source (λ (i : ℕ). i < mostMembers) (FewBytes mostBytes) Anything (λ (i : ℕ). FewBytes (mostBytes + 17)) (PieceFits body)
 
-  write-fits : (n : ℕ) (out : Output) {entry : ℕ → Entry} {bytes : List ℕ} → FitSource entry bytes → Fits body n out → Fits body (suc n) (appended entry bytes out)
+  write-fits : (n : ℕ) (out : Output) {entry : ℕ → Entry} {bytes : List ℕ} → FitSource entry bytes → Fits body n out
+      → Fits body (suc n) (appended entry bytes out)
   write-fits n out (of-text {b = b} m t) w = more n out b _ w (omega (arith, t)) (text-fits _ refl m (omega arith) (omega arith))
   write-fits n out (of-piece m h) w = more n out [] _ w (omega arith) (piece-fits _ refl m (omega arith) h)
   write-fits n out (of-group {b = b} m t) w = more n out b _ w (omega (arith, t)) (group-fits _ refl m (omega arith) (omega arith))
   write-fits n out (of-failed {r = r} m h) w = more n out [] _ w (omega arith) (failed-fits _ refl m (omega arith) (refusal-small r, refl))
   write-fits n out (of-key-text {k = y} {b = b} s t) w =
-      more n out (y ++ b) _ w (omega (arith, s, t, length-append y b)) (text-fits _ refl (omega arith) (omega (arith, length-append y b)) (omega (arith, length-append y b)))
+      more n out (y ++ b) _ w (omega (arith, s, t, length-append y b))
+      (text-fits _ refl (omega arith) (omega (arith, length-append y b)) (omega (arith, length-append y b)))
   write-fits n out (of-key-piece {k = y} s h) w = more n out y _ w (omega (arith, s)) (piece-fits _ refl (omega arith) (omega arith) h)
 
   pub fits-kept : (room : Room) → Keeps room FitSource (Fits body)

@@ -1,5 +1,5 @@
--- Every piece that a reading hands out is a filled part of the body that begins with `<`: on every input, strict or lenient, finished or refused. Where the
--- table breaks the rules nothing is written.
+-- Every piece that a reading hands out is a filled part of the body that begins with `<`: on every input, strict or lenient, finished or
+-- refused. Where the table breaks the rules nothing is written.
 use Prim.Native.Nat.{ℕ, _≤_}
 use mathlib.Core.Path.{_≡_}
 use mathlib.Core.List.{List}
@@ -25,7 +25,8 @@ use Rattle.readings.specs.Structure.{rootPiece}
 use Rattle.readings.specs.Shape.{Shape, structure, list, map, strings, SheetOf, read}
 use Rattle.readings.proofs.Plans.Readings.{output-carried, may-stop, plan-made}
 use Rattle.readings.proofs.Plans.Made.{Keeps, made-kept}
-use Rattle.readings.proofs.Plans.Sources.{Source, of-text, of-failed, of-piece, of-group, of-key-text, of-key-piece, Anything, Sources, ShapeSources}
+use Rattle.readings.proofs.Plans.Sources.{Source, of-text, of-failed, of-piece, of-group, of-key-text, of-key-piece, Anything}
+use Rattle.readings.proofs.Plans.Sources.{Sources, ShapeSources}
 use Rattle.readings.proofs.Plans.Placed.{OpenedIn, opened-in, placed-sources}
 
 -- ---- the root's piece
@@ -39,16 +40,19 @@ root-piece-inside {u} {o = o} w = piece-to-in (w .view) (o .root) (w .root) _ (e
     at : StartRow (u .body) 0 (o .seen .rows) (o .root .start .row)
     at = start-row (w .view) (o .root) (w .root)
 
-    closes : (at .first .position ≤ lastPosition 0 (take (closing 0 (rootRows o)) (rootRows o))) × (lastPosition 0 (take (closing 0 (rootRows o)) (rootRows o)) ≤ length (u .body))
+    closes : (at .first .position ≤ lastPosition 0 (take (closing 0 (rootRows o)) (rootRows o)))
+        × (lastPosition 0 (take (closing 0 (rootRows o)) (rootRows o)) ≤ length (u .body))
     closes =
         let k = pick (eqb (openCount 0 (at .first .kind)) 0) 0 (closing (openCount 0 (at .first .kind)) (at .later)) in
         let far = last-drop (o .root .start .row) (w .view .each) 0 (omega arith) in
         let far' : lastPosition (at .first .position) (at .later) ≤ lastPosition 0 (o .seen .rows) = rw (at .at) at far in
         rw (at .at) (last-taken (at .each) k, omega (arith, each-take k (at .each), far', w .view .last, w .view .ends, w .view .within))
 
-    end : (at .first .position ≤ pick (isClosed 0 (rootRows o)) (lastPosition 0 (take (closing 0 (rootRows o)) (rootRows o))) (o .seen .ends))
+    end : (at .first .position ≤ pick (isClosed 0 (rootRows o)) (lastPosition 0 (take (closing 0 (rootRows o)) (rootRows o)))
+        (o .seen .ends))
         × (pick (isClosed 0 (rootRows o)) (lastPosition 0 (take (closing 0 (rootRows o)) (rootRows o))) (o .seen .ends) ≤ length (u .body))
-    end = pick-all (λ (e : ℕ). (at .first .position ≤ e) × (e ≤ length (u .body))) (isClosed 0 (rootRows o)) _ _ closes (view-end-in (w .view) (o .root) (w .root))
+    end = pick-all (λ (e : ℕ). (at .first .position ≤ e) × (e ≤ length (u .body))) (isClosed 0 (rootRows o)) _ _ closes
+        (view-end-in (w .view) (o .root) (w .root))
 
 -- ---- entries
 -- an entry that is a piece
@@ -76,13 +80,20 @@ entry-in (of-key-piece k h) at = record { piece = λ e. h }
 
 in-keeps : (body : List ℕ) (room : Room) → Keeps room (InSource body) (λ (n : ℕ). AllIn body)
 in-keeps body room =
-    record { start = none-in body; idle = λ n m out h q. q; write = λ n out entry bytes s f q. record { each = every-snoc (q .each) (entry-in s (length (out .texts))) } }
+    record {
+      start = none-in body;
+      idle = λ n m out h q. q;
+      write = λ n out entry bytes s f q. record { each = every-snoc (q .each) (entry-in s (length (out .texts))) };
+    }
 
-in-sources : {u : Upload} {o : Opened} → OpenedIn u o → Sources (Placed (toksOf (u .body) (o .seen .rows))) Anything Anything (PieceIn (u .body)) (u .body) o
+in-sources : {u : Upload} {o : Opened} → OpenedIn u o
+    → Sources (Placed (toksOf (u .body) (o .seen .rows))) Anything Anything (PieceIn (u .body)) (u .body) o
 in-sources w = placed-sources w (λ c h b e. tt {0}) (λ c h r e. tt {0}) (piece-inside (w .view))
 
-in-shape : {body : List ℕ} (shape : Shape) (a : Asked (SheetOf shape)) → PieceIn body (rootPiece body (a .opened)) → ShapeSources Anything Anything (λ (i : ℕ). Anything) (PieceIn body) body shape a
-in-shape (structure order) a h = record { member = λ m i. tt {0}; ordered = λ i j. tt {0}; attribute = λ name v e. tt {0}; group = λ i. tt {0}; root = h }
+in-shape : {body : List ℕ} (shape : Shape) (a : Asked (SheetOf shape)) → PieceIn body (rootPiece body (a .opened))
+    → ShapeSources Anything Anything (λ (i : ℕ). Anything) (PieceIn body) body shape a
+in-shape (structure order) a h =
+    record { member = λ m i. tt {0}; ordered = λ i j. tt {0}; attribute = λ name v e. tt {0}; group = λ i. tt {0}; root = h }
 in-shape list a h = tt {0}
 in-shape map a h = tt {0}
 in-shape strings a h = tt {0}
@@ -93,4 +104,6 @@ pub entries-inside : (shape : Shape) (u : Upload) (call : Call) (room : Room)
 entries-inside shape u call room =
     output-carried u call room shape (AllIn (u .body)) (none-in (u .body)) (λ a w.
     let o = opened-in (w .begun) in
-    made-kept (in-keeps (u .body) room) (plan-made (call .settings) (call .depth) shape a (in-sources o) (in-shape shape a (root-piece-inside o)) (may-stop (call .settings) (call .depth) shape a)))
+    made-kept (in-keeps (u .body) room)
+    (plan-made (call .settings) (call .depth) shape a (in-sources o) (in-shape shape a (root-piece-inside o))
+    (may-stop (call .settings) (call .depth) shape a)))

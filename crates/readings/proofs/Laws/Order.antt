@@ -36,7 +36,8 @@ module _ (s : Structure) (children : List Child) where
   each-once [] i = once-none
   each-once (m ∷ l) i = go (hasGroup s i children) (each-once l (suc i))
     where
-      go : (t : Bool) → Once (grouped s children (indexed (suc i) l)) → Once (pick t (i ∷ grouped s children (indexed (suc i) l)) (grouped s children (indexed (suc i) l)))
+      go : (t : Bool) → Once (grouped s children (indexed (suc i) l))
+          → Once (pick t (i ∷ grouped s children (indexed (suc i) l)) (grouped s children (indexed (suc i) l)))
       go true o = once-more (λ x. let h : suc i ≤ i = rising l (suc i) i x in absurd (omega arith)) o
       go false o = o
 
@@ -47,7 +48,8 @@ module _ (s : Structure) (children : List Child) where
   a-child i (c ∷ l) e = go (inGroup s i c) refl e (a-child i l)
     where
       go : (t : Bool) → inGroup s i c ≡ t → pick t true (hasGroup s i l) ≡ true
-          → (hasGroup s i l ≡ true → (c : Child) × (List·Memᴰ c l × (inGroup s i c ≡ true))) → (x : Child) × (List·Memᴰ x (c ∷ l) × (inGroup s i x ≡ true))
+          → (hasGroup s i l ≡ true → (c : Child) × (List·Memᴰ c l × (inGroup s i c ≡ true)))
+          → (x : Child) × (List·Memᴰ x (c ∷ l) × (inGroup s i x ≡ true))
       go true q e ih = (c, (List·Memᴰ·head refl, q))
       go false q e ih = let x = ih e in (x .0, (List·Memᴰ·tail (x .1 .0), x .1 .1))
 
@@ -70,7 +72,8 @@ module _ (s : Structure) (children : List Child) where
       go true q x ih = ⊎-elim (λ e. rw e q) ih (List·Memᴰ·cases-cons x)
       go false q x ih = ih x
 
-  in-order : (l : List Indexed) (m : Indexed) → List·Memᴰ m l → hasGroup s (m .index) children ≡ true → List·Memᴰ (m .index) (grouped s children l)
+  in-order : (l : List Indexed) (m : Indexed) → List·Memᴰ m l → hasGroup s (m .index) children ≡ true
+      → List·Memᴰ (m .index) (grouped s children l)
   unfolding grouped
   in-order l m (List·Memᴰ·head q) e = rw (← q, e) (List·Memᴰ·head refl)
   in-order l m (List·Memᴰ·tail {x = n} i) e = go (hasGroup s (n .index) children) (in-order _ m i e)
@@ -107,7 +110,11 @@ group-member s i c e = go (firstNamed (membersOf s) (c .start .name .local)) ref
     go : (o : Option Indexed) → firstNamed (membersOf s) (c .start .name .local) ≡ o → isIndex (flatMember o) i ≡ true → GroupMember s i
     go none q e = false-true e
     go (some m) q e =
-        record { member = m; inSheet = named-in (membersOf s) (c .start .name .local) m q; index = flags m (m .member .aggregate) (m .member .flattened) e }
+        record {
+          member = m;
+          inSheet = named-in (membersOf s) (c .start .name .local) m q;
+          index = flags m (m .member .aggregate) (m .member .flattened) e;
+        }
 
 pub member-order : (s : Structure) (children : List Child) → GroupOrder s children (memberOrder s children)
 member-order s children =
@@ -117,7 +124,8 @@ member-order s children =
         λ x. a-child s children i children (from-order s children (membersOf s) i x),
         λ x.
             let g = group-member s i (x .0) (x .1 .1) in
-            rw (g .index) at (in-order s children (membersOf s) (g .member) (g .inSheet) (rw (g .index) (has-child s children i children (x .0) (x .1 .0) (x .1 .1)))),
+            rw (g .index) at (in-order s children (membersOf s) (g .member) (g .inSheet)
+            (rw (g .index) (has-child s children i children (x .0) (x .1 .0) (x .1 .1)))),
       );
     }
 

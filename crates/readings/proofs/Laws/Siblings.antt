@@ -55,34 +55,48 @@ module _ {body : List ℕ} {rows : List Row} {final : ℕ} {v : View} (w : ViewI
   no-size (c ∷ l) h = absurd (omega (arith, h))
 
   -- one more child, met from row k on, before others that are met after it
-  one-more : (c : Child) → Placed (toksOf body (v .rows)) c → (k : ℕ) → k ≤ c .start .row → (more : List Child) → length more ≤ length (dropping c .rest)
+  one-more : (c : Child) → Placed (toksOf body (v .rows)) c → (k : ℕ) → k ≤ c .start .row → (more : List Child)
+      → length more ≤ length (dropping c .rest)
       → size more + upTo (dropping c .row) ≤ v .ends → size (c ∷ more) + upTo k ≤ v .ends
   unfolding siblings
   one-more c m k h more few ih =
-      pick-cases (λ (x : List ℕ). length x + upTo k ≤ v .ends) (inGroup s i c) (cut body (pieceOf body v c .start) (pieceOf body v c .len) ++ siblings body v s i more) (siblings body v s i more)
+      pick-cases (λ (x : List ℕ). length x + upTo k ≤ v .ends) (inGroup s i c)
+      (cut body (pieceOf body v c .start) (pieceOf body v c .len) ++ siblings body v s i more) (siblings body v s i more)
       (λ e. inside (dropped c .ended) refl (piece-ends w c m)) (λ e. omega (arith, ih, rises, goes))
     where
       rises : upTo k ≤ upTo (c .start .row)
       rises = last-rises (w .each) k (c .start .row) h
 
       goes : upTo (c .start .row) ≤ upTo (dropping c .row)
-      goes = let g = dropping-goes-on c in last-rises (w .each) (c .start .row) (dropping c .row) (omega (arith, g .short, g .rows, m .begun .before))
+      goes = let g = dropping-goes-on c in
+          last-rises (w .each) (c .start .row) (dropping c .row) (omega (arith, g .short, g .rows, m .begun .before))
 
       taken : length (cut body (pieceOf body v c .start) (pieceOf body v c .len)) ≤ pieceOf body v c .len
       taken = omega (arith, length-take (pieceOf body v c .len) (drop (pieceOf body v c .start) body))
 
-      joined : length (cut body (pieceOf body v c .start) (pieceOf body v c .len) ++ siblings body v s i more) ≡ length (cut body (pieceOf body v c .start) (pieceOf body v c .len)) + size more
+      joined : length (cut body (pieceOf body v c .start) (pieceOf body v c .len) ++ siblings body v s i more) ≡ length
+          (cut body (pieceOf body v c .start) (pieceOf body v c .len)) + size more
       joined = length-append (cut body (pieceOf body v c .start) (pieceOf body v c .len)) (siblings body v s i more)
 
-      inside : (b : Bool) → dropped c .ended ≡ b → pieceOf body v c .start + pieceOf body v c .len ≡ pick b (upTo (dropping c .row)) (v .ends)
+      inside : (b : Bool) → dropped c .ended ≡ b
+          → pieceOf body v c .start + pieceOf body v c .len ≡ pick b (upTo (dropping c .row)) (v .ends)
           → length (cut body (pieceOf body v c .start) (pieceOf body v c .len) ++ siblings body v s i more) + upTo k ≤ v .ends
       inside true e p = omega (arith, joined, taken, p, ih, rises, piece-since w c m)
-      inside false e p = omega (arith, joined, taken, p, rises, piece-since w c m, no-size more (omega (arith, few, dropped-leaves-none c e)))
+      inside false e p = omega (
+        arith,
+        joined,
+        taken,
+        p,
+        rises,
+        piece-since w c m,
+        no-size more (omega (arith, few, dropped-leaves-none c e)),
+      )
 
   before-end : (k : ℕ) → upTo k ≤ v .ends
   before-end k = omega (arith, each-take k (w .each), w .last)
 
-  level-size : (f : ℕ) (sc : Scope) (r : Reader) → Outside (toksOf body (v .rows)) r → size (children (level f dropping sc r)) + upTo (r .row) ≤ v .ends
+  level-size : (f : ℕ) (sc : Scope) (r : Reader) → Outside (toksOf body (v .rows)) r
+      → size (children (level f dropping sc r)) + upTo (r .row) ≤ v .ends
   unfolding level children siblings
   level-size zero sc r o = omega (arith, before-end (r .row))
   level-size (suc f) sc r o = go (next-meets (toksOf body (v .rows)) sc r o) (level-size f sc)
@@ -100,7 +114,8 @@ module _ {body : List ℕ} {rows : List Row} {final : ℕ} {v : View} (w : ViewI
   unfolding childrenOf children siblings
   siblings-short c p =
       let inside = level-size (suc (length (c .inner .rest))) (scopeOf (c .start)) (c .inner) (p .inner) in
-      pick-all (λ l. size (children l) ≤ length body) (c .start .closed) (done (shut (c .inner))) (level (suc (length (c .inner .rest))) dropping (scopeOf (c .start)) (c .inner))
+      pick-all (λ l. size (children l) ≤ length body) (c .start .closed) (done (shut (c .inner)))
+      (level (suc (length (c .inner .rest))) dropping (scopeOf (c .start)) (c .inner))
       (omega arith) (omega (arith, inside, w .ends, w .within))
 
   -- a group: its siblings, and 17 bytes around them
@@ -110,4 +125,11 @@ module _ {body : List ℕ} {rows : List Row} {final : ℕ} {v : View} (w : ViewI
       let x = siblings body v s i (childrenOf c) in
       let front : length (ascii "<__flat>") ≡ 8 = refl in
       let back : length (ascii "</__flat>") ≡ 9 = refl in
-      omega (arith, length-append (ascii "<__flat>") (x ++ ascii "</__flat>"), length-append x (ascii "</__flat>"), front, back, siblings-short c p)
+      omega (
+        arith,
+        length-append (ascii "<__flat>") (x ++ ascii "</__flat>"),
+        length-append x (ascii "</__flat>"),
+        front,
+        back,
+        siblings-short c p,
+      )

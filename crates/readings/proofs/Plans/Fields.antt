@@ -30,7 +30,8 @@ module _ (body : List ℕ) (v : View) (m : MapSheet) (all : List Child) where
     fields : {f : Fields} → KeyFrom (f .key) → ValueFrom (f .value) → FieldsFrom (gives f)
     no-text : {c : Child} {r : Refusal} → List·Memᴰ c all → TextField m c → textOf (v .failure) c ≡ refuses r → FieldsFrom (refuses r)
 
-  key-from : (f : Fields) → ValueFrom (f .value) → (c : Child) → List·Memᴰ c all → TextField m c → (a : Answer (List ℕ)) → textOf (v .failure) c ≡ a
+  key-from : (f : Fields) → ValueFrom (f .value) → (c : Child) → List·Memᴰ c all → TextField m c → (a : Answer (List ℕ))
+      → textOf (v .failure) c ≡ a
       → FieldsFrom (onward a (λ (t : List ℕ). gives (record { key = some t; value = f .value })))
   key-from f x c i w (gives k) e = fields (key i e) x
   key-from f x c i w (refuses r) e = no-text i w e
@@ -41,7 +42,8 @@ module _ (body : List ℕ) (v : View) (m : MapSheet) (all : List Child) where
   value-from f k c i false w = go (textOf (v .failure) c) refl
     where
       go : (a : Answer (List ℕ)) → textOf (v .failure) c ≡ a
-          → FieldsFrom (onward (onward a (λ (t : List ℕ). gives (text t))) (λ (y : MapValue). gives (record { key = f .key; value = some y })))
+          → FieldsFrom (onward (onward a (λ (t : List ℕ). gives (text t)))
+          (λ (y : MapValue). gives (record { key = f .key; value = some y })))
       go (gives t) e = fields k (text-value i e)
       go (refuses r) e = no-text i (w refl) e
 
@@ -49,13 +51,17 @@ module _ (body : List ℕ) (v : View) (m : MapSheet) (all : List Child) where
   unfolding readField
   field-from f k x c i =
       pick-cases FieldsFrom (sameb (c .start .name .local) (keyName m)) _ _ (λ e. key-from f x c i (is-key e) (textOf (v .failure) c) refl)
-      (λ e. pick-cases FieldsFrom (sameb (c .start .name .local) (valueName m)) _ _ (λ h. value-from f k c i (valueAggregate m) (is-value e h)) (λ h. fields {f = f} k x))
+      (λ e. pick-cases FieldsFrom (sameb (c .start .name .local) (valueName m)) _ _
+      (λ h. value-from f k c i (valueAggregate m) (is-value e h)) (λ h. fields {f = f} k x))
 
-  pub fields-from : (l : List Child) → ((c : Child) → List·Memᴰ c l → List·Memᴰ c all) → (f : Fields) → KeyFrom (f .key) → ValueFrom (f .value) → FieldsFrom (readFields body v m l f)
+  pub fields-from : (l : List Child) → ((c : Child) → List·Memᴰ c l → List·Memᴰ c all) → (f : Fields) → KeyFrom (f .key)
+      → ValueFrom (f .value) → FieldsFrom (readFields body v m l f)
   unfolding readFields
   fields-from [] g f k x = fields k x
   fields-from (c ∷ l) g f k x = go (field-from f k x c (g c (List·Memᴰ·head refl))) (fields-from l (λ y i. g y (List·Memᴰ·tail i)))
     where
-      go : {a : Answer Fields} → FieldsFrom a → ((f : Fields) → KeyFrom (f .key) → ValueFrom (f .value) → FieldsFrom (readFields body v m l f)) → FieldsFrom (onward a (readFields body v m l))
+      go : {a : Answer Fields} → FieldsFrom a
+          → ((f : Fields) → KeyFrom (f .key) → ValueFrom (f .value) → FieldsFrom (readFields body v m l f))
+          → FieldsFrom (onward a (readFields body v m l))
       go (fields {f = f} k x) more = more f k x
       go (no-text i w e) more = no-text i w e

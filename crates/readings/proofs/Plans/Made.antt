@@ -1,4 +1,5 @@
--- What plans are made of: at most so many entries, each of which is W, and stops, each of which is S. What every write keeps is kept by the plan.
+-- What plans are made of: at most so many entries, each of which is W, and stops, each of which is S. What every write keeps is kept by the
+-- plan.
 use Prim.Native.Nat.{ℕ, zero, suc, _+_, _≤_}
 use mathlib.Core.Path.{_≡_, refl}
 use mathlib.Core.Bool.{Bool, true, false}
@@ -29,10 +30,12 @@ module _ {W : (ℕ → Entry) → List ℕ → Type 0} {S : Refusal → Type 0} 
   made-followed {n} {m} made-end u = made-more (n + m) (omega arith) u
   made-followed (made-stop s) u = made-stop s
 
-  pub made-each : {A : Type 0} (f : A → Plan) (l : List A) → ((x : A) → List·Memᴰ x l → Made W S 1 (f x)) → Made W S (length l) (oneByOne f l)
+  pub made-each : {A : Type 0} (f : A → Plan) (l : List A) → ((x : A) → List·Memᴰ x l → Made W S 1 (f x))
+      → Made W S (length l) (oneByOne f l)
   unfolding oneByOne
   made-each f [] g = made-end
-  made-each {A} f (x ∷ l) g = made-more _ (omega arith) (made-followed (g x (List·Memᴰ·head refl)) (made-each f l (λ (y : A) i. g y (List·Memᴰ·tail i))))
+  made-each {A} f (x ∷ l) g = made-more _ (omega arith)
+      (made-followed (g x (List·Memᴰ·head refl)) (made-each f l (λ (y : A) i. g y (List·Memᴰ·tail i))))
 
   pub made-last : {n : ℕ} (b : Bool) → (b ≡ true → S Refusal.IllFormed) → Made W S n (endTest b)
   made-last true f = made-stop (f refl)
@@ -51,14 +54,16 @@ pub record MadeWhole (W : (ℕ → Entry) → List ℕ → Type 0) (S : Refusal 
 pub record Keeps (room : Room) (W : (ℕ → Entry) → List ℕ → Type 0) (Q : ℕ → Output → Type 0) : Type 0 where
   pub start : Q 0 nothing
   pub idle : (n m : ℕ) (out : Output) → n ≤ m → Q n out → Q m out
-  pub write : (n : ℕ) (out : Output) (entry : ℕ → Entry) (bytes : List ℕ) → W entry bytes → fits room bytes out ≡ true → Q n out → Q (suc n) (appended entry bytes out)
+  pub write : (n : ℕ) (out : Output) (entry : ℕ → Entry) (bytes : List ℕ) → W entry bytes → fits room bytes out ≡ true → Q n out
+      → Q (suc n) (appended entry bytes out)
 
 module _ {room : Room} {W : (ℕ → Entry) → List ℕ → Type 0} {S : Refusal → Type 0} {Q : ℕ → Output → Type 0} (k : Keeps room W Q) where
   keeps-on : {n : ℕ} {p : Plan} → Made W S n p → (m : ℕ) (out : Output) → Q m out → Q (m + n) (output (perform room p out))
   unfolding perform
   keeps-on (made-put {n = n} {entry = entry} {bytes = bytes} w t) m out q =
       pick-cases (λ (x : Reading). Q (m + suc n) (output x)) (fits room bytes out) _ _
-      (λ e. k .idle (suc m + n) (m + suc n) _ (omega arith) (keeps-on t (suc m) (appended entry bytes out) (k .write m out entry bytes w e q)))
+      (λ e. k .idle (suc m + n) (m + suc n) _ (omega arith)
+      (keeps-on t (suc m) (appended entry bytes out) (k .write m out entry bytes w e q)))
       (λ e. k .idle m (m + suc n) out (omega arith) q)
   keeps-on {n} made-end m out q = k .idle m (m + n) out (omega arith) q
   keeps-on {n} (made-stop s) m out q = k .idle m (m + n) out (omega arith) q
@@ -66,7 +71,8 @@ module _ {room : Room} {W : (ℕ → Entry) → List ℕ → Type 0} {S : Refusa
   -- THE LAW: what each write keeps, the whole keeps, finished or refused
   pub made-kept : {n m : ℕ} {w : Whole} → MadeWhole W S n m w → Q (n + m) (output (performed room w))
   unfolding performed
-  made-kept {n} {m} {w} t = onMet (perform room (w .asMet) nothing) (k .idle (0 + n) n _ (omega arith) (keeps-on (t .asMet) 0 nothing (k .start)))
+  made-kept {n} {m} {w} t = onMet (perform room (w .asMet) nothing)
+      (k .idle (0 + n) n _ (omega arith) (keeps-on (t .asMet) 0 nothing (k .start)))
     where
       onGroups : (out : Output) → Q n out → (y : Reading) → Q (n + m) (output y) → Q (n + m) (output (allOrNone out y))
       onGroups out q (finished new) r = r

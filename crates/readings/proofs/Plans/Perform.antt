@@ -37,15 +37,20 @@ module _ (room : Room) (entry : ℕ → Entry) (bytes : List ℕ) (out : Output)
   pub written-within : fits room bytes out ≡ true → Within room (appended entry bytes out)
   written-within e = go (ltb (length (out .entries)) (room .entries)) refl e
     where
-      go : (t : Bool) → ltb (length (out .entries)) (room .entries) ≡ t → pick t (leb (length (out .texts) + length bytes) (room .bytes)) false ≡ true
+      go : (t : Bool) → ltb (length (out .entries)) (room .entries) ≡ t
+          → pick t (leb (length (out .texts) + length bytes) (room .bytes)) false ≡ true
           → Within room (appended entry bytes out)
-      go true p e = record { entries = omega (arith, more, ltb-true (length (out .entries)) (room .entries) p); texts = omega (arith, longer, leb-true (length (out .texts) + length bytes) (room .bytes) e) }
+      go true p e = record {
+        entries = omega (arith, more, ltb-true (length (out .entries)) (room .entries) p);
+        texts = omega (arith, longer, leb-true (length (out .texts) + length bytes) (room .bytes) e);
+      }
       go false p e = false-true e
 
   pub written-exceeds : fits room bytes out ≡ false → Exceeds room (appended entry bytes out)
   written-exceeds e = go (ltb (length (out .entries)) (room .entries)) refl e
     where
-      go : (t : Bool) → ltb (length (out .entries)) (room .entries) ≡ t → pick t (leb (length (out .texts) + length bytes) (room .bytes)) false ≡ false
+      go : (t : Bool) → ltb (length (out .entries)) (room .entries) ≡ t
+          → pick t (leb (length (out .texts) + length bytes) (room .bytes)) false ≡ false
           → Exceeds room (appended entry bytes out)
       go true p e = too-long (omega (arith, longer, leb-false (length (out .texts) + length bytes) (room .bytes) e))
       go false p e = too-many (omega (arith, more, ltb-false (length (out .entries)) (room .entries) p))
@@ -62,17 +67,20 @@ abbrev pub andThen : Reading → (Output → Reading) → Reading
 andThen (finished out) f = f out
 andThen (refused r out) f = refused r out
 
-pub perform-followed : (room : Room) (p q : Plan) (out : Output) → perform room (followedBy p q) out ≡ andThen (perform room p out) (perform room q)
+pub perform-followed : (room : Room) (p q : Plan) (out : Output)
+    → perform room (followedBy p q) out ≡ andThen (perform room p out) (perform room q)
 unfolding perform followedBy
 perform-followed room (put entry bytes p) q out = go (fits room bytes out) _ (perform-followed room p q (appended entry bytes out))
   where
-    go : (t : Bool) {x : Reading} (y : Reading) → x ≡ andThen y (perform room q) → pick t x (refused Refusal.NoRoom out) ≡ andThen (pick t y (refused Refusal.NoRoom out)) (perform room q)
+    go : (t : Bool) {x : Reading} (y : Reading) → x ≡ andThen y (perform room q)
+        → pick t x (refused Refusal.NoRoom out) ≡ andThen (pick t y (refused Refusal.NoRoom out)) (perform room q)
     go true y e = e
     go false y e = refl
 perform-followed room end q out = refl
 perform-followed room (stop r) q out = refl
 
--- ---- how a plan ends that is performed: all of it is written, and fits; or it stops; or with the next entry and its bytes it would exceed the room
+-- ---- how a plan ends that is performed: all of it is written, and fits; or it stops; or with the next entry and its bytes it would exceed
+-- the room
 pub data Ended (room : Room) (p : Plan) (out : Output) : Reading → Type 0 where
   all-done : {last : Output} → Reaches p out end last → Within room last → Ended room p out (finished last)
   at-stop : {r : Refusal} {last : Output} → Reaches p out (stop r) last → Within room last → Ended room p out (refused r last)
@@ -83,7 +91,8 @@ pub perform-ended : (room : Room) (p : Plan) (out : Output) → Within room out 
 unfolding perform
 perform-ended room (put entry bytes p) out w =
     pick-cases (Ended room (put entry bytes p) out) (fits room bytes out) _ _
-    (λ e. go (perform-ended room p (appended entry bytes out) (written-within room entry bytes out e))) (λ e. no-room here w (written-exceeds room entry bytes out e))
+    (λ e. go (perform-ended room p (appended entry bytes out) (written-within room entry bytes out e)))
+    (λ e. no-room here w (written-exceeds room entry bytes out e))
   where
     go : {x : Reading} → Ended room p (appended entry bytes out) x → Ended room (put entry bytes p) out x
     go (all-done t h) = all-done (later t) h
@@ -98,19 +107,24 @@ ended-within (at-stop t w) = w
 ended-within (no-room t w f) = w
 
 -- ---- and exactly so
-reaches-more : {p q : Plan} {out last : Output} → Reaches p out q last → (length (out .entries) ≤ length (last .entries)) × (length (out .texts) ≤ length (last .texts))
+reaches-more : {p q : Plan} {out last : Output} → Reaches p out q last
+    → (length (out .entries) ≤ length (last .entries)) × (length (out .texts) ≤ length (last .texts))
 reaches-more here = (omega arith, omega arith)
 reaches-more (later {entry = entry} {bytes = bytes} {out = out} t) =
-    let h = reaches-more t in
-    (omega (arith, h .0, length-append (out .entries) (entry (length (out .texts)) ∷ [])), omega (arith, h .1, length-append (out .texts) bytes))
+    let h = reaches-more t in (
+      omega (arith, h .0, length-append (out .entries) (entry (length (out .texts)) ∷ [])),
+      omega (arith, h .1, length-append (out .texts) bytes),
+    )
 
 -- what is reached within the room is performed
-pub perform-reaches : (room : Room) {p q : Plan} {out last : Output} → Reaches p out q last → Within room last → perform room p out ≡ perform room q last
+pub perform-reaches : (room : Room) {p q : Plan} {out last : Output} → Reaches p out q last → Within room last
+    → perform room p out ≡ perform room q last
 unfolding perform
 perform-reaches room here w = refl
 perform-reaches room (later {entry = entry} {bytes = bytes} {out = out} t) w =
     let h = reaches-more t in
-    rw (within-fits room entry bytes out (record { entries = omega (arith, h .0, w .entries); texts = omega (arith, h .1, w .texts) })) (perform-reaches room t w)
+    rw (within-fits room entry bytes out (record { entries = omega (arith, h .0, w .entries); texts = omega (arith, h .1, w .texts) }))
+    (perform-reaches room t w)
 
 not-fits : (b : Bool) → (b ≡ true → ⊥) → b ≡ false
 not-fits true n = absurd (n refl)
@@ -125,15 +139,18 @@ ended-is {room} (no-room {entry = entry} {bytes = bytes} {last = last} t w f) =
 
 -- ---- the same of a whole: as met; or all that is met was written, and it would exceed the room with all the groups
 pub data EndedWhole (room : Room) (w : Whole) : Reading → Type 0 where
-  finishes : {out last : Output} → Ended room (w .asMet) nothing (finished out) → Ended room (w .groups) out (finished last) → EndedWhole room w (finished last)
+  finishes : {out last : Output} → Ended room (w .asMet) nothing (finished out) → Ended room (w .groups) out (finished last)
+      → EndedWhole room w (finished last)
   as-met : {r : Refusal} {out : Output} → Ended room (w .asMet) nothing (refused r out) → EndedWhole room w (refused r out)
-  in-groups : {r : Refusal} {out kept : Output} → Ended room (w .asMet) nothing (finished out) → Ended room (w .groups) out (refused r kept) → EndedWhole room w (refused r out)
+  in-groups : {r : Refusal} {out kept : Output} → Ended room (w .asMet) nothing (finished out) → Ended room (w .groups) out (refused r kept)
+      → EndedWhole room w (refused r out)
 
 pub performed-ended : (room : Room) (w : Whole) → EndedWhole room w (performed room w)
 unfolding performed
 performed-ended room w = onMet (perform-ended room (w .asMet) nothing (nothing-within room))
   where
-    onGroups : {out : Output} → Ended room (w .asMet) nothing (finished out) → {y : Reading} → Ended room (w .groups) out y → EndedWhole room w (allOrNone out y)
+    onGroups : {out : Output} → Ended room (w .asMet) nothing (finished out) → {y : Reading} → Ended room (w .groups) out y
+        → EndedWhole room w (allOrNone out y)
     onGroups m (all-done t h) = finishes m (all-done t h)
     onGroups m (at-stop t h) = in-groups m (at-stop t h)
     onGroups m (no-room t h f) = in-groups m (no-room t h f)

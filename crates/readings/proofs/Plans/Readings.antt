@@ -1,4 +1,5 @@
--- THE ONE INDUCTION over the readings: each of the four, on every input, is a plan made of what there is to be written, which stops where it may.
+-- THE ONE INDUCTION over the readings: each of the four, on every input, is a plan made of what there is to be written, which stops where
+-- it may.
 use Prim.Native.Nat.{ℕ, _+_}
 use mathlib.Core.Path.{_≡_, refl, subst⁻¹}
 use mathlib.Core.Bool.{Bool, true, false}
@@ -20,16 +21,22 @@ use Rattle.readings.specs.Call.{Upload, Call}
 use Rattle.readings.specs.Output.{Room, Output, nothing, Reading, finished, refused, output}
 use Rattle.readings.specs.Plan.{Plan, stop, perform, oneByOne, Whole, withoutGroups, thenGroups, performed}
 use Rattle.readings.specs.Opening.{Opened, Asked, asked, asking}
-use Rattle.readings.specs.Structure.{attributeOf, foundPlan, attributePlan, scalarPlan, memberPlan, childPlan, groupPlan, membersPlan, rootPiece, rootPlan, unwrappedPlan, withRootName, openedPlan, structurePlan, structureReading}
-use Rattle.readings.specs.Collection.{isWanted, itemPlan, itemsPlan, listPlan, listReading, textPlan, stringPlan, stringsPlan, stringListPlan, stringListReading, MapValue, Fields, noFields, fieldsPlan, readPlan, entryPlan, entriesOf, entriesPlan, mapPlan, mapReading}
+use Rattle.readings.specs.Structure.{attributeOf, foundPlan, attributePlan, scalarPlan, memberPlan, childPlan, groupPlan, membersPlan}
+use Rattle.readings.specs.Structure.{rootPiece, rootPlan, unwrappedPlan, withRootName, openedPlan, structurePlan, structureReading}
+use Rattle.readings.specs.Collection.{isWanted, itemPlan, itemsPlan, listPlan, listReading, textPlan, stringPlan, stringsPlan}
+use Rattle.readings.specs.Collection.{stringListPlan, stringListReading, MapValue, Fields, noFields, fieldsPlan, readPlan, entryPlan}
+use Rattle.readings.specs.Collection.{entriesOf, entriesPlan, mapPlan, mapReading}
 use Rattle.readings.specs.Shape.{Shape, structure, list, map, strings, SheetOf, sheetOf, planOf, read}
 use Rattle.readings.specs.Demand.{RootDiffers, differs, TextWanted, of-item, of-field}
 use Rattle.readings.proofs.Laws.Order.{named-in}
 use Rattle.readings.proofs.Conditions.Answers.{Is, is-given, is-refused}
 use Rattle.readings.proofs.Conditions.Opening.{AskedRefused, AskedAs, asked-is}
-use Rattle.readings.proofs.Plans.Made.{Made, made-put, made-end, made-stop, made-more, made-followed, made-each, made-last, MadeWhole}
-use Rattle.readings.proofs.Plans.Sources.{Source, of-text, of-failed, of-piece, of-group, of-key-text, of-key-piece, Anything, Sources, ShapeSources}
-use Rattle.readings.proofs.Plans.Fields.{FieldsFrom, fields, no-text, KeyFrom, no-key, key, ValueFrom, no-value, text-value, piece-value, fields-from}
+use Rattle.readings.proofs.Plans.Made.{Made, made-put, made-end, made-stop, made-more, made-followed, made-each, made-last}
+use Rattle.readings.proofs.Plans.Made.{MadeWhole}
+use Rattle.readings.proofs.Plans.Sources.{Source, of-text, of-failed, of-piece, of-group, of-key-text, of-key-piece, Anything}
+use Rattle.readings.proofs.Plans.Sources.{Sources, ShapeSources}
+use Rattle.readings.proofs.Plans.Fields.{FieldsFrom, fields, no-text, KeyFrom, no-key, key, ValueFrom, no-value, text-value}
+use Rattle.readings.proofs.Plans.Fields.{piece-value, fields-from}
 
 -- ---- a reading is its plan, performed
 alone : (room : Room) (x : Reading) → x ≡ thenGroups room (withoutGroups (stop Refusal.NoRoom) .groups) x
@@ -56,32 +63,42 @@ module _ (u : Upload) (call : Call) (shape : Shape) where
   -- a plan stops before it reads anything, or it goes on with what was asked
   pub data PlanIs : Whole → Type 0 where
     before : {r : Refusal} → AskedRefused u (sheetOf shape (call .sheet)) (call .settings) (call .depth) r → PlanIs (withoutGroups (stop r))
-    while : {a : Asked (SheetOf shape)} → AskedAs u (sheetOf shape (call .sheet)) (call .settings) (call .depth) a → PlanIs (askedPlan shape (u .body) (call .settings) (call .depth) a)
+    while : {a : Asked (SheetOf shape)} → AskedAs u (sheetOf shape (call .sheet)) (call .settings) (call .depth) a
+        → PlanIs (askedPlan shape (u .body) (call .settings) (call .depth) a)
 
 -- without groups, asked or refused
-alone-asked : {A : Type 0} (g : Answer A) (f : A → Plan) → withoutGroups (asking g f stop) ≡ asking g (λ (a : A). withoutGroups (f a)) (λ (r : Refusal). withoutGroups (stop r))
+alone-asked : {A : Type 0} (g : Answer A) (f : A → Plan)
+    → withoutGroups (asking g f stop) ≡ asking g (λ (a : A). withoutGroups (f a)) (λ (r : Refusal). withoutGroups (stop r))
 alone-asked (gives a) f = refl
 alone-asked (refuses r) f = refl
 
 plan-as : (u : Upload) (call : Call) (shape : Shape) → planOf shape u call
-    ≡ asking (asked u (sheetOf shape (call .sheet)) (call .settings) (call .depth)) (askedPlan shape (u .body) (call .settings) (call .depth)) (λ (r : Refusal). withoutGroups (stop r))
+    ≡ asking (asked u (sheetOf shape (call .sheet)) (call .settings) (call .depth))
+    (askedPlan shape (u .body) (call .settings) (call .depth)) (λ (r : Refusal). withoutGroups (stop r))
 unfolding structurePlan listPlan mapPlan stringListPlan
 plan-as u call (structure order) = refl
-plan-as u call list = alone-asked (asked u (sheetOf list (call .sheet)) (call .settings) (call .depth)) (itemsPlan (u .body) (call .settings))
-plan-as u call map = alone-asked (asked u (sheetOf map (call .sheet)) (call .settings) (call .depth)) (entriesPlan (u .body) (call .settings))
+plan-as u call list = alone-asked (asked u (sheetOf list (call .sheet)) (call .settings) (call .depth))
+    (itemsPlan (u .body) (call .settings))
+plan-as u call map = alone-asked (asked u (sheetOf map (call .sheet)) (call .settings) (call .depth))
+    (entriesPlan (u .body) (call .settings))
 plan-as u call strings = alone-asked (asked u (sheetOf strings (call .sheet)) (call .settings) (call .depth)) (stringsPlan (call .settings))
 
 pub plan-is : (u : Upload) (call : Call) (shape : Shape) → PlanIs u call shape (planOf shape u call)
-plan-is u call shape = subst⁻¹ (PlanIs u call shape) (plan-as u call shape) (go (asked-is u (sheetOf shape (call .sheet)) (call .settings) (call .depth)))
+plan-is u call shape = subst⁻¹ (PlanIs u call shape) (plan-as u call shape)
+    (go (asked-is u (sheetOf shape (call .sheet)) (call .settings) (call .depth)))
   where
-    go : {g : Answer (Asked (SheetOf shape))} → Is (AskedAs u (sheetOf shape (call .sheet)) (call .settings) (call .depth)) (AskedRefused u (sheetOf shape (call .sheet)) (call .settings) (call .depth)) g
-        → PlanIs u call shape (asking g (askedPlan shape (u .body) (call .settings) (call .depth)) (λ (r : Refusal). withoutGroups (stop r)))
+    go : {g : Answer (Asked (SheetOf shape))}
+        → Is (AskedAs u (sheetOf shape (call .sheet)) (call .settings) (call .depth))
+        (AskedRefused u (sheetOf shape (call .sheet)) (call .settings) (call .depth)) g
+        → PlanIs u call shape (asking g (askedPlan shape (u .body) (call .settings) (call .depth))
+        (λ (r : Refusal). withoutGroups (stop r)))
     go (is-given w) = while w
     go (is-refused w) = before w
 
 -- so what is said of nothing, and of the output of each such plan, is said of the output of the reading
 pub output-carried : (u : Upload) (call : Call) (room : Room) (shape : Shape) (R : Output → Type 0) → R nothing
-    → ((a : Asked (SheetOf shape)) → AskedAs u (sheetOf shape (call .sheet)) (call .settings) (call .depth) a → R (output (performed room (askedPlan shape (u .body) (call .settings) (call .depth) a))))
+    → ((a : Asked (SheetOf shape)) → AskedAs u (sheetOf shape (call .sheet)) (call .settings) (call .depth) a
+    → R (output (performed room (askedPlan shape (u .body) (call .settings) (call .depth) a))))
     → R (output (read shape u call room))
 unfolding performed perform
 output-carried u call room shape R base f =
@@ -105,17 +122,21 @@ mostGroups map = 0
 mostGroups strings = 0
 
 -- ---- where a plan may stop: at its end, at the root's name, and where a text that is wanted has none
-pub record MayStop (settings : Settings) (depth : ShapeDepth) (Here : Child → Type 0) (S : Refusal → Type 0) (shape : Shape) (a : Asked (SheetOf shape)) : Type 0 where
+pub record MayStop (settings : Settings) (depth : ShapeDepth) (Here : Child → Type 0) (S : Refusal → Type 0) (shape : Shape)
+    (a : Asked (SheetOf shape)) : Type 0 where
   pub illFormed : a .opened .seen .illFormed ≡ true → S Refusal.IllFormed
   pub rootName : RootDiffers settings depth shape a → S Refusal.RootName
   pub text : (c : Child) → Here c → TextWanted settings shape a c → (r : Refusal) → textOf (a .opened .seen .failure) c ≡ refuses r → S r
 
 -- nothing is said of where it stops
-pub may-stop : {Here : Child → Type 0} (settings : Settings) (depth : ShapeDepth) (shape : Shape) (a : Asked (SheetOf shape)) → MayStop settings depth Here Anything shape a
+pub may-stop : {Here : Child → Type 0} (settings : Settings) (depth : ShapeDepth) (shape : Shape) (a : Asked (SheetOf shape))
+    → MayStop settings depth Here Anything shape a
 may-stop settings depth shape a = record { illFormed = λ e. tt {0}; rootName = λ d. tt {0}; text = λ c h w r e. tt {0} }
 
-module _ {Here : Child → Type 0} {M : ℕ → Type 0} {T : List ℕ → Type 0} {F : Refusal → Type 0} {G : ℕ → List ℕ → Type 0} {P : Piece → Type 0} {S : Refusal → Type 0} {body : List ℕ} where
-  text-made : {o : Opened} → Sources Here T F P body o → M 0 → (c : Child) → Here c → ((r : Refusal) → textOf (o .seen .failure) c ≡ refuses r → S r)
+module _ {Here : Child → Type 0} {M : ℕ → Type 0} {T : List ℕ → Type 0} {F : Refusal → Type 0} {G : ℕ → List ℕ → Type 0}
+    {P : Piece → Type 0} {S : Refusal → Type 0} {body : List ℕ} where
+  text-made : {o : Opened} → Sources Here T F P body o → M 0 → (c : Child) → Here c
+      → ((r : Refusal) → textOf (o .seen .failure) c ≡ refuses r → S r)
       → Made (Source M T F G P) S 1 (textPlan (textOf (o .seen .failure) c))
   text-made {o} x m c h stops = go (textOf (o .seen .failure) c) refl
     where
@@ -123,45 +144,59 @@ module _ {Here : Child → Type 0} {M : ℕ → Type 0} {T : List ℕ → Type 0
       go (gives b) e = made-put (of-text m (x .text c h b e)) made-end
       go (refuses r) e = made-stop (stops r e)
 
-  member-made : {o : Opened} → Sources Here T F P body o → (c : Child) → Here c → (m : Option Indexed) → ((y : Indexed) → m ≡ some y → M (y .index))
+  member-made : {o : Opened} → Sources Here T F P body o → (c : Child) → Here c → (m : Option Indexed)
+      → ((y : Indexed) → m ≡ some y → M (y .index))
       → Made (Source M T F G P) S 1 (memberPlan body (o .seen) c m)
   member-made x c h none f = made-end
   member-made {o} x c h (some m) f =
-      pick-all (Made (Source M T F G P) S 1) (m .member .aggregate) _ _ (pick-all (Made (Source M T F G P) S 1) (m .member .flattened) _ _ made-end (made-put (of-piece (f m refl) (x .piece c h)) made-end))
+      pick-all (Made (Source M T F G P) S 1) (m .member .aggregate) _ _
+      (pick-all (Made (Source M T F G P) S 1) (m .member .flattened) _ _ made-end
+      (made-put (of-piece (f m refl) (x .piece c h)) made-end))
       (go (textOf (o .seen .failure) c) refl)
     where
       go : (a : Answer (List ℕ)) → textOf (o .seen .failure) c ≡ a → Made (Source M T F G P) S 1 (scalarPlan (m .index) a)
       go (gives b) e = made-put (of-text (f m refl) (x .text c h b e)) made-end
       go (refuses r) e = made-put (of-failed (f m refl) (x .failed c h r e)) made-end
 
-  entry-made : {settings : Settings} {depth : ShapeDepth} {a : Asked (SheetOf map)} → Sources Here T F P body (a .opened) → MayStop settings depth Here S map a → (c : Child) → Here c
+  entry-made : {settings : Settings} {depth : ShapeDepth} {a : Asked (SheetOf map)} → Sources Here T F P body (a .opened)
+      → MayStop settings depth Here S map a → (c : Child) → Here c
       → List·Memᴰ c (entriesOf (entryName settings (a .sheet)) (a .opened .root)) → isWanted (entryName settings (a .sheet)) c ≡ true
       → {f : Answer Fields} → FieldsFrom body (a .opened .seen) (a .sheet) (childrenOf c) f → Made (Source M T F G P) S 1 (readPlan f)
-  entry-made {a = a} x st c h j wanted (no-text {c = d} {r = r} i w e) = made-stop (st .text d (x .children c h d i) (of-field a j wanted i w) r e)
+  entry-made {a = a} x st c h j wanted (no-text {c = d} {r = r} i w e) =
+      made-stop (st .text d (x .children c h d i) (of-field a j wanted i w) r e)
   entry-made {a = a} x st c h j wanted (fields k v) = go k v
     where
       go : {k : Option (List ℕ)} {v : Option MapValue} → KeyFrom body (a .opened .seen) (a .sheet) (childrenOf c) k
           → ValueFrom body (a .opened .seen) (a .sheet) (childrenOf c) v → Made (Source M T F G P) S 1 (fieldsPlan k v)
       go no-key v = made-end
       go (key i e) no-value = made-end
-      go (key {c = d} {k = k} i e) (text-value {c = y} {t = t} j q) = made-put (of-key-text (x .text d (x .children c h d i) k e) (x .text y (x .children c h y j) t q)) made-end
-      go (key {c = d} {k = k} i e) (piece-value {c = y} j) = made-put (of-key-piece (x .text d (x .children c h d i) k e) (x .piece y (x .children c h y j))) made-end
+      go (key {c = d} {k = k} i e) (text-value {c = y} {t = t} j q) =
+          made-put (of-key-text (x .text d (x .children c h d i) k e) (x .text y (x .children c h y j) t q)) made-end
+      go (key {c = d} {k = k} i e) (piece-value {c = y} j) =
+          made-put (of-key-piece (x .text d (x .children c h d i) k e) (x .piece y (x .children c h y j))) made-end
 
   -- THE INDUCTION
-  pub plan-made : (settings : Settings) (depth : ShapeDepth) (shape : Shape) (a : Asked (SheetOf shape)) → Sources Here T F P body (a .opened) → ShapeSources M T G P body shape a
-      → MayStop settings depth Here S shape a → MadeWhole (Source M T F G P) S (mostMet settings shape a) (mostGroups shape) (askedPlan shape body settings depth a)
-  unfolding itemsPlan itemPlan stringsPlan stringPlan entriesPlan entryPlan openedPlan membersPlan attributePlan childPlan groupPlan unwrappedPlan
+  pub plan-made : (settings : Settings) (depth : ShapeDepth) (shape : Shape) (a : Asked (SheetOf shape))
+      → Sources Here T F P body (a .opened) → ShapeSources M T G P body shape a
+      → MayStop settings depth Here S shape a
+      → MadeWhole (Source M T F G P) S (mostMet settings shape a) (mostGroups shape) (askedPlan shape body settings depth a)
+  unfolding itemsPlan itemPlan stringsPlan stringPlan entriesPlan entryPlan openedPlan membersPlan attributePlan childPlan groupPlan
+      unwrappedPlan
   plan-made settings depth list a x y st =
       let kids = childrenOf (a .opened .root) in
       record {
-        asMet = made-more _ (omega arith) (made-followed (made-each _ kids (λ c i. pick-all (Made (Source M T F G P) S 1) (isWanted (itemName settings (a .sheet)) c) _ _
-            (made-put (of-piece y (x .piece c (x .children (a .opened .root) (x .root) c i))) made-end) made-end)) (made-last {n = 0} (a .opened .seen .illFormed) (st .illFormed)));
+        asMet = made-more _ (omega arith)
+            (made-followed (made-each _ kids (λ c i. pick-all (Made (Source M T F G P) S 1) (isWanted (itemName settings (a .sheet)) c) _ _
+            (made-put (of-piece y (x .piece c (x .children (a .opened .root) (x .root) c i))) made-end) made-end))
+            (made-last {n = 0} (a .opened .seen .illFormed) (st .illFormed)));
         groups = made-end;
       }
   plan-made settings depth strings a x y st =
       let kids = childrenOf (a .opened .root) in
       record {
-        asMet = made-more _ (omega arith) (made-followed (made-each _ kids (λ c i. pick-cases (Made (Source M T F G P) S 1) (isWanted (itemName settings (a .sheet)) c) _ _
+        asMet = made-more _ (omega arith)
+            (made-followed (made-each _ kids
+            (λ c i. pick-cases (Made (Source M T F G P) S 1) (isWanted (itemName settings (a .sheet)) c) _ _
             (λ e. let h = x .children (a .opened .root) (x .root) c i in text-made x y c h (st .text c h (of-item a i e))) (λ e. made-end)))
             (made-last {n = 0} (a .opened .seen .illFormed) (st .illFormed)));
         groups = made-end;
@@ -169,13 +204,17 @@ module _ {Here : Child → Type 0} {M : ℕ → Type 0} {T : List ℕ → Type 0
   plan-made settings depth map a x y st =
       let name = entryName settings (a .sheet) in
       record {
-        asMet = made-more _ (omega arith) (made-followed (made-each _ (entriesOf name (a .opened .root)) (λ c i. pick-cases (Made (Source M T F G P) S 1) (isWanted name c) _ _
+        asMet = made-more _ (omega arith)
+            (made-followed (made-each _ (entriesOf name (a .opened .root))
+            (λ c i. pick-cases (Made (Source M T F G P) S 1) (isWanted name c) _ _
             (λ e. entry-made x st c (x .entries name (a .opened .root) (x .root) c i) i e
-            (fields-from body (a .opened .seen) (a .sheet) (childrenOf c) (childrenOf c) (λ z j. j) noFields no-key no-value)) (λ e. made-end)))
+            (fields-from body (a .opened .seen) (a .sheet) (childrenOf c) (childrenOf c) (λ z j. j) noFields no-key no-value))
+            (λ e. made-end)))
             (made-last {n = 0} (a .opened .seen .illFormed) (st .illFormed)));
         groups = made-end;
       }
-  plan-made settings depth (structure order) a x y st = named (testsRootName settings depth) (nameMatches (a .opened .root .start .name) (rootName (a .sheet))) refl refl
+  plan-made settings depth (structure order) a x y st =
+      named (testsRootName settings depth) (nameMatches (a .opened .root .start .name) (rootName (a .sheet))) refl refl
     where
       o : Opened
       o = a .opened
@@ -186,37 +225,47 @@ module _ {Here : Child → Type 0} {M : ℕ → Type 0} {T : List ℕ → Type 0
       resolved : (local : List ℕ) (m : Indexed) → resolve (a .sheet) local ≡ some m → M (m .index)
       resolved local m e = y .member m (named-in (membersOf (a .sheet)) local m e)
 
-      found : (m : Indexed) → List·Memᴰ m (membersOf (a .sheet)) → (v : Option (List ℕ)) → attributeOf (o .root .start .attributes) (attributeName (m .member)) ≡ v → Made (Source M T F G P) S 1 (foundPlan (m .index) v)
+      found : (m : Indexed) → List·Memᴰ m (membersOf (a .sheet)) → (v : Option (List ℕ))
+          → attributeOf (o .root .start .attributes) (attributeName (m .member)) ≡ v → Made (Source M T F G P) S 1 (foundPlan (m .index) v)
       found m i none e = made-end
       found m i (some v) e = made-put (of-text (y .member m i) (y .attribute _ v e)) made-end
 
-      atRoot : (m : Option Indexed) → resolve (a .sheet) (o .root .start .name .local) ≡ m → Made (Source M T F G P) S 1 (rootPlan (rootPiece body o) m)
+      atRoot : (m : Option Indexed) → resolve (a .sheet) (o .root .start .name .local) ≡ m
+          → Made (Source M T F G P) S 1 (rootPlan (rootPiece body o) m)
       atRoot none e = made-end
       atRoot (some m) e = made-put (of-piece (resolved _ m e) (y .root)) made-end
 
-      attributes : Made (Source M T F G P) S (length (membersOf (a .sheet))) (oneByOne (attributePlan (o .root .start .attributes)) (membersOf (a .sheet)))
-      attributes = made-each (attributePlan (o .root .start .attributes)) (membersOf (a .sheet)) (λ m i. pick-all (Made (Source M T F G P) S 1) (m .member .attribute) _ _
+      attributes : Made (Source M T F G P) S (length (membersOf (a .sheet)))
+          (oneByOne (attributePlan (o .root .start .attributes)) (membersOf (a .sheet)))
+      attributes = made-each (attributePlan (o .root .start .attributes)) (membersOf (a .sheet))
+          (λ m i. pick-all (Made (Source M T F G P) S 1) (m .member .attribute) _ _
           (found m i (attributeOf (o .root .start .attributes) (attributeName (m .member))) refl) made-end)
 
       children : Made (Source M T F G P) S (length kids) (oneByOne (childPlan body (o .seen) (a .sheet)) kids)
-      children = made-each (childPlan body (o .seen) (a .sheet)) kids (λ c i. member-made x c (x .children (o .root) (x .root) c i) (resolve (a .sheet) (c .start .name .local)) (resolved _))
+      children = made-each (childPlan body (o .seen) (a .sheet)) kids
+          (λ c i. member-made x c (x .children (o .root) (x .root) c i) (resolve (a .sheet) (c .start .name .local)) (resolved _))
 
       either : MadeWhole (Source M T F G P) S (mostMet settings (structure order) a) (length order)
           (pick (a .sheet .unwrapped) (withoutGroups (unwrappedPlan body (a .sheet) o)) (membersPlan body (a .sheet) order o))
       either =
           pick-all (MadeWhole (Source M T F G P) S (mostMet settings (structure order) a) (length order)) (a .sheet .unwrapped) _ _
           (record {
-            asMet = made-more _ (omega arith) (made-followed (made-last {n = 0} (o .seen .illFormed) (st .illFormed)) (atRoot (resolve (a .sheet) (o .root .start .name .local)) refl));
+            asMet = made-more _ (omega arith)
+                (made-followed (made-last {n = 0} (o .seen .illFormed) (st .illFormed))
+                (atRoot (resolve (a .sheet) (o .root .start .name .local)) refl));
             groups = made-end;
           })
           (record {
-            asMet = made-more _ (omega arith) (made-followed attributes (made-followed children (made-last {n = 0} (o .seen .illFormed) (st .illFormed))));
+            asMet = made-more _ (omega arith)
+                (made-followed attributes (made-followed children (made-last {n = 0} (o .seen .illFormed) (st .illFormed))));
             groups = made-each _ order (λ i j. made-put (of-group (y .ordered i j) (y .group i)) made-end);
           })
 
-      named : (tests matches : Bool) → testsRootName settings depth ≡ tests → nameMatches (o .root .start .name) (rootName (a .sheet)) ≡ matches
+      named : (tests matches : Bool) → testsRootName settings depth ≡ tests
+          → nameMatches (o .root .start .name) (rootName (a .sheet)) ≡ matches
           → MadeWhole (Source M T F G P) S (mostMet settings (structure order) a) (length order)
-          (withRootName tests matches (pick (a .sheet .unwrapped) (withoutGroups (unwrappedPlan body (a .sheet) o)) (membersPlan body (a .sheet) order o)))
+          (withRootName tests matches (pick (a .sheet .unwrapped) (withoutGroups (unwrappedPlan body (a .sheet) o))
+          (membersPlan body (a .sheet) order o)))
       named false matches p q = either
       named true true p q = either
       named true false p q = record { asMet = made-stop (st .rootName (differs a p q)); groups = made-end }

@@ -15,8 +15,10 @@ use Rattle.readings.specs.Structure.{attributeOf, groupOf, rootPiece}
 use Rattle.readings.specs.Collection.{entriesOf}
 use Rattle.readings.specs.Shape.{Shape, structure, list, map, strings, SheetOf}
 
--- ---- what may be written: of a member of which M holds, a text of which T holds, a refusal of which F holds, a group of which G holds, a piece of which P holds
-pub data Source (M : ℕ → Type 0) (T : List ℕ → Type 0) (F : Refusal → Type 0) (G : ℕ → List ℕ → Type 0) (P : Piece → Type 0) : (ℕ → Entry) → List ℕ → Type 0 where
+-- ---- what may be written: of a member of which M holds, a text of which T holds, a refusal of which F holds, a group of which G holds, a
+-- piece of which P holds
+pub data Source (M : ℕ → Type 0) (T : List ℕ → Type 0) (F : Refusal → Type 0) (G : ℕ → List ℕ → Type 0) (P : Piece → Type 0) : (ℕ → Entry)
+    → List ℕ → Type 0 where
   of-text : {i : ℕ} {b : List ℕ} → M i → T b → Source M T F G P (textEntry i b) b
   of-failed : {i : ℕ} {r : Refusal} → M i → F r → Source M T F G P (failedEntry i r) []
   of-piece : {i : ℕ} {p : Piece} → M i → P p → Source M T F G P (pieceEntry i p) []
@@ -29,7 +31,8 @@ abbrev pub Anything : {A : Type 0} → A → Type 0
 Anything a = Unit {0}
 
 -- ---- what there is to be written of an opened body. Here holds of the root, and of the children that are met
-pub record Sources (Here : Child → Type 0) (T : List ℕ → Type 0) (F : Refusal → Type 0) (P : Piece → Type 0) (body : List ℕ) (o : Opened) : Type 0 where
+pub record Sources (Here : Child → Type 0) (T : List ℕ → Type 0) (F : Refusal → Type 0) (P : Piece → Type 0) (body : List ℕ)
+    (o : Opened) : Type 0 where
   pub root : Here (o .root)
   pub children : (c : Child) → Here c → (x : Child) → List·Memᴰ x (childrenOf c) → Here x
   pub entries : (name : Option (List ℕ)) (c : Child) → Here c → (x : Child) → List·Memᴰ x (entriesOf name c) → Here x
@@ -38,14 +41,16 @@ pub record Sources (Here : Child → Type 0) (T : List ℕ → Type 0) (F : Refu
   pub piece : (c : Child) → Here c → P (pieceOf body (o .seen) c)
 
 -- of a structure besides
-pub record StructureSources (M : ℕ → Type 0) (T : List ℕ → Type 0) (G : ℕ → List ℕ → Type 0) (P : Piece → Type 0) (body : List ℕ) (s : Structure) (o : Opened) (order : List ℕ) : Type 0 where
+pub record StructureSources (M : ℕ → Type 0) (T : List ℕ → Type 0) (G : ℕ → List ℕ → Type 0) (P : Piece → Type 0) (body : List ℕ)
+    (s : Structure) (o : Opened) (order : List ℕ) : Type 0 where
   pub member : (m : Indexed) → List·Memᴰ m (membersOf s) → M (m .index)
   pub ordered : (i : ℕ) → List·Memᴰ i order → M i
   pub attribute : (name v : List ℕ) → attributeOf (o .root .start .attributes) name ≡ some v → T v
   pub group : (i : ℕ) → G i (groupOf body (o .seen) s (childrenOf (o .root)) i)
   pub root : P (rootPiece body o)
 
-abbrev pub ShapeSources : (M : ℕ → Type 0) (T : List ℕ → Type 0) (G : ℕ → List ℕ → Type 0) (P : Piece → Type 0) → List ℕ → (shape : Shape) → Asked (SheetOf shape) → Type 0
+abbrev pub ShapeSources : (M : ℕ → Type 0) (T : List ℕ → Type 0) (G : ℕ → List ℕ → Type 0) (P : Piece → Type 0) → List ℕ → (shape : Shape)
+    → Asked (SheetOf shape) → Type 0
 ShapeSources M T G P body (structure order) a = StructureSources M T G P body (a .sheet) (a .opened) order
 ShapeSources M T G P body list a = M 0
 ShapeSources M T G P body map a = M 0

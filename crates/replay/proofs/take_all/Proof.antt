@@ -1,5 +1,5 @@
--- `replay::take_all` is safe and ends. The loop's invariant: the stores leave the length of `line` as it was. The measure is the number of turns that are left.
--- Assumes nothing.
+-- `replay::take_all` is safe and ends. The loop's invariant: the stores leave the length of `line` as it was. The measure is the number of
+-- turns that are left. Assumes nothing.
 use borrow.Author.Needs.{needs}
 use mathlib.Core.Path.{_≡_}
 use lib.ListN.{length}

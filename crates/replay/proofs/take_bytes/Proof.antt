@@ -1,5 +1,5 @@
--- `replay::take_bytes` is safe and ends. The loop's invariant: the stores leave the length of `line` as it was. The measure is what is left of the bytes.
--- Assumes nothing.
+-- `replay::take_bytes` is safe and ends. The loop's invariant: the stores leave the length of `line` as it was. The measure is what is left
+-- of the bytes. Assumes nothing.
 use borrow.Author.Needs.{needs}
 use Prim.Native.Nat.{_-_}
 use mathlib.Core.Path.{_≡_}

@@ -1,4 +1,5 @@
--- Bit maps: the bits of a byte that is the sum of the values of the bits that stand are read as they were given, and each byte is such a sum.
+-- Bit maps: the bits of a byte that is the sum of the values of the bits that stand are read as they were given, and each byte is such a
+-- sum.
 use Prim.Native.Nat.{ℕ, zero, suc, _+_, _*_, _/_, _%_, _≤_, _<_}
 use mathlib.Core.Path.{_≡_, refl}
 use mathlib.Core.Bool.{Bool, true, false}
@@ -52,7 +53,8 @@ bits-of values b x y z u w small is =
     omega (arith, is, standing-digit 1 x, standing-digit 2 y, standing-digit 4 z, standing-digit 8 u, standing-digit 16 w) in
     read sum (digit-small x) (digit-small y) (digit-small z) (digit-small u) (digit-small w)
   where
-    read : b ≡ digit x + 2 * digit y + 4 * digit z + 8 * digit u + 16 * digit w → digit x ≤ 1 → digit y ≤ 1 → digit z ≤ 1 → digit u ≤ 1 → digit w ≤ 1
+    read : b ≡ digit x + 2 * digit y + 4 * digit z + 8 * digit u + 16 * digit w → digit x ≤ 1 → digit y ≤ 1 → digit z ≤ 1 → digit u ≤ 1
+        → digit w ≤ 1
         → Bits values b x y z u w
     read e f g h i j =
         record {
@@ -70,7 +72,8 @@ standing-most v false = omega arith
 
 pub four-read : (x y z u : Bool) → Bits 16 (fourBits x y z u) x y z u false
 four-read x y z u =
-    bits-of 16 (fourBits x y z u) x y z u false (omega (arith, standing-most 1 x, standing-most 2 y, standing-most 4 z, standing-most 8 u)) (omega arith)
+    bits-of 16 (fourBits x y z u) x y z u false (omega (arith, standing-most 1 x, standing-most 2 y, standing-most 4 z, standing-most 8 u))
+    (omega arith)
 
 pub five-read : (x y z u w : Bool) → Bits 32 (fiveBits x y z u w) x y z u w
 five-read x y z u w =

@@ -1,4 +1,5 @@
--- A list's and a map's sheets are read exactly as they are written: their bytes say a sheet just when it is in the limits and they are its written form.
+-- A list's and a map's sheets are read exactly as they are written: their bytes say a sheet just when it is in the limits and they are its
+-- written form.
 use Prim.Native.Nat.{ℕ}
 use mathlib.Core.Path.{_≡_, refl}
 use mathlib.Core.Bool.{Bool, true, false}
@@ -12,11 +13,13 @@ use Rattle.sheet.specs.Sheet.{Item, ListSheet, itemIf, onlyWith, listOf,
 use Rattle.sheet.proofs.Exact.InLimits.{NameIfThere, ItemIfThere, ListInLimits, ValueIfThere, MapInLimits}
 use Rattle.sheet.proofs.Exact.Written.{fourBits, fiveBits, isThere, nameIfWritten, listWith, listWritten, mapWith, mapWritten}
 use Rattle.sheet.proofs.Exact.Bits.{Bits, four-read, read-four, five-read, read-five}
-use Rattle.sheet.proofs.Exact.Fields.{AllBytes, front-value, front-rest, first-then, holds, bit-map-exact, name-if-exact, name-if-end, all-is}
+use Rattle.sheet.proofs.Exact.Fields.{AllBytes, front-value, front-rest, first-then, holds, bit-map-exact, name-if-exact}
+use Rattle.sheet.proofs.Exact.Fields.{name-if-end, all-is}
 
 -- ---- list
 -- "2 and 3 only with 0": the fields of a bit map that keeps to that, as a sheet has them
-list-fields : (t f : Bool) (x m : Option (List ℕ)) → pick (onlyWith t (isThere x)) (onlyWith t (isThere m)) false ≡ true → NameIfThere x → NameIfThere m
+list-fields : (t f : Bool) (x m : Option (List ℕ)) → pick (onlyWith t (isThere x)) (onlyWith t (isThere m)) false ≡ true → NameIfThere x
+    → NameIfThere m
     → ItemIfThere (itemIf t x m) × (listWith (itemIf t x m) f ≡ fourBits t f (isThere x) (isThere m) ∷ (nameIfWritten x ++ nameIfWritten m))
 list-fields true f x m e g h = (record { xmlName = g; memberName = h }, refl)
 list-fields false f none none e g h = (tt, refl)
@@ -33,7 +36,8 @@ list-read-written l h = go (l .item) (l .flattened) (h .item)
       where
         alone : (b : ℕ) → Bits 16 b false f false false false → listOf (b ∷ []) ≡ some (record { item = none; flattened = f })
         alone b bits = rw (lt-ltb b 16 (bits .small), bits .one, bits .two, bits .four, bits .eight)
-    go (some i) f h = whole (fourBits true f (isThere (i .xmlName)) (isThere (i .memberName))) (four-read true f (isThere (i .xmlName)) (isThere (i .memberName)))
+    go (some i) f h = whole (fourBits true f (isThere (i .xmlName)) (isThere (i .memberName)))
+        (four-read true f (isThere (i .xmlName)) (isThere (i .memberName)))
       where
         whole : (b : ℕ) → Bits 16 b true f (isThere (i .xmlName)) (isThere (i .memberName)) false
             → listOf (b ∷ (nameIfWritten (i .xmlName) ++ nameIfWritten (i .memberName))) ≡ some (record { item = some i; flattened = f })
@@ -64,8 +68,10 @@ list-written-read bytes l h e =
 
 -- ---- map
 -- "3 and 4 only with 2": the same
-map-fields : (f : Bool) (k : Option (List ℕ)) (t : Bool) (x : Option (List ℕ)) (a : Bool) → pick (onlyWith t (isThere x)) (onlyWith t a) false ≡ true → NameIfThere x
-    → ValueIfThere (valueIf t x a) × (mapWith f k (valueIf t x a) ≡ fiveBits f (isThere k) t (isThere x) a ∷ (nameIfWritten k ++ nameIfWritten x))
+map-fields : (f : Bool) (k : Option (List ℕ)) (t : Bool) (x : Option (List ℕ)) (a : Bool)
+    → pick (onlyWith t (isThere x)) (onlyWith t a) false ≡ true → NameIfThere x
+    → ValueIfThere (valueIf t x a)
+    × (mapWith f k (valueIf t x a) ≡ fiveBits f (isThere k) t (isThere x) a ∷ (nameIfWritten k ++ nameIfWritten x))
 map-fields f k true x a e h = (h, refl)
 map-fields f k false none false e h = (tt, rw (append-nil (nameIfWritten k)))
 map-fields f k false none true e h = false-true e
@@ -80,9 +86,11 @@ map-read-written m h = go (m .flattened) (m .keyXmlName) (m .value) (h .keyXmlNa
         → mapOf (mapWith f k value) ≡ some (record { flattened = f; keyXmlName = k; value = value })
     go f k none g h = alone (fiveBits f (isThere k) false false false) (five-read f (isThere k) false false false)
       where
-        alone : (b : ℕ) → Bits 32 b f (isThere k) false false false → mapOf (b ∷ nameIfWritten k) ≡ some (record { flattened = f; keyXmlName = k; value = none })
+        alone : (b : ℕ) → Bits 32 b f (isThere k) false false false
+            → mapOf (b ∷ nameIfWritten k) ≡ some (record { flattened = f; keyXmlName = k; value = none })
         alone b bits = rw (lt-ltb b 32 (bits .small), bits .one, bits .two, bits .four, bits .eight, bits .sixteen, name-if-end k g)
-    go f k (some v) g h = whole (fiveBits f (isThere k) true (isThere (v .xmlName)) (v .aggregate)) (five-read f (isThere k) true (isThere (v .xmlName)) (v .aggregate))
+    go f k (some v) g h = whole (fiveBits f (isThere k) true (isThere (v .xmlName)) (v .aggregate))
+        (five-read f (isThere k) true (isThere (v .xmlName)) (v .aggregate))
       where
         whole : (b : ℕ) → Bits 32 b f (isThere k) true (isThere (v .xmlName)) (v .aggregate)
             → mapOf (b ∷ (nameIfWritten k ++ nameIfWritten (v .xmlName))) ≡ some (record { flattened = f; keyXmlName = k; value = some v })

@@ -37,14 +37,16 @@ module _ {A : Type 0} where
   not-broken e = let z : _≡_ {A = ℕ} 0 1 = cc in absurd (omega arith)
 
 -- ---- exact fields
--- what is written of a, and rest after it, reads as a with rest left; and bytes that read as a with rest left are what is written of a, and rest
+-- what is written of a, and rest after it, reads as a with rest left; and bytes that read as a with rest left are what is written of a, and
+-- rest
 pub record Exact {A : Type 0} (field : List ℕ → Front A) (write : A → List ℕ) (Limits : A → Type 0) : Type 0 where
   pub reads : (a : A) (rest : List ℕ) → Limits a → field (write a ++ rest) ≡ front a rest
   pub exact : (s : List ℕ) (a : A) (rest : List ℕ) → AllBytes s → field s ≡ front a rest → Limits a × (s ≡ write a ++ rest)
 
 -- a sequence that begins with such a field: the field's value, and what is read after it
 module _ {A B : Type 0} {field : List ℕ → Front A} {write : A → List ℕ} {Limits : A → Type 0} where
-  pub first-then : Exact field write Limits → (more : A → List ℕ → Front B) (s : List ℕ) (b : B) (end : List ℕ) → AllBytes s → then (field s) more ≡ front b end
+  pub first-then : Exact field write Limits → (more : A → List ℕ → Front B) (s : List ℕ) (b : B) (end : List ℕ) → AllBytes s
+      → then (field s) more ≡ front b end
       → {G : Type 0} → ((a : A) (rest : List ℕ) → Limits a → s ≡ write a ++ rest → AllBytes rest → more a rest ≡ front b end → G) → G
   first-then x more s b end h e {G} k = go (field s) refl e
     where
@@ -71,7 +73,8 @@ bit-map-exact values = record { reads = λ b rest h. rw (lt-ltb b values h); exa
     exact : (s : List ℕ) (b : ℕ) (rest : List ℕ) → AllBytes s → bitMap values s ≡ front b rest → (b < values) × (s ≡ b ∷ rest)
     exact s b rest h e =
         first-then byte-exact _ s b rest h e
-        (λ c l limits is bytes onward. let p = holds (ltb c values) onward in rw (← front-value (p .1), ← front-rest (p .1)) (ltb-true c values (p .0), is))
+        (λ c l limits is bytes onward. let p = holds (ltb c values) onward in
+        rw (← front-value (p .1), ← front-rest (p .1)) (ltb-true c values (p .0), is))
 
 -- "A name is a length byte 1..255, then bytes."
 pub name-exact : Exact name nameWritten NameInLimits
@@ -79,9 +82,15 @@ name-exact = record { reads = reads; exact = exact }
   where
     reads : (n rest : List ℕ) → NameInLimits n → name (nameWritten n ++ rest) ≡ front n rest
     reads n rest h =
-        rw (le-leb 1 (length n) (h .filled), le-leb (length n) (length (n ++ rest)) (omega (arith, length-append n rest)), take-append-seam n rest, drop-append-seam n rest)
+        rw (
+          le-leb 1 (length n) (h .filled),
+          le-leb (length n) (length (n ++ rest)) (omega (arith, length-append n rest)),
+          take-append-seam n rest,
+          drop-append-seam n rest,
+        )
 
-    go : (b : ℕ) (l n rest : List ℕ) (x y : Bool) → b < 256 → leb 1 b ≡ x → leb b (length l) ≡ y → whereHolds (pick x y false) (front (take b l) (drop b l)) ≡ front n rest
+    go : (b : ℕ) (l n rest : List ℕ) (x y : Bool) → b < 256 → leb 1 b ≡ x → leb b (length l) ≡ y
+        → whereHolds (pick x y false) (front (take b l) (drop b l)) ≡ front n rest
         → NameInLimits n × ((b ∷ l) ≡ nameWritten n ++ rest)
     go b l n rest true true h p q e =
         let f = front-value e in
@@ -101,21 +110,25 @@ name-exact = record { reads = reads; exact = exact }
 pub name-if-exact : (t : Bool) → Exact (nameIf t) nameIfWritten (λ o. (isThere o ≡ t) × NameIfThere o)
 name-if-exact true = record { reads = reads; exact = exact }
   where
-    reads : (o : Option (List ℕ)) (rest : List ℕ) → (isThere o ≡ true) × NameIfThere o → nameIf true (nameIfWritten o ++ rest) ≡ front o rest
+    reads : (o : Option (List ℕ)) (rest : List ℕ) → (isThere o ≡ true) × NameIfThere o
+        → nameIf true (nameIfWritten o ++ rest) ≡ front o rest
     reads none rest h = false-true (h .0)
     reads (some n) rest h = rw (name-exact .reads n rest (h .1))
 
-    exact : (s : List ℕ) (o : Option (List ℕ)) (rest : List ℕ) → AllBytes s → nameIf true s ≡ front o rest → ((isThere o ≡ true) × NameIfThere o) × (s ≡ nameIfWritten o ++ rest)
+    exact : (s : List ℕ) (o : Option (List ℕ)) (rest : List ℕ) → AllBytes s → nameIf true s ≡ front o rest
+        → ((isThere o ≡ true) × NameIfThere o) × (s ≡ nameIfWritten o ++ rest)
     exact s o rest h e =
         first-then name-exact (λ n r. front (some n) r) s o rest h e
         (λ n r limits is bytes onward. rw (← front-value onward, ← front-rest onward) ((refl, limits), is))
 name-if-exact false = record { reads = reads; exact = exact }
   where
-    reads : (o : Option (List ℕ)) (rest : List ℕ) → (isThere o ≡ false) × NameIfThere o → nameIf false (nameIfWritten o ++ rest) ≡ front o rest
+    reads : (o : Option (List ℕ)) (rest : List ℕ) → (isThere o ≡ false) × NameIfThere o
+        → nameIf false (nameIfWritten o ++ rest) ≡ front o rest
     reads none rest h = refl
     reads (some n) rest h = false-true (sym (h .0))
 
-    exact : (s : List ℕ) (o : Option (List ℕ)) (rest : List ℕ) → AllBytes s → nameIf false s ≡ front o rest → ((isThere o ≡ false) × NameIfThere o) × (s ≡ nameIfWritten o ++ rest)
+    exact : (s : List ℕ) (o : Option (List ℕ)) (rest : List ℕ) → AllBytes s → nameIf false s ≡ front o rest
+        → ((isThere o ≡ false) × NameIfThere o) × (s ≡ nameIfWritten o ++ rest)
     exact s o rest h e = rw (← front-value e) ((refl, tt), front-rest e)
 
 -- so many fields of one kind
@@ -124,23 +137,32 @@ pub times-exact : {A : Type 0} {field : List ℕ → Front A} {write : A → Lis
 unfolding times eachWritten
 times-exact {A} {field} {write} {Limits} x zero = record { reads = reads; exact = exact }
   where
-    reads : (l : List A) (rest : List ℕ) → (length l ≡ zero) × Every Limits l → times field zero (eachWritten write l ++ rest) ≡ front l rest
+    reads : (l : List A) (rest : List ℕ) → (length l ≡ zero) × Every Limits l
+        → times field zero (eachWritten write l ++ rest) ≡ front l rest
     reads [] rest h = refl
     reads (a ∷ l) rest h = absurd (omega (arith, h .0))
 
-    exact : (s : List ℕ) (l : List A) (rest : List ℕ) → AllBytes s → front [] s ≡ front l rest → ((length l ≡ zero) × Every Limits l) × (s ≡ eachWritten write l ++ rest)
+    exact : (s : List ℕ) (l : List A) (rest : List ℕ) → AllBytes s → front [] s ≡ front l rest
+        → ((length l ≡ zero) × Every Limits l) × (s ≡ eachWritten write l ++ rest)
     exact s l rest h e = rw (← front-value e) ((refl, every.none), front-rest e)
 times-exact {A} {field} {write} {Limits} x (suc n) = next (times-exact x n)
   where
-    next : Exact (times field n) (eachWritten write) (λ l. (length l ≡ n) × Every Limits l) → Exact (times field (suc n)) (eachWritten write) (λ l. (length l ≡ suc n) × Every Limits l)
+    next : Exact (times field n) (eachWritten write) (λ l. (length l ≡ n) × Every Limits l)
+        → Exact (times field (suc n)) (eachWritten write) (λ l. (length l ≡ suc n) × Every Limits l)
     next y = record { reads = reads; exact = exact }
       where
-        reads : (l : List A) (rest : List ℕ) → (length l ≡ suc n) × Every Limits l → times field (suc n) (eachWritten write l ++ rest) ≡ front l rest
+        reads : (l : List A) (rest : List ℕ) → (length l ≡ suc n) × Every Limits l
+            → times field (suc n) (eachWritten write l ++ rest) ≡ front l rest
         reads [] rest h = absurd (omega (arith, h .0))
         reads (a ∷ l) rest h =
-            rw (append-assoc (write a) (eachWritten write l) rest, x .reads a (eachWritten write l ++ rest) (every-first (h .1)), y .reads l rest (omega (arith, h .0), every-rest (h .1)))
+            rw (
+              append-assoc (write a) (eachWritten write l) rest,
+              x .reads a (eachWritten write l ++ rest) (every-first (h .1)),
+              y .reads l rest (omega (arith, h .0), every-rest (h .1)),
+            )
 
-        exact : (s : List ℕ) (l : List A) (rest : List ℕ) → AllBytes s → times field (suc n) s ≡ front l rest → ((length l ≡ suc n) × Every Limits l) × (s ≡ eachWritten write l ++ rest)
+        exact : (s : List ℕ) (l : List A) (rest : List ℕ) → AllBytes s → times field (suc n) s ≡ front l rest
+            → ((length l ≡ suc n) × Every Limits l) × (s ≡ eachWritten write l ++ rest)
         exact s l rest h e =
             first-then x (λ a r. then (times field n r) (λ k end. front (a ∷ k) end)) s l rest h e
             (λ a r limits is bytes onward. first-then y (λ k end. front (a ∷ k) end) r l rest bytes onward

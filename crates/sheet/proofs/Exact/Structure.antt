@@ -1,4 +1,5 @@
--- A structure's sheet is read exactly as it is written: its bytes say a structure just when the structure is in the limits and they are its written form.
+-- A structure's sheet is read exactly as it is written: its bytes say a structure just when the structure is in the limits and they are its
+-- written form.
 use Prim.Native.Nat.{ℕ, _≤_}
 use mathlib.Core.Path.{_≡_, refl}
 use mathlib.Core.Bool.{false}
@@ -12,9 +13,11 @@ use Rattle.sheet.specs.Front.{front, bit, times}
 use Rattle.sheet.specs.Sheet.{mostMembers, Member, Structure, member, memberList, structureOf}
 use Rattle.lists.specs.Every.{Every}
 use Rattle.sheet.proofs.Exact.InLimits.{MemberInLimits, StructureInLimits}
-use Rattle.sheet.proofs.Exact.Written.{fourBits, fiveBits, isThere, nameWritten, nameIfWritten, eachWritten, memberWritten, memberListWritten, structureWritten}
+use Rattle.sheet.proofs.Exact.Written.{fourBits, fiveBits, isThere, nameWritten, nameIfWritten, eachWritten, memberWritten}
+use Rattle.sheet.proofs.Exact.Written.{memberListWritten, structureWritten}
 use Rattle.sheet.proofs.Exact.Bits.{Bits, five-read, read-five, four-read, read-four}
-use Rattle.sheet.proofs.Exact.Fields.{AllBytes, front-value, front-rest, Exact, first-then, holds, byte-exact, bit-map-exact, name-exact, name-if-exact, times-exact, all-is}
+use Rattle.sheet.proofs.Exact.Fields.{AllBytes, front-value, front-rest, Exact, first-then, holds, byte-exact, bit-map-exact}
+use Rattle.sheet.proofs.Exact.Fields.{name-exact, name-if-exact, times-exact, all-is}
 
 -- ---- members: "bits 0 XML name, 1 member name, 2 attribute, 3 flattened, 4 aggregate"
 member-exact : Exact member memberWritten MemberInLimits
@@ -39,7 +42,8 @@ member-exact = record { reads = reads; exact = exact }
               name-if-exact (isThere (m .memberName)) .reads (m .memberName) rest (refl, h .memberName),
             )
 
-    exact : (s : List ℕ) (m : Member) (rest : List ℕ) → AllBytes s → member s ≡ front m rest → MemberInLimits m × (s ≡ memberWritten m ++ rest)
+    exact : (s : List ℕ) (m : Member) (rest : List ℕ) → AllBytes s → member s ≡ front m rest
+        → MemberInLimits m × (s ≡ memberWritten m ++ rest)
     exact s m rest h e =
         first-then (bit-map-exact 32) _ s m rest h e
         (λ b r small is bytes onward. first-then (name-if-exact (bit 1 b)) _ r m rest bytes onward
@@ -54,7 +58,8 @@ member-list-exact : Exact memberList memberListWritten (λ l. (length l ≤ most
 unfolding times eachWritten
 member-list-exact = record { reads = reads; exact = exact }
   where
-    reads : (l : List Member) (rest : List ℕ) → (length l ≤ mostMembers) × Every MemberInLimits l → memberList (memberListWritten l ++ rest) ≡ front l rest
+    reads : (l : List Member) (rest : List ℕ) → (length l ≤ mostMembers) × Every MemberInLimits l
+        → memberList (memberListWritten l ++ rest) ≡ front l rest
     reads l rest h = rw (le-leb (length l) mostMembers (h .0)) (times-exact member-exact (length l) .reads l rest (refl, h .1))
 
     exact : (s : List ℕ) (l : List Member) (rest : List ℕ) → AllBytes s → memberList s ≡ front l rest
@@ -75,10 +80,13 @@ member-list-end l h = rw (append-nil (eachWritten memberWritten l)) at (member-l
 -- what is written of a structure in the limits is read as that structure
 pub structure-read-written : (s : Structure) → StructureInLimits s → structureOf (structureWritten s) ≡ some s
 unfolding structureOf structureWritten
-structure-read-written s h = go (fourBits (isThere (s .xmlName)) (isThere (s .originalName)) (isThere (s .memberName)) (s .unwrapped)) (four-read _ _ _ _)
+structure-read-written s h = go (fourBits (isThere (s .xmlName)) (isThere (s .originalName)) (isThere (s .memberName)) (s .unwrapped))
+    (four-read _ _ _ _)
   where
     go : (b : ℕ) → Bits 16 b (isThere (s .xmlName)) (isThere (s .originalName)) (isThere (s .memberName)) (s .unwrapped) false
-        → structureOf (b ∷ (nameIfWritten (s .xmlName) ++ (nameIfWritten (s .originalName) ++ (nameIfWritten (s .memberName) ++ (nameWritten (s .shapeName) ++ memberListWritten (s .members)))))) ≡ some s
+        → structureOf (b ∷ (nameIfWritten
+        (s .xmlName) ++ (nameIfWritten
+        (s .originalName) ++ (nameIfWritten (s .memberName) ++ (nameWritten (s .shapeName) ++ memberListWritten (s .members)))))) ≡ some s
     go b bits =
         let fromMembers = memberListWritten (s .members) in
         let fromShape = nameWritten (s .shapeName) ++ fromMembers in
@@ -98,7 +106,8 @@ structure-read-written s h = go (fourBits (isThere (s .xmlName)) (isThere (s .or
         )
 
 -- bytes that are read as a structure are what is written of it, and it is in the limits
-pub structure-written-read : (bytes : List ℕ) (s : Structure) → AllBytes bytes → structureOf bytes ≡ some s → StructureInLimits s × (bytes ≡ structureWritten s)
+pub structure-written-read : (bytes : List ℕ) (s : Structure) → AllBytes bytes → structureOf bytes ≡ some s
+    → StructureInLimits s × (bytes ≡ structureWritten s)
 unfolding structureOf structureWritten
 structure-written-read bytes s h e =
     first-then (bit-map-exact 16) _ bytes s [] h (all-is _ s e)
@@ -108,6 +117,26 @@ structure-written-read bytes s h e =
     (λ m r memberName from-m bytes onward. first-then name-exact _ r s [] bytes onward
     (λ n r shapeName from-n bytes onward. first-then member-list-exact _ r s [] bytes onward
     (λ l r members from-l bytes onward. rw (← front-value onward) (
-      record { xmlName = xmlName .1; originalName = originalName .1; memberName = memberName .1; shapeName = shapeName; fewMembers = members .0; members = members .1 },
-      rw (is, from-x, from-o, from-m, from-n, from-l, front-rest onward, append-nil (memberListWritten l), xmlName .0, originalName .0, memberName .0, ← read-four b small),
+      record {
+        xmlName = xmlName .1;
+        originalName = originalName .1;
+        memberName = memberName .1;
+        shapeName = shapeName;
+        fewMembers = members .0;
+        members = members .1;
+      },
+      rw (
+        is,
+        from-x,
+        from-o,
+        from-m,
+        from-n,
+        from-l,
+        front-rest onward,
+        append-nil (memberListWritten l),
+        xmlName .0,
+        originalName .0,
+        memberName .0,
+        ← read-four b small,
+      ),
     )))))))

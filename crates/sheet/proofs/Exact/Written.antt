@@ -1,5 +1,5 @@
--- The bytes of a sheet, written from the words of 01, "Sheets and entries", alone: "A sheet is a bit map byte, then only the fields whose bit
--- stands, in bit order; higher bits are 0."
+-- The bytes of a sheet, written from the words of 01, "Sheets and entries", alone: "A sheet is a bit map byte, then only the fields whose
+-- bit stands, in bit order; higher bits are 0."
 use Prim.Native.Nat.{ℕ, _+_}
 use mathlib.Core.Bool.{Bool, true, false}
 use mathlib.Core.List.{List, [], _∷_, _++_}
@@ -57,7 +57,9 @@ unfoldable pub structureWritten : Structure → List ℕ
 unfolding eachWritten
 structureWritten s =
     fourBits (isThere (s .xmlName)) (isThere (s .originalName)) (isThere (s .memberName)) (s .unwrapped)
-    ∷ (nameIfWritten (s .xmlName) ++ (nameIfWritten (s .originalName) ++ (nameIfWritten (s .memberName) ++ (nameWritten (s .shapeName) ++ memberListWritten (s .members)))))
+    ∷ (nameIfWritten (s .xmlName) ++
+    (nameIfWritten (s .originalName) ++
+    (nameIfWritten (s .memberName) ++ (nameWritten (s .shapeName) ++ memberListWritten (s .members)))))
 
 -- ---- list
 -- "List: bits 0 has member, 1 flattened, 2 its XML name, 3 its member name (2 and 3 only with 0)."

@@ -1,6 +1,5 @@
 -- `n` counts the hits among the first k bytes, so it stays below 256, and while it is 0 none of them is the byte.
 use Prim.Native.Nat.{_-_}
-use lib.ListN.{length}
 use Rattle.slices.proofs.Scan.{BlockAt, scan-laws}
 use Rattle.slices.proofs.block_has.Statement.{statement}
 use Rattle.slices.proofs.block_has.Tie as tie

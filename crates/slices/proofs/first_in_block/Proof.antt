@@ -1,6 +1,5 @@
 -- `first` is the first hit among the first k bytes, or 255, which is no place of so short a block.
 use Prim.Native.Nat.{_-_}
-use lib.ListN.{length}
 use Rattle.slices.proofs.Scan.{FirstAt, first-laws}
 use Rattle.slices.proofs.first_in_block.Statement.{statement}
 use Rattle.slices.proofs.first_in_block.Tie as tie

@@ -1,5 +1,4 @@
 -- The first k bytes of the name stand there, so whether all of it does is whether the rest follows.
-use borrow.Author.Needs.{needs}
 use Rattle.unescape.proofs.Parse.{BeginsAt, begins-laws}
 use Prim.Native.Nat.{_-_}
 use lib.ListN.{length}

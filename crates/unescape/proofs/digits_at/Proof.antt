@@ -1,5 +1,4 @@
 -- The digits before i come to `acc`; once past 32 bits a number stays there, and no digit is a `;` or an `&`.
-use borrow.Author.Needs.{needs}
 use Rattle.unescape.proofs.Parse.{DigitsAt, digits-laws}
 use Prim.Native.Nat.{_-_}
 use lib.ListN.{length}

@@ -1,7 +1,6 @@
 -- By strictness: what XML allows, or every scalar value.
 use borrow.Author.Needs.{needs}
 use Rattle.reference.specs.Entity.{allowed}
-use Rattle.lists.proofs.Tests.{tests}
 use Rattle.unescape.proofs.is_allowed.Statement.{statement}
 use Rattle.unescape.proofs.is_allowed.Tie as tie
 

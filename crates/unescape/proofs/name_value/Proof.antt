@@ -1,5 +1,4 @@
 -- The five names of the definition from the last to the first: each is the other value of the next.
-use Rattle.lists.proofs.Tests.{flags}
 use Rattle.unescape.specs.Parse.{nameValue}
 use borrow.Author.Needs.{needs}
 use Rattle.unescape.proofs.name_value.Statement.{statement}

@@ -8,8 +8,10 @@ use Rattle.import.proofs.pieces.read_pieces.Statement.{statement}
 use Rattle.import.proofs.pieces.read_pieces.Tie as tie
 
 abbrev Inv-loop : tie.InvT-loop
-Inv-loop kind body rows end entries count sheet flags max-depth numbers₀ piece-entries₀ piece-texts₀ k₀ numbers piece-entries piece-texts k =
-    Again (shapeOf kind) (uploaded body rows end) entries (calling sheet (settingsBy flags max-depth) (shapeDepth 1)) (length piece-entries₀)
+Inv-loop kind body rows end entries count sheet flags max-depth numbers₀ piece-entries₀ piece-texts₀ k₀ numbers piece-entries piece-texts k
+    =
+    Again (shapeOf kind) (uploaded body rows end) entries (calling sheet (settingsBy flags max-depth) (shapeDepth 1))
+    (length piece-entries₀)
     (length piece-texts₀) count numbers₀ piece-entries piece-texts numbers k
 
 abbrev μ-loop : tie.MeasureT-loop

@@ -11,7 +11,8 @@ use Rattle.list.proofs.string_list.strings_from.Tie as tie
 
 abbrev Inv-loop : tie.InvT-loop
 Inv-loop body rows view named name scope entries₀ texts₀ c₀ held₀ entries texts c held =
-    ChildrenAt body rows view (stringPlan (viewAt rows view) (nameIf named name)) 65536 dropping scope c₀ entries₀ texts₀ entries texts held c
+    ChildrenAt body rows view (stringPlan (viewAt rows view) (nameIf named name)) 65536 dropping scope c₀ entries₀ texts₀ entries texts held
+    c
 
 abbrev μ-loop : tie.MeasureT-loop
 μ-loop body rows view named name scope entries₀ texts₀ c₀ held₀ entries texts c held = view .count - c .row

@@ -1,5 +1,5 @@
--- `replay::answer::prefill` is safe and ends. The loop's invariant: the stores leave the length of the space as it was. The measure is what is left of it.
--- Assumes nothing.
+-- `replay::answer::prefill` is safe and ends. The loop's invariant: the stores leave the length of the space as it was. The measure is what
+-- is left of it. Assumes nothing.
 use borrow.Author.Needs.{needs}
 use Prim.Native.Nat.{_-_}
 use mathlib.Core.Path.{_≡_}

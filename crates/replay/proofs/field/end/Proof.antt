@@ -1,5 +1,5 @@
--- `replay::field::end` meets its contract. The loop's invariant: the place lies between where it began and the end, which is what is ensured of it.
--- The measure is what is left of the text. Assumes nothing.
+-- `replay::field::end` meets its contract. The loop's invariant: the place lies between where it began and the end, which is what is
+-- ensured of it. The measure is what is left of the text. Assumes nothing.
 use borrow.Author.Needs.{needs}
 use Prim.Native.Nat.{_≤_, _-_}
 use lib.ListN.{length}

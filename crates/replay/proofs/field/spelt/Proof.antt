@@ -1,5 +1,5 @@
--- `replay::field::spelt` is safe and ends. The loop's invariant: the stores leave the length of `out` as it was. The measure is the number of bytes that are left.
--- Assumes nothing.
+-- `replay::field::spelt` is safe and ends. The loop's invariant: the stores leave the length of `out` as it was. The measure is the number
+-- of bytes that are left. Assumes nothing.
 use borrow.Author.Needs.{needs}
 use Prim.Native.Nat.{_-_}
 use mathlib.Core.Path.{_≡_}

@@ -31,7 +31,8 @@ loop-less c = search fill-laws
 
 loop-again : tie.Need-loop-again Inv-loop μ-loop
 loop-again c =
-    fill-text (c .before .before .before .before .before .before .before .before .before .loop .inv) (search needs) (c .before .before .before .before .before .before .turn-of .ensures) (search needs)
+    fill-text (c .before .before .before .before .before .before .before .before .before .loop .inv) (search needs)
+    (c .before .before .before .before .before .before .turn-of .ensures) (search needs)
     (c .before .before .put-row .ensures)
 
 enum-told-2 : tie.Need-enum-told-2 Inv-loop μ-loop

@@ -37,7 +37,8 @@ loop-less c = search length-laws
 
 loop-again : tie.Need-loop-again Inv-loop μ-loop
 loop-again c =
-    length-text (c .before .before .before .before .before .before .before .before .before .loop .inv) (search needs) (c .before .before .before .before .before .before .turn-of .ensures) (search needs)
+    length-text (c .before .before .before .before .before .before .before .before .before .loop .inv) (search needs)
+    (c .before .before .before .before .before .before .turn-of .ensures) (search needs)
     (c .before .before .before .row-length .ensures) (search needs)
 
 enum-told-2 : tie.Need-enum-told-2 Inv-loop μ-loop
