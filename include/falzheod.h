@@ -218,6 +218,11 @@ uint32_t falzheod_drain(const uint8_t *body, size_t body_len, const uint32_t *ro
  * its `<` to the end of its end tag or `/>`, which the drain passes again by its own rows.
  * In other tables a piece ends at the position of the last row read for it, or at `end`.
  *
+ * The text of a scalar, a key, a value or a string is the first text in its element,
+ * unescaped: what stands behind a comment, an instruction, a CDATA section or a tag in it
+ * is not read, CDATA is no text, and an element with none of it has the empty text. An
+ * element before the first text is FALZHEOD_ELEMENT_IN_TEXT.
+ *
  * Names: the root, attributes and items match a name without a colon by their local name,
  * and one with a colon by prefix and local name, split at its first colon; children of a
  * structure, keys and values have exactly the local name that is asked for.

@@ -5,7 +5,8 @@ There are sixty bad and forty good uploads. A bad one that passes and a good one
 refused is expected only with a reason. Beside the command run xmllint (Debian:
 libxml2-utils) and xmlwf (Debian: expat), where they are installed: each upload on which
 verdict, line or column is another is a line of a table. The last line is `N passed, M
-failed`, of what is expected.
+failed`, of what is expected: of each upload what the command says, and of each of the two
+programs that its verdict is another on exactly those uploads that have a reason.
 
     tools/uploads.py [COMMAND]      the command is rust/target/release/upload, unless named
 """
@@ -134,10 +135,7 @@ def place(line, column):
 
 
 def disagreements(name, program, said, expectations):
-    """The table of what another program says otherwise."""
-    if shutil.which(name) is None:
-        print(f"skipped: {name} is not installed")
-        return
+    """Prints the table of what another program says otherwise: is each verdict explained?"""
     rows = []
     for file, ours in said.items():
         theirs = program(FOLDER / file)
@@ -146,11 +144,23 @@ def disagreements(name, program, said, expectations):
             reason = why(what, name, ours, theirs, expectations[file][1])
             here = f"{ours[0]} {place(*ours[3:])}"
             rows.append((what, file, here, f"{theirs[0]} {place(*theirs[1:])}", reason))
-    agree = len(said) - len(rows)
-    print(f"\n{name}: {agree} of {len(said)} alike in verdict, line and column")
+    print(f"\n{name}: {len(said) - len(rows)} of {len(said)} alike in verdict, line and column")
     order = ["verdict", "line", "column"]
     rows.sort(key=lambda row: (order.index(row[0]), row[1]))
     table([("differs", "file", "upload", name, "why"), *rows])
+    explained = {file for file in said if expectations[file][1] != "-"}
+    return {row[1] for row in rows if row[0] == "verdict"} == explained
+
+
+def beside(name, program, said, expectations):
+    """How many passed and failed beside another program, where it is installed."""
+    if shutil.which(name) is None:
+        print(f"skipped: {name} is not installed")
+        return 0, 0
+    is_explained = disagreements(name, program, said, expectations)
+    if not is_explained:
+        print(f"{name}: its verdict is another on other uploads than those that have a reason")
+    return int(is_explained), int(not is_explained)
 
 
 def table(rows):
@@ -174,10 +184,13 @@ def main():
             sys.exit(f"uploads: there are not {count} uploads {front}")
     for file in wrong:
         print(f"{file}: {said.get(file)}, expected {expectations.get(file)}")
-    disagreements("xmllint", xmllint, said, expectations)
-    disagreements("xmlwf", xmlwf, said, expectations)
-    print(f"\n{len(files) - len(wrong)} passed, {len(wrong)} failed")
-    sys.exit(1 if wrong else 0)
+    counts = [(len(files) - len(wrong), len(wrong))]
+    if not wrong:
+        counts.append(beside("xmllint", xmllint, said, expectations))
+        counts.append(beside("xmlwf", xmlwf, said, expectations))
+    passed, failed = (sum(part) for part in zip(*counts))
+    print(f"\n{passed} passed, {failed} failed")
+    sys.exit(1 if failed else 0)
 
 
 if __name__ == "__main__":

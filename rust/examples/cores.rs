@@ -2,7 +2,7 @@
 //!
 //!     cargo run --features xmlparser --example cores -- ../samples/cores.xml
 
-use falzheod::{import, Entry, Member, Settings, StructSheet};
+use falzheod::{import, Entry, Member, Reading, Settings, StructSheet};
 use std::error::Error;
 use std::process::ExitCode;
 
@@ -31,7 +31,7 @@ fn shown() -> Result<Vec<String>, Box<dyn Error>> {
         .member(Member::new("species").attribute())
         .member(Member::new("bark"))
         .build()?;
-    let settings = Settings::default();
+    let settings = Settings::default().enforce_strictness(true);
     // all pieces are read before anything is shown
     import(&body, &upload, &settings, |entries| {
         let mut lines = Vec::new();
@@ -43,13 +43,18 @@ fn shown() -> Result<Vec<String>, Box<dyn Error>> {
             for piece in group.pieces() {
                 let piece = piece.upload();
                 let reading = piece.read_struct(&core, &settings);
-                let words = reading
-                    .finished()?
-                    .map(|word| word.as_str().map(String::from));
-                let words: Vec<String> = words.flatten().collect();
-                lines.push(format!("core {}", words.join(", ")));
+                lines.push(format!("core {}", words(&reading)?));
             }
         }
         Ok(lines)
     })?
+}
+
+/// The texts of a core; one that could not be read refuses the others with it.
+fn words(reading: &Reading<'_>) -> Result<String, Box<dyn Error>> {
+    let words = reading.finished()?.map(|entry| {
+        let word = entry.as_str().map(String::from);
+        word.ok_or(format!("member {} of a core is not read", entry.member()))
+    });
+    Ok(words.collect::<Result<Vec<_>, _>>()?.join(", "))
 }

@@ -3,7 +3,7 @@
 
 use crate::tokenizer_words::said;
 use crate::upload::readable;
-use crate::{table, CheckError, Entries, ImportError, Place, Row, Settings, Sheet, Upload};
+use crate::{import, table, CheckError, Entries, ImportError, Place, Row, Settings, Sheet, Upload};
 use std::borrow::Cow;
 
 /// The upload in a body, or why there is none, and where (feature `xmlparser`).
@@ -97,7 +97,7 @@ impl Checker {
     ) -> Result<R, ImportError> {
         let upload = self.check(body)?;
         let reading = upload.read(sheet, settings);
-        Ok(hand_on(reading.finished()?))
+        Ok(hand_on(import::whole(&reading)?))
     }
 }
 

@@ -134,49 +134,49 @@ impl CheckError {
 
     /// What the drain's refusal of a table means.
     pub(crate) fn of(body: &[u8], rows: &[Row], refusal: Refusal) -> CheckError {
-        let place = |byte| Place::of(body, byte);
-        let Refusal::IllFormed { row, cause } = refusal else {
-            return match Limit::passed(body, rows) {
-                Some((limit, byte)) => CheckError::TooLarge {
-                    limit,
-                    at: place(byte),
-                },
-                None => CheckError::Table,
-            };
-        };
-        // the rows before the one that fails, and that one, if there is one
-        let (before, fails) = (&rows[..row], rows.get(row).copied().unwrap_or_default());
-        match cause {
-            Cause::Token => CheckError::Token {
-                at: place(before.last().map_or(0, |row| row.position as usize)),
-                words: cause.to_string(),
-            },
-            Cause::Mismatched => {
-                let (open, opened) = innermost(body, before);
-                CheckError::Mismatched {
-                    at: place(fails.tag_start(body)),
-                    found: name(body, &fails),
-                    open,
-                    opened,
-                }
+        match (refusal, Limit::passed(body, rows)) {
+            (Refusal::IllFormed { row, cause }, _) => ill_formed(body, rows, row, cause),
+            (_, Some((limit, byte))) => {
+                let at = Place::of(body, byte);
+                CheckError::TooLarge { limit, at }
             }
-            Cause::Unclosed => {
-                let (open, opened) = innermost(body, before);
-                let at = place(body.len());
-                CheckError::Unclosed { at, open, opened }
+            (_, None) => CheckError::Table,
+        }
+    }
+}
+
+/// What is wrong with a row; one behind the last is that of an unclosed element.
+fn ill_formed(body: &[u8], rows: &[Row], row: usize, cause: Cause) -> CheckError {
+    let place = |byte| Place::of(body, byte);
+    let (before, fails) = (&rows[..row], rows.get(row).copied().unwrap_or_default());
+    match cause {
+        Cause::Token => CheckError::Token {
+            at: place(before.last().map_or(0, |row| row.position as usize)),
+            words: cause.to_string(),
+        },
+        Cause::Mismatched => {
+            let (open, opened) = innermost(body, before);
+            CheckError::Mismatched {
+                at: place(fails.tag_start(body)),
+                found: name(body, &fails),
+                open,
+                opened,
             }
-            Cause::Repeated => CheckError::Repeated {
-                at: place(fails.name_start()),
-                name: name(body, &fails),
-                first: place(alike(body, before, &fails).name_start()),
-            },
-            Cause::Reference => {
-                let (start, reference) = bad_reference(fails.value(body));
-                CheckError::Reference {
-                    at: place(fails.value_start as usize + start),
-                    reference,
-                }
-            }
+        }
+        Cause::Unclosed => {
+            let (open, opened) = innermost(body, before);
+            let at = place(body.len());
+            CheckError::Unclosed { at, open, opened }
+        }
+        Cause::Repeated => CheckError::Repeated {
+            at: place(fails.name_start()),
+            name: name(body, &fails),
+            first: place(alike(body, before, &fails).name_start()),
+        },
+        Cause::Reference => {
+            let (start, reference) = bad_reference(fails.value(body));
+            let at = place(fails.value_start as usize + start);
+            CheckError::Reference { at, reference }
         }
     }
 }

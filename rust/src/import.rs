@@ -1,20 +1,22 @@
 //! All of an upload or nothing of it (feature `xmlparser`).
 
-use crate::{CheckError, Checker, Entries, Refusal, Settings, Sheet};
+use crate::{CheckError, Checker, Entries, Entry, Reading, Refusal, Settings, Sheet};
 use std::fmt;
 
 /// Checks a body, reads it by a sheet, and only then hands its entries on (feature
 /// `xmlparser`).
 ///
-/// `hand_on` runs if the whole upload passed the drain and the reading finished, and not
-/// at all otherwise: of an upload that is cut short nothing is handed on. The front page
-/// of the crate has an example.
+/// `hand_on` runs if the whole upload passed the drain, the reading finished and no scalar
+/// of it failed, and not at all otherwise: of an upload that is cut short nothing is handed
+/// on. The front page of the crate has an example.
 ///
 /// Pieces among the entries are elements of the upload; each passes the drain again, and
 /// is read again by [`Piece::upload`](crate::Piece::upload). That reading has a refusal of
 /// its own, if another sheet or the maximum depth does not allow it: whoever wants all or
-/// nothing reads every piece before anything is kept. A scalar that could not be read comes
-/// as [`Entry::Failed`](crate::Entry::Failed), and the reading goes on behind it.
+/// nothing reads every piece before anything is kept. Whoever wants the other members where
+/// a scalar has an element in it takes [`check`](crate::check) and
+/// [`Upload::read_struct`](crate::Upload::read_struct), which gives that scalar as
+/// [`Entry::Failed`](crate::Entry::Failed).
 ///
 /// ```
 /// use falzheod::{import, ImportError, ListSheet, Refusal, Settings};
@@ -55,6 +57,23 @@ pub enum ImportError {
     Check(CheckError),
     /// The reading of the upload was refused.
     Read(Refusal),
+    /// A scalar of the upload could not be read.
+    Failed {
+        /// The index of its member in the sheet.
+        member: usize,
+        /// Why.
+        refusal: Refusal,
+    },
+}
+
+/// The entries of a reading that finished, where no scalar failed.
+pub(crate) fn whole<'r>(reading: &'r Reading<'_>) -> Result<Entries<'r>, ImportError> {
+    let entries = reading.finished()?;
+    let failed = entries.clone().find_map(|entry| match entry {
+        Entry::Failed { member, refusal } => Some(ImportError::Failed { member, refusal }),
+        _ => None,
+    });
+    failed.map_or(Ok(entries), Err)
 }
 
 impl From<CheckError> for ImportError {
@@ -74,6 +93,9 @@ impl fmt::Display for ImportError {
         match self {
             ImportError::Check(error) => error.fmt(f),
             ImportError::Read(refusal) => write!(f, "well-formed, but not read: {refusal}"),
+            ImportError::Failed { member, refusal } => {
+                write!(f, "well-formed, but member {member} is not read: {refusal}")
+            }
         }
     }
 }

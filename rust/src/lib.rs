@@ -14,16 +14,19 @@
 //!     .build()?;
 //! let upload = b"<core id='17'>\n <bark>whole</bark>\n</core>";
 //!
+//! // the root's name is tested too
+//! let settings = Settings::default().enforce_strictness(true);
+//!
 //! // the closure runs only if the whole upload is well-formed and was read
 //! let mut kept = Vec::new();
-//! import(upload, &sheet, &Settings::default(), |entries| {
+//! import(upload, &sheet, &settings, |entries| {
 //!     kept.extend(entries.filter_map(|entry| entry.as_str().map(String::from)));
 //! })?;
 //! assert_eq!(kept, ["17", "whole"]);
 //!
 //! // cut short: refused with its place, and nothing was handed on
 //! let cut = &upload[..upload.len() - 1];
-//! let error = import(cut, &sheet, &Settings::default(), |_| unreachable!()).unwrap_err();
+//! let error = import(cut, &sheet, &settings, |_| unreachable!()).unwrap_err();
 //! # let error: falzheod::ImportError = error;
 //! assert_eq!(
 //!     error.to_string(),
@@ -32,6 +35,10 @@
 //! # }
 //! # Ok::<(), Box<dyn std::error::Error>>(())
 //! ```
+//!
+//! The text of a scalar is the first text in its element, as in the Rust crate: what stands
+//! behind a comment, an instruction, a CDATA section or a tag in it is not read, and CDATA
+//! is no text ([`Upload::whole_text`] joins all texts of a root).
 //!
 //! The crate lends slices to the static library `libfalzheod.a`, whose every answer is
 //! proved; the crate itself is the part that is not. It takes any bytes and does not panic.

@@ -51,7 +51,9 @@ impl Place {
         } else {
             0
         };
-        for at in front..byte {
+        // inside a character the place is that of the character
+        let counted = byte - begun(&body[..byte]);
+        for at in front..counted {
             match body[at] {
                 b'\r' if body.get(at + 1) != Some(&b'\n') => place.next_line(),
                 b'\n' => place.next_line(),
@@ -66,6 +68,14 @@ impl Place {
     fn next_line(&mut self) {
         self.line += 1;
         self.column = 1;
+    }
+}
+
+/// How many bytes at the end of a text begin a character that is not whole there.
+fn begun(text: &[u8]) -> usize {
+    match std::str::from_utf8(text) {
+        Err(error) if error.error_len().is_none() => text.len() - error.valid_up_to(),
+        _ => 0,
     }
 }
 

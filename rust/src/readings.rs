@@ -94,7 +94,7 @@ impl Upload<'_> {
     ///     .member(Member::new("bark"))
     ///     .member(Member::new("id").attribute())
     ///     .build()?;
-    /// let settings = Settings::default();
+    /// let settings = Settings::default().enforce_strictness(true);
     /// let upload = check(b"<core id='17'><bark>whole</bark></core>")?;
     /// let reading = upload.read_struct(&sheet, &settings);
     /// let texts: Vec<_> = reading.entries().map(|e| (e.member(), e.bytes().to_vec())).collect();

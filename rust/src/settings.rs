@@ -6,7 +6,7 @@
 /// use falzheod::Settings;
 ///
 /// let settings = Settings::default();
-/// assert!(settings.validate_document && settings.validate_root_name);
+/// assert!(!settings.validate_document && !settings.validate_root_name);
 /// assert!(!settings.strict_collection_element_names);
 /// assert_eq!(settings.max_depth, 128);
 ///
@@ -28,8 +28,8 @@ pub struct Settings {
 impl Default for Settings {
     fn default() -> Self {
         Settings {
-            validate_document: true,
-            validate_root_name: true,
+            validate_document: false,
+            validate_root_name: false,
             strict_collection_element_names: false,
             max_depth: 128,
         }
@@ -37,6 +37,22 @@ impl Default for Settings {
 }
 
 impl Settings {
+    /// Whether what is ill-formed is refused, and a root of another name than the sheet
+    /// says. An [`Upload`](crate::Upload) is well-formed whatever the settings are; over it
+    /// this decides the root's name alone.
+    ///
+    /// ```
+    /// let settings = falzheod::Settings::default().enforce_strictness(true);
+    /// assert!(settings.validate_document && settings.validate_root_name);
+    /// ```
+    pub fn enforce_strictness(self, value: bool) -> Settings {
+        Settings {
+            validate_document: value,
+            validate_root_name: value,
+            ..self
+        }
+    }
+
     /// The three flags as the library takes them.
     pub(crate) fn flags(self) -> u32 {
         u32::from(self.validate_document)

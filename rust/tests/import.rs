@@ -17,6 +17,10 @@ fn upload_sheet() -> StructSheet {
         .unwrap()
 }
 
+fn strict() -> Settings {
+    Settings::default().enforce_strictness(true)
+}
+
 /// Where the root ends: a cut from here on is whole.
 fn whole_from() -> usize {
     let end = b"</d:upload>";
@@ -26,7 +30,7 @@ fn whole_from() -> usize {
 
 #[test]
 fn nothing_is_handed_on_at_any_cut() {
-    let (sheet, settings) = (upload_sheet(), Settings::default());
+    let (sheet, settings) = (upload_sheet(), strict());
     let mut checker = Checker::new();
     for length in 0..=UPLOAD.len() {
         let mut handed_on = 0;
@@ -48,11 +52,7 @@ fn nothing_is_handed_on_at_any_cut() {
 #[test]
 fn nothing_is_handed_on_at_any_cut_without_strict_reading() {
     let list = ListSheet::builder().build().unwrap();
-    let lenient = Settings {
-        validate_document: false,
-        validate_root_name: false,
-        ..Settings::default()
-    };
+    let lenient = Settings::default();
     let mut checker = Checker::new();
     for length in (0..whole_from()).step_by(7) {
         let cut = &UPLOAD[..length];
@@ -64,7 +64,7 @@ fn nothing_is_handed_on_at_any_cut_without_strict_reading() {
 #[test]
 fn the_whole_upload_is_read() {
     let sheet = upload_sheet();
-    let settings = Settings::default();
+    let settings = strict();
     let core = StructSheet::builder("core")
         .member(Member::new("id").attribute())
         .member(Member::new("unit").xml_name("m:unit").attribute())
@@ -114,7 +114,7 @@ fn the_whole_upload_is_read() {
 
 #[test]
 fn the_sample_that_is_cut() {
-    let error = import(CUT, &upload_sheet(), &Settings::default(), |_| ()).unwrap_err();
+    let error = import(CUT, &upload_sheet(), &strict(), |_| ()).unwrap_err();
     assert_eq!(
         error.to_string(),
         "line 30, column 34: the body ends where <m:rings> is open, since line 30, column 3"
@@ -124,7 +124,7 @@ fn the_sample_that_is_cut() {
 #[test]
 fn a_refused_reading_hands_nothing_on() {
     let sheet = StructSheet::builder("cores").build().unwrap();
-    let refused = import(UPLOAD, &sheet, &Settings::default(), |_| ());
+    let refused = import(UPLOAD, &sheet, &strict(), |_| ());
     assert_eq!(refused, Err(ImportError::Read(Refusal::RootName)));
     let words = refused.unwrap_err().to_string();
     let expected = "well-formed, but not read: the root has another name than the sheet says";
@@ -133,18 +133,38 @@ fn a_refused_reading_hands_nothing_on() {
     let list = ListSheet::builder().build().unwrap();
     let body = b"<u><s>one</s><s><b/></s></u>";
     let strings = falzheod::Sheet::StringList(&list);
-    let refused = import(body, strings, &Settings::default(), |_| unreachable!());
+    let refused = import(body, strings, &strict(), |_| unreachable!());
     assert_eq!(
         refused,
         Err::<(), _>(ImportError::Read(Refusal::ElementInText))
     );
 }
 
+/// Not even the members beside it.
+#[test]
+fn a_scalar_that_fails_hands_nothing_on() {
+    let sheet = StructSheet::builder("core")
+        .member(Member::new("id").attribute())
+        .member(Member::new("bark"))
+        .build()
+        .unwrap();
+    let body = b"<core id='17'><bark><b/>whole</bark></core>";
+    let refused = import(body, &sheet, &strict(), |_| unreachable!());
+    let failed = ImportError::Failed {
+        member: 1,
+        refusal: Refusal::ElementInText,
+    };
+    let words = failed.to_string();
+    assert_eq!(refused, Err::<(), _>(failed));
+    let expected = "well-formed, but member 1 is not read: an element stands where text is wanted";
+    assert_eq!(words, expected);
+}
+
 #[test]
 fn bodies_past_a_limit_hand_nothing_on() {
     let list = ListSheet::builder().build().unwrap();
     let long = format!("<u>{}</u>", "<b/>".repeat(20_000));
-    let refused = import(long.as_bytes(), &list, &Settings::default(), |_| ());
+    let refused = import(long.as_bytes(), &list, &strict(), |_| ());
     let Err(ImportError::Check(CheckError::TooLarge { limit, .. })) = refused else {
         panic!("{refused:?}");
     };

@@ -13,6 +13,11 @@ const LENIENT: Settings = Settings {
     strict_collection_element_names: false,
     max_depth: 128,
 };
+const STRICT: Settings = Settings {
+    validate_document: true,
+    validate_root_name: true,
+    ..LENIENT
+};
 
 /// The reading of the library with more room than any body asks for.
 fn lent_reading(
@@ -119,7 +124,7 @@ fn readings_are_the_librarys() {
         ];
         let strict = Settings {
             strict_collection_element_names: true,
-            ..Settings::default()
+            ..STRICT
         };
         for settings in [LENIENT, strict] {
             for sheet in lists.into_iter().chain(maps.iter().map(Sheet::from)) {
@@ -144,11 +149,8 @@ fn room_suffices_at_the_extremes() {
     let body = format!("<r x='{}'/>", "v".repeat(65_527));
     let upload = check(body.as_bytes()).unwrap();
     let sheet = members(64, &|_| Member::new("x").attribute());
-    assert_eq!(
-        same_as_lent(&upload, (&sheet).into(), Settings::default()),
-        None
-    );
-    let reading = upload.read_struct(&sheet, &Settings::default());
+    assert_eq!(same_as_lent(&upload, (&sheet).into(), STRICT), None);
+    let reading = upload.read_struct(&sheet, &STRICT);
     assert_eq!(
         reading.entries().map(|e| e.bytes().len()).sum::<usize>(),
         64 * 65_527
@@ -160,10 +162,7 @@ fn room_suffices_at_the_extremes() {
     }
     body += "</r>";
     let upload = check(body.as_bytes()).unwrap();
-    assert_eq!(
-        same_as_lent(&upload, (&sheet).into(), Settings::default()),
-        None
-    );
+    assert_eq!(same_as_lent(&upload, (&sheet).into(), STRICT), None);
     // 64 groups of one empty sibling each, and of many
     let sheet = members(64, &|n| {
         Member::new(format!("n{n}")).flattened().aggregate()
@@ -172,11 +171,8 @@ fn room_suffices_at_the_extremes() {
         let children = |n: usize| format!("<n{n}/>").repeat(times);
         let body = format!("<r>{}</r>", (0..64).map(children).collect::<String>());
         let upload = check(body.as_bytes()).unwrap();
-        assert_eq!(
-            same_as_lent(&upload, (&sheet).into(), Settings::default()),
-            None
-        );
-        let reading = upload.read_struct(&sheet, &Settings::default());
+        assert_eq!(same_as_lent(&upload, (&sheet).into(), STRICT), None);
+        let reading = upload.read_struct(&sheet, &STRICT);
         assert_eq!(reading.entries().len(), 64);
     }
     // attributes that are flattened aggregates too: a text each, and one group
@@ -185,26 +181,17 @@ fn room_suffices_at_the_extremes() {
     });
     let body = format!("<r x='{}'>{}</r>", "v".repeat(20_000), "<x/>".repeat(4_000));
     let upload = check(body.as_bytes()).unwrap();
-    assert_eq!(
-        same_as_lent(&upload, (&sheet).into(), Settings::default()),
-        None
-    );
-    let reading = upload.read_struct(&sheet, &Settings::default());
+    assert_eq!(same_as_lent(&upload, (&sheet).into(), STRICT), None);
+    let reading = upload.read_struct(&sheet, &STRICT);
     assert_eq!(reading.entries().len(), 65);
     // as many items as there are rows for
     let list = ListSheet::builder().build().unwrap();
     let body = format!("<r>{}</r>", "<b/>".repeat(4_094));
     let upload = check(body.as_bytes()).unwrap();
     for sheet in [Sheet::List(&list), Sheet::StringList(&list)] {
-        assert_eq!(same_as_lent(&upload, sheet, Settings::default()), None);
+        assert_eq!(same_as_lent(&upload, sheet, STRICT), None);
     }
-    assert_eq!(
-        upload
-            .read_list(&list, &Settings::default())
-            .entries()
-            .len(),
-        4_094
-    );
+    assert_eq!(upload.read_list(&list, &STRICT).entries().len(), 4_094);
     // and entries of a map, with empty names, keys and values
     let map = MapSheet::builder()
         .key_xml_name("k")
@@ -213,24 +200,18 @@ fn room_suffices_at_the_extremes() {
         .unwrap();
     let body = format!("<r>{}</r>", "<e><k/><v/></e>".repeat(1_169));
     let upload = check(body.as_bytes()).unwrap();
-    assert_eq!(
-        same_as_lent(&upload, (&map).into(), Settings::default()),
-        None
-    );
+    assert_eq!(same_as_lent(&upload, (&map).into(), STRICT), None);
     let text = "<e><k>kkkkkkkkkkkkkkkkkkkkkkkk</k><v>vvvvvvvvvvvvvvvvvvvvvvvv</v></e>";
     let body = format!("<r>{}</r>", text.repeat(740));
     let upload = check(body.as_bytes()).unwrap();
-    assert_eq!(
-        same_as_lent(&upload, (&map).into(), Settings::default()),
-        None
-    );
+    assert_eq!(same_as_lent(&upload, (&map).into(), STRICT), None);
 }
 
 #[test]
 fn a_refusal_keeps_what_was_written() {
     let list = ListSheet::builder().build().unwrap();
     let upload = check(b"<u><s>one</s><s>two</s><s><b/></s><s>four</s></u>").unwrap();
-    let reading = upload.read_string_list(&list, &Settings::default());
+    let reading = upload.read_string_list(&list, &STRICT);
     assert_eq!(reading.refusal(), Some(Refusal::ElementInText));
     assert_eq!(reading.finished().unwrap_err(), Refusal::ElementInText);
     let texts: Vec<_> = reading.entries().map(|e| e.bytes().to_vec()).collect();
@@ -245,7 +226,7 @@ fn a_scalar_that_fails_is_an_entry() {
         .build()
         .unwrap();
     let upload = check(b"<core><bark><b/></bark><id>7</id></core>").unwrap();
-    let reading = upload.read_struct(&sheet, &Settings::default());
+    let reading = upload.read_struct(&sheet, &STRICT);
     assert_eq!(reading.refusal(), None);
     let entries: Vec<_> = reading.entries().collect();
     assert!(matches!(
@@ -261,7 +242,7 @@ fn a_scalar_that_fails_is_an_entry() {
 
 #[test]
 fn scalars_at_the_edges() {
-    let settings = Settings::default();
+    let settings = STRICT;
     let integer = |text: &str| {
         let body = format!("<w>{text}</w>");
         check(body.as_bytes()).unwrap().read_integer(&settings)
@@ -289,7 +270,7 @@ fn texts_that_are_not_utf8() {
     let mut table = falzheod::table::from_tokens(body);
     table.rows[2].value_len = 1;
     let upload = Upload::of_table(body, table.rows, table.end).unwrap();
-    let text = upload.read_string(&Settings::default()).unwrap();
+    let text = upload.read_string(&STRICT).unwrap();
     assert_eq!(text.as_bytes(), b"\xC3");
     assert!(text.as_str().is_err());
     let list = ListSheet::builder().build().unwrap();
@@ -297,7 +278,7 @@ fn texts_that_are_not_utf8() {
     let mut table = falzheod::table::from_tokens(body);
     table.rows[4].value_len = 1;
     let upload = Upload::of_table(body, table.rows, table.end).unwrap();
-    let reading = upload.read_string_list(&list, &Settings::default());
+    let reading = upload.read_string_list(&list, &STRICT);
     let entry = reading.entries().next().unwrap();
     assert_eq!((entry.bytes(), entry.as_str()), (&b"\xC3"[..], None));
 }

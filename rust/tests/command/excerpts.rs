@@ -128,9 +128,14 @@ fn control_characters_do_no_harm() {
         "{said}"
     );
     // nor do they in a name or a reference that the message tells
-    for body in ["<a>&\u{9B}2J;</a>", "<a b\u{85}='1'/>", "<a>&\u{202E};</a>"] {
+    for body in [
+        "<a>&\u{9B}2J;</a>",
+        "<a b\u{85}='1'/>",
+        "<a>&\u{61C};</a>",
+        "<a>&\u{202E};</a>",
+    ] {
         let said = says(body);
-        let is_safe = |c: char| c == '\n' || !c.is_control() && c != '\u{202E}';
+        let is_safe = |c: char| c == '\n' || !c.is_control() && c != '\u{202E}' && c != '\u{61C}';
         assert!(said.chars().all(is_safe), "{said:?}");
     }
 }
@@ -148,6 +153,13 @@ fn limits_in_words() {
     let said = lines(long);
     assert_eq!(said[0], "-:2:65533: more than 65,536 bytes");
     assert_eq!(said[1], format!("  2 | ..{}..", "x".repeat(76)));
+
+    // the byte that is too much stands in a character
+    let long = format!("<a>{}é</a>", "x".repeat(65_532));
+    let said = lines(long);
+    assert_eq!(said[0], "-:1:65536: more than 65,536 bytes");
+    assert_eq!(said[1], format!("  1 | ..{}é</a>", "x".repeat(71)));
+    assert_eq!(said[2], format!("    |   {}^", " ".repeat(71)));
 
     let exact = format!("<a>{}</a>", "x".repeat(65_529));
     assert_eq!(piped(&["-"], exact).status, 0);

@@ -283,8 +283,10 @@ fn places_hold(body: &[u8], value: &Value, seen: &mut usize) {
             {
                 let piece = &body[*start..start + length];
                 assert!(piece.starts_with(b"<") && piece.ends_with(b">"));
-                let lines = body[..*start].iter().filter(|byte| **byte == b'\n');
-                assert_eq!(value.of("line"), &(lines.count() + 1).into());
+                let before = std::str::from_utf8(&body[..*start]).unwrap();
+                let line = before.rsplit('\n').next().unwrap();
+                assert_eq!(value.of("line"), &before.split('\n').count().into());
+                assert_eq!(value.of("column"), &(line.chars().count() + 1).into());
                 *seen += 1;
             }
             fields
@@ -309,6 +311,19 @@ fn every_level_below() {
         (unit.of("name"), unit.of("text")),
         (&"unit".into(), &"µm".into())
     );
+}
+
+/// What was written before a refusal does not stand where a whole reading stands.
+#[test]
+fn a_refused_reading_has_no_entries() {
+    let sheet = file(&folder("json-before"), "sheet", "strings s");
+    let words = ["--format", "json", "--sheet", sheet.to_str().unwrap(), "-"];
+    let ran = piped(&words, "<u><s>one</s><s><b/></s></u>");
+    let value = parse(ran.out.trim_end());
+    assert_eq!((ran.status, value.of("read")), (1, &Value::Bool(false)));
+    assert_eq!(value.of("refusal").of("number"), &6.into());
+    assert_eq!(value.of("entries"), &Value::Array(Vec::new()));
+    assert_eq!(value.of("before").items()[0].of("text"), &"one".into());
 }
 
 #[test]

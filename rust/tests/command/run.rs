@@ -176,6 +176,42 @@ fn a_closed_output_is_trouble() {
 }
 
 #[test]
+fn what_cannot_be_written_is_trouble() {
+    let tree = Tree::new("run-full");
+    assert_eq!(tree.run(&tree.root.join("run"), &["--help"]).status, 0);
+    for script in ["./run >/dev/full\n", "./run --help >/dev/full\n"] {
+        let script = format!("cd {} && bash {script}", tree.root.display());
+        let script = file(&tree.root, "full", script);
+        let ran = tree.run(&script, &[]);
+        assert_eq!((ran.status, ran.out.as_str()), (2, ""));
+        assert!(ran.err.contains("standard output"), "{}", ran.err);
+    }
+}
+
+/// The program has the archive in it that was named, however old that is.
+#[test]
+fn another_archive_is_another_program() {
+    let tree = Tree::new("run-archive");
+    let run = tree.root.join("run");
+    let other = tree.root.join("elsewhere");
+    file(&other, "libfalzheod.a", "");
+    assert_eq!(tree.run(&run, &["--help"]).status, 0);
+    tree.built();
+    let script = format!(
+        "FALZHEOD_LIB_DIR={} bash {} --help\n",
+        other.display(),
+        run.display()
+    );
+    let script = file(&tree.root, "other", script);
+    assert_eq!(tree.run(&script, &[]).status, 0);
+    assert_eq!(tree.built(), ["cargo build"]);
+    assert_eq!(tree.run(&script, &[]).status, 0);
+    assert_eq!(tree.built(), [""; 0]);
+    assert_eq!(tree.run(&run, &["--help"]).status, 0);
+    assert_eq!(tree.built(), ["cargo build"]);
+}
+
+#[test]
 fn what_cannot_be_built_is_trouble() {
     let tree = Tree::new("run-trouble");
     tree.script("rt", "echo a proof failed && exit 1");

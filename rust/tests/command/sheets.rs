@@ -13,7 +13,7 @@ fn hex(bytes: &[u8]) -> String {
 }
 
 /// Sheets and their bytes; 0161 is the name `a`, and so on.
-const WORDS: [(&str, &str); 20] = [
+const WORDS: [(&str, &str); 21] = [
     ("structure a", "00 0161 00"),
     ("structure a shape b", "00 0162 00"),
     (
@@ -32,6 +32,7 @@ const WORDS: [(&str, &str); 20] = [
     ("list a", "00"),
     ("\u{FEFF}list a", "00"),
     ("list a flattened\nitem", "03"),
+    ("list a\ritem \"-\"\r\n# c\r", "09 012d"),
     ("list a\nitem b", "09 0162"),
     ("strings a\nitem b named c", "0d 0163 0162"),
     ("list a\nitem - named c", "05 0163"),
@@ -185,7 +186,7 @@ fn bytes_that_are_no_sheet() {
 }
 
 /// Sheets with something wrong, and what is said of it behind the name of the file.
-const WRONG: [(&str, &str); 28] = [
+const WRONG: [(&str, &str); 31] = [
     ("", "1: no sheet is here"),
     ("# nothing\n", "1: no sheet is here"),
     (
@@ -240,6 +241,12 @@ const WRONG: [(&str, &str); 28] = [
         "2: below a map stand key and value, not item",
     ),
     ("map a\nkey", "2: the name of the keys is missing"),
+    ("map a\rkey -", "2: the name of the keys is none"),
+    ("structure -", "1: the name of the sheet is none"),
+    (
+        "structure a\nscalar b named -",
+        "2: the name behind named is none",
+    ),
     (
         "map a\nkey b\nkey c",
         "3: a map has one key line and one value line at most",

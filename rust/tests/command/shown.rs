@@ -177,6 +177,51 @@ fn a_refusal_below_is_not_whole() {
 }
 
 #[test]
+fn a_refusal_in_one_piece_of_a_group_is_not_whole() {
+    let sheets = "structure r\n flattened aggregate n by n\nstructure n\n scalar a";
+    let body = "<r><n><a>1</a></n><n><a><b/></a></n></r>";
+    let ran = read("group-piece", sheets, &["--deep"], body);
+    assert_eq!(ran.status, 1);
+    assert!(
+        ran.out.contains("-: well-formed, but not read whole\n"),
+        "{}",
+        ran.out
+    );
+    assert!(ran.out.contains("r/n[2]: structure n at 1:19, 1 entry\n"));
+}
+
+/// The text of a scalar is its first text, and help.txt says so.
+#[test]
+fn what_stands_behind_the_first_text() {
+    let body = "<a><v><![CDATA[7]]></v><v>1<w/></v><v>4<!-- c -->5</v></a>";
+    let ran = read("first-text", "structure a\n scalar v", &[], body);
+    assert_eq!(ran.status, 0);
+    let table = "  kind  member  value\n  text  v\n  text  v       1\n  text  v       4\n";
+    assert!(ran.out.ends_with(table), "{}", ran.out);
+}
+
+#[test]
+fn a_group_that_is_too_large_with_its_tags() {
+    let sheets = "structure a\n flattened aggregate b by l\nlist l flattened";
+    let body = format!("<a><b>{}</b></a>", "x".repeat(65_536 - 14));
+    let ran = read("group-large", sheets, &["--deep"], &body);
+    assert_eq!(ran.status, 1);
+    let said = "refused with 1: the group with its two tags has more than 65,536 bytes";
+    assert!(ran.out.contains(said), "{}", ran.out);
+}
+
+#[test]
+fn long_keys_are_shortened() {
+    let body = format!(
+        "<m><e><key>{}</key><value>1</value></e></m>",
+        "k".repeat(300)
+    );
+    let ran = read("long-key", "map m\n value", &[], &body);
+    let row = format!("  text  {}..  1", "k".repeat(46));
+    assert_eq!(ran.out.lines().last(), Some(row.as_str()));
+}
+
+#[test]
 fn a_sheet_that_names_itself_ends_at_the_maximum_depth() {
     let nested = "list l\n item by l";
     let ran = read("itself", nested, &["--deep"], "<a><b><c/></b></a>");

@@ -129,7 +129,8 @@ impl Origin {
 
 impl How<'_> {
     fn level(self, upload: &Upload<'_>, sheet: &Named, origin: &Origin) -> Level {
-        let reading = upload.read(sheet.shape.sheet(), &Settings::default());
+        let settings = Settings::default().enforce_strictness(true);
+        let reading = upload.read(sheet.shape.sheet(), &settings);
         let entries = reading.entries();
         Level {
             sheet: sheet.name.clone(),
@@ -201,7 +202,12 @@ fn too_large(sheet: &Named, error: &CheckError) -> Level {
         piece: None,
         refused: Some(Refused {
             number: Refusal::Table.number(),
-            message: format!("the group is not read, {error}"),
+            message: match error {
+                CheckError::TooLarge { limit, .. } => {
+                    format!("the group with its two tags has {limit}")
+                }
+                other => format!("the group is not read: {other}"),
+            },
         }),
         entries: Vec::new(),
     }

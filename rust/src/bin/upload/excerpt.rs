@@ -1,5 +1,6 @@
 //! The line of a place, with a caret under the place.
 
+use crate::files::MARK;
 use crate::visible::{below, visible};
 use falzheod::Place;
 use std::ops::Range;
@@ -7,14 +8,11 @@ use std::ops::Range;
 /// The most characters of a line that are shown.
 const MOST: usize = 76;
 
-/// The mark that some programs write at the front of UTF-8. It has no column.
-const MARK: &[u8] = b"\xEF\xBB\xBF";
-
 /// Two lines: the number and the text of the line, and the caret.
 pub fn excerpt(body: &[u8], place: Place) -> String {
     let line = line_at(body, place.byte);
     let text: Vec<char> = characters(&body[line.clone()]);
-    let at = characters(&body[line.start..place.byte.max(line.start)]).len();
+    let at = place.column - 1;
     let shown = window(text.len(), at);
     let (cut_left, cut_right) = (shown.start > 0, shown.end < text.len());
     let dots = |cut: bool| if cut { ".." } else { "" };

@@ -7,6 +7,9 @@ use std::fs::File;
 use std::io::{self, Read};
 use std::os::unix::ffi::OsStrExt;
 
+/// The mark that some programs write at the front of UTF-8. It has no column.
+pub const MARK: &[u8] = b"\xEF\xBB\xBF";
+
 /// Bytes read past the limit of a body: enough for an excerpt of the line there.
 const PAST: usize = 1_024;
 

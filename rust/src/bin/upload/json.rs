@@ -93,12 +93,18 @@ pub fn checked(source: &Source, finding: &Finding) -> String {
 pub fn read(source: &Source, body: &[u8], finding: &Finding, level: Option<&Level>) -> String {
     let mut object = found(source, finding);
     let is_whole = level.is_some_and(Level::is_whole);
+    let none = || Json::Array(Vec::new());
+    let written = level.map_or(none(), |level| entries(body, level));
     object.add("read", Json::Bool(is_whole));
     object.add("refusal", refusal(level.and_then(|l| l.refused.as_ref())));
-    object.add(
-        "entries",
-        level.map_or(Json::Array(Vec::new()), |l| entries(body, l)),
-    );
+    // whoever looks at the entries alone gets those of a whole reading or none
+    let (all, before) = if is_whole {
+        (written, none())
+    } else {
+        (none(), written)
+    };
+    object.add("entries", all);
+    object.add("before", before);
     format!("{}\n", Json::Object(object))
 }
 

@@ -12,6 +12,7 @@ use crate::visible::visible_bytes;
 use block::{Block, Draft};
 use falzheod::{ListSheet, MapSheet, Sheet, StructSheet};
 use line::Line;
+use std::collections::HashMap;
 
 /// The most bytes of a file of sheets.
 const MOST: usize = 1 << 20;
@@ -57,15 +58,10 @@ impl Sheets {
             .into_iter()
             .map(Block::draft)
             .collect::<Result<Vec<Draft>, Problem>>()?;
-        for (index, draft) in drafts.iter().enumerate() {
-            if drafts[..index].iter().any(|other| other.name == draft.name) {
-                let name = visible_bytes(&draft.name);
-                return Err((draft.line, format!("a second sheet is named {name}")));
-            }
-        }
+        let places = places(&drafts)?;
         let by: Vec<_> = drafts
             .iter()
-            .map(|draft| resolved(draft, &drafts))
+            .map(|draft| resolved(draft, &places))
             .collect();
         let named = drafts.into_iter().zip(by).map(|(draft, by)| {
             Ok(Named {
@@ -88,14 +84,29 @@ impl Sheets {
     }
 }
 
+/// The place of each sheet by its name.
+fn places(drafts: &[Draft]) -> Result<HashMap<Vec<u8>, usize>, Problem> {
+    let mut places = HashMap::new();
+    for (index, draft) in drafts.iter().enumerate() {
+        if places.insert(draft.name.clone(), index).is_some() {
+            let name = visible_bytes(&draft.name);
+            return Err((draft.line, format!("a second sheet is named {name}")));
+        }
+    }
+    Ok(places)
+}
+
 /// The sheets that a draft names, by their places.
-fn resolved(draft: &Draft, drafts: &[Draft]) -> Result<Vec<Option<usize>>, Problem> {
+fn resolved(
+    draft: &Draft,
+    places: &HashMap<Vec<u8>, usize>,
+) -> Result<Vec<Option<usize>>, Problem> {
     let place = |by: &Option<(usize, Vec<u8>)>| {
         let Some((line, name)) = by else {
             return Ok(None);
         };
-        match drafts.iter().position(|draft| draft.name == *name) {
-            Some(index) => Ok(Some(index)),
+        match places.get(name) {
+            Some(index) => Ok(Some(*index)),
             None => Err((*line, format!("no sheet is named {}", visible_bytes(name)))),
         }
     };

@@ -5,7 +5,7 @@ use crate::visible::{shortened, visible, width};
 use falzheod::Place;
 use std::ops::Range;
 
-/// The most characters of a piece that are shown.
+/// The most characters of a piece, a name or a key that are shown.
 const MOST: usize = 48;
 
 const HEAD: [&str; 5] = ["kind", "member", "key", "place", "value"];
@@ -97,7 +97,10 @@ fn aligned(line: &[String], widths: &[usize]) -> String {
 }
 
 fn cells(body: &[u8], entry: &Entry) -> [String; 5] {
-    let optional = |text: &Option<String>| text.as_deref().map(shown).unwrap_or_default();
+    let optional = |text: &Option<String>| {
+        let text = text.as_deref().map(shown).unwrap_or_default();
+        shortened(&text, MOST)
+    };
     let (place, value) = match &entry.value {
         Value::Text(text) => (String::new(), shown(text)),
         Value::Piece(piece) => (place(body, piece), bytes(body, piece)),

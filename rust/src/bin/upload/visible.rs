@@ -14,7 +14,10 @@ pub fn visible(c: char) -> char {
 
 /// Marks that turn the direction of writing, and two that end a line.
 fn turns(c: char) -> bool {
-    matches!(c, '\u{200E}' | '\u{200F}' | '\u{2028}'..='\u{202E}' | '\u{2066}'..='\u{2069}')
+    matches!(
+        c,
+        '\u{61C}' | '\u{200E}' | '\u{200F}' | '\u{2028}'..='\u{202E}'
+    ) || matches!(c, '\u{2066}'..='\u{2069}')
 }
 
 /// A text in one line; what is not UTF-8 is U+FFFD.
@@ -25,8 +28,10 @@ pub fn visible_bytes(text: &[u8]) -> String {
 /// How many cells of a terminal the character takes: a tab none that is known.
 pub fn cells(c: char) -> usize {
     match c {
-        '\u{300}'..='\u{36F}' | '\u{200B}'..='\u{200D}' | '\u{20D0}'..='\u{20F0}' => 0,
-        '\u{FE00}'..='\u{FE0F}' | '\u{FEFF}' => 0,
+        '\u{AD}' | '\u{300}'..='\u{36F}' | '\u{483}'..='\u{489}' | '\u{591}'..='\u{5BD}' => 0,
+        '\u{64B}'..='\u{65F}' | '\u{1AB0}'..='\u{1AFF}' | '\u{1DC0}'..='\u{1DFF}' => 0,
+        '\u{200B}'..='\u{200D}' | '\u{20D0}'..='\u{20F0}' => 0,
+        '\u{FE00}'..='\u{FE0F}' | '\u{FE20}'..='\u{FE2F}' | '\u{FEFF}' => 0,
         '\u{1100}'..='\u{115F}' | '\u{2E80}'..='\u{303E}' | '\u{3041}'..='\u{A4CF}' => 2,
         '\u{AC00}'..='\u{D7A3}' | '\u{F900}'..='\u{FAFF}' | '\u{FE30}'..='\u{FE6F}' => 2,
         '\u{FF00}'..='\u{FF60}' | '\u{FFE0}'..='\u{FFE6}' => 2,

@@ -1,11 +1,9 @@
 //! The words of a line of a sheet: bare, or in quotes with `\"`, `\\` and `\xHH`.
 
 use super::Problem;
+use crate::files::MARK;
 use crate::visible::visible_bytes;
 use falzheod::MOST_NAME_BYTES;
-
-/// The mark that some programs write at the front of UTF-8.
-const MARK: &[u8] = b"\xEF\xBB\xBF";
 
 /// A word. One in quotes is a name, never a word of the format.
 #[derive(Clone, Debug, PartialEq, Eq)]
@@ -25,7 +23,7 @@ impl Line {
     pub fn all(text: &[u8]) -> Result<Vec<Line>, Problem> {
         let text = text.strip_prefix(MARK).unwrap_or(text);
         let mut lines = Vec::new();
-        for (number, line) in (1..).zip(text.split(|byte| *byte == b'\n')) {
+        for (number, line) in (1..).zip(lines_of(text)) {
             let line = std::str::from_utf8(line).map_err(|_| (number, "not UTF-8".to_string()))?;
             let words = words(line).map_err(|problem| (number, problem))?;
             if !words.is_empty() {
@@ -56,6 +54,9 @@ impl Line {
 
     /// A name of 1 to 255 bytes.
     pub fn name(&mut self, what: &str) -> Result<Vec<u8>, Problem> {
+        if self.is_next("-") {
+            return self.wrong(format!("the {what} is none; in quotes \"-\" is a name"));
+        }
         match self.words.next() {
             None => self.wrong(format!("the {what} is missing")),
             Some(word) if word.bytes.is_empty() => self.wrong(format!("the {what} is empty")),
@@ -107,6 +108,19 @@ impl Line {
         let next = self.words.as_slice().first();
         next.map_or(String::new(), |word| visible_bytes(&word.bytes))
     }
+}
+
+/// The lines of a text, which end in LF, CR LF or a lone CR.
+fn lines_of(text: &[u8]) -> Vec<&[u8]> {
+    let mut lines = Vec::new();
+    for line in text.split(|byte| *byte == b'\n') {
+        lines.extend(
+            line.strip_suffix(b"\r")
+                .unwrap_or(line)
+                .split(|byte| *byte == b'\r'),
+        );
+    }
+    lines
 }
 
 /// The words of a line up to its `#`.
