@@ -315,6 +315,45 @@ pub fn short_name(number: usize) -> String {
     name
 }
 
+const LETTERS: &[u8] = b"abcdefghijklmnopqrstuvwxyzABCDEFGHIJKLMNOPQRSTUVWXYZ0123456789";
+
+/// A name with a byte for each base, one of so many letters: the digits of the number, the
+/// last of them counting on first.
+pub fn numbered_name(bases: &[usize], number: usize) -> String {
+    let mut left = number;
+    let last_first = bases.iter().rev().map(|base| {
+        let digit = left % base;
+        left /= base;
+        char::from(LETTERS[digit])
+    });
+    let name: Vec<char> = last_first.collect();
+    name.into_iter().rev().collect()
+}
+
+/// So many of these names, in their order.
+pub fn names(count: usize, bases: &[usize]) -> Vec<String> {
+    let numbers = 0..count;
+    numbers.map(|number| numbered_name(bases, number)).collect()
+}
+
+/// The same in an order that looks random: at which byte two names differ cannot be told
+/// from the two before them, which makes comparing them dear.
+pub fn mixed_names(count: usize, bases: &[usize]) -> Vec<String> {
+    let mut names = names(count, bases);
+    Random::new(7).shuffle(&mut names);
+    names
+}
+
+/// Attributes of these names, without values.
+pub fn attributes(names: &[String]) -> String {
+    names.iter().map(|name| format!(" {name}=''")).collect()
+}
+
+/// One start tag with these attributes.
+pub fn tag_of(names: &[String]) -> Vec<u8> {
+    format!("<r{}/>", attributes(names)).into_bytes()
+}
+
 /// Cuts, deletes, changes, inserts or doubles, once to three times.
 pub fn damage(body: &mut Vec<u8>, random: &mut Random) {
     for _ in 0..[1, 1, 1, 2, 3][random.below(5)] {

@@ -1,5 +1,5 @@
-//! Tables that no tokenizer made: good ones with something changed, and ones that
-//! are grown row by row over bytes that need be no document.
+//! Tables that no tokenizer made: good ones with something changed, ones that are grown
+//! row by row over bytes that need be no document, and ones that are dear to drain.
 
 use crate::random::Random;
 use crate::rules::Lent;
@@ -374,5 +374,23 @@ impl Growth {
         let least = self.previous.max(value[0] + value[1]);
         let position = self.place(least, self.made.body.len(), random);
         self.push(6, [0, 0, 0, 0, value[0], value[1]], position)
+    }
+}
+
+/// One start tag with as many attributes as there are rows, eight bytes each and nothing
+/// between them. The spans of a row may overlap: its prefix is the first `alike` bytes, and
+/// its local name all eight.
+pub fn start_tag(names: &[String], alike: u32) -> Made {
+    let body = format!("<r{}/>", names.concat());
+    let mut numbers = vec![1, 0, 0, 1, 1, 0, 0, 2];
+    for start in (2..).step_by(8).take(names.len()) {
+        numbers.extend([2, start, alike, start, 8, 0, 0, start + 8]);
+    }
+    let end = body.len() as u32;
+    numbers.extend([5, 0, 0, 0, 0, 0, 0, end]);
+    Made {
+        body: body.into_bytes(),
+        numbers,
+        end,
     }
 }

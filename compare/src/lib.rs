@@ -2,6 +2,8 @@
 //! 01, the checks of one text, of one table and of one reading, counts and times.
 
 pub mod bodies;
+#[cfg(feature = "c-parsers")]
+mod c_parsers;
 pub mod calls;
 pub mod check;
 pub mod counts;
@@ -21,4 +23,5 @@ pub mod sheets;
 pub mod tally;
 pub mod texts;
 pub mod timing;
+pub mod upload_times;
 pub mod uploads;

@@ -30,6 +30,13 @@ impl Random {
         self.below(100) < percent
     }
 
+    /// Puts values in another order.
+    pub fn shuffle<T>(&mut self, values: &mut [T]) {
+        for end in (2..=values.len()).rev() {
+            values.swap(end - 1, self.below(end));
+        }
+    }
+
     pub fn pick<'l, T: ?Sized>(&mut self, from: &[&'l T]) -> &'l T {
         from[self.below(from.len())]
     }

@@ -7,14 +7,23 @@ const TURN: f64 = 20e6;
 /// Nanoseconds for one of each of the calls: the medians of their turns, which they
 /// take one after the other.
 pub fn medians<const N: usize>(mut calls: [&mut dyn FnMut(); N]) -> [f64; N] {
-    let counts = calls.each_mut().map(|call| count(call));
-    let mut times = [const { Vec::new() }; N];
-    for _ in 0..TURNS {
-        for ((call, count), times) in calls.iter_mut().zip(counts).zip(&mut times) {
-            times.push(time(call, count));
-        }
-    }
-    times.map(median)
+    let times = medians_of(&mut calls);
+    times.try_into().expect("one for each call")
+}
+
+/// The same of as many calls as there are.
+pub fn medians_of(calls: &mut [&mut dyn FnMut()]) -> Vec<f64> {
+    let counts: Vec<u32> = calls.iter_mut().map(|call| count(call)).collect();
+    let turns: Vec<Vec<f64>> = (0..TURNS).map(|_| turn(calls, &counts)).collect();
+    (0..calls.len())
+        .map(|of| median(turns.iter().map(|turn| turn[of]).collect()))
+        .collect()
+}
+
+/// One turn of each call.
+fn turn(calls: &mut [&mut dyn FnMut()], counts: &[u32]) -> Vec<f64> {
+    let calls = calls.iter_mut().zip(counts);
+    calls.map(|(call, count)| time(call, *count)).collect()
 }
 
 /// How many calls take about one turn.

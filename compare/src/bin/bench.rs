@@ -8,13 +8,15 @@
 
 use compare::random::Random;
 use compare::timing::{medians, TURNS};
-use compare::uploads::{numeric, NAMED};
+use compare::uploads::{many_references, numeric, NAMED};
 use std::hint::black_box;
 
 const SIZE: usize = 64 * 1024;
 
 const LETTERS: [&str; 8] = ["é", "µ", "ß", "€", "木", "輪", "🌲", "🪵"];
 const WORDS: [&str; 6] = ["ring ", "width ", "of ", "the ", "core ", "sapwood "];
+const TWENTY: &str = "ring widths of core ";
+const NOTE: &str = include_str!("../../../samples/note.txt");
 
 /// A text of `SIZE` bytes: parts from `part` as long as they fit, then letters.
 fn text(mut part: impl FnMut(&mut Random) -> String) -> String {
@@ -38,7 +40,14 @@ fn hundred(random: &mut Random, from: &[&str]) -> String {
     part + random.pick(&NAMED)
 }
 
-fn reference_texts() -> [(&'static str, String); 5] {
+/// A reference by number, and letters up to twenty bytes.
+fn twenty(random: &mut Random) -> String {
+    let reference = numeric(random);
+    let rest = &TWENTY[reference.len()..];
+    reference + rest
+}
+
+fn reference_texts() -> [(&'static str, String); 9] {
     [
         ("no `&`", text(|random| random.pick(&WORDS).to_string())),
         (
@@ -53,6 +62,16 @@ fn reference_texts() -> [(&'static str, String); 5] {
         (
             "not ASCII, a reference in a hundred bytes",
             text(|random| hundred(random, &LETTERS)),
+        ),
+        ("a numeric reference in twenty bytes", text(twenty)),
+        (
+            "all references but single letters, mixed",
+            text(|random| many_references(random, 1)),
+        ),
+        ("samples/note.txt", NOTE.to_string()),
+        (
+            "one reference, 65,000 zeros",
+            format!("&#{}65;", "0".repeat(65_000)),
         ),
     ]
 }
@@ -72,11 +91,16 @@ fn utf8_texts() -> [(&'static str, String); 3] {
     ]
 }
 
-fn row(operation: &str, name: &str, ours: &mut dyn FnMut(), rust: &mut dyn FnMut()) {
+fn row(
+    operation: &str,
+    (name, bytes): (&str, usize),
+    ours: &mut dyn FnMut(),
+    rust: &mut dyn FnMut(),
+) {
     let [our_time, rust_time] = medians([ours, rust]);
-    let speed = |time: f64| SIZE as f64 / time;
+    let speed = |time: f64| bytes as f64 / time;
     println!(
-        "| {operation} | {name} | {our_time:.0} | {:.2} | {rust_time:.0} | {:.2} | {:.2} |",
+        "| {operation} | {name} | {bytes} | {our_time:.0} | {:.2} | {rust_time:.0} | {:.2} | {:.2} |",
         speed(our_time),
         speed(rust_time),
         rust_time / our_time
@@ -90,7 +114,7 @@ fn unescape_row(name: &str, text: &str) {
     assert_eq!(&out[..length], expected.as_bytes());
     row(
         "unescape",
-        name,
+        (name, text.len()),
         &mut || {
             let _ = black_box(falzheod::unescape(black_box(text.as_bytes()), &mut out));
         },
@@ -105,7 +129,7 @@ fn validate_row(name: &str, text: &str) {
     assert!(oracle::validate_references(text).is_ok());
     row(
         "validate_references",
-        name,
+        (name, text.len()),
         &mut || {
             let _ = black_box(falzheod::validate_references(black_box(text.as_bytes())));
         },
@@ -119,7 +143,7 @@ fn utf8_row(name: &str, text: &str) {
     assert!(falzheod::is_utf8(text.as_bytes()));
     row(
         "is_utf8",
-        name,
+        (name, text.len()),
         &mut || {
             black_box(falzheod::is_utf8(black_box(text.as_bytes())));
         },
@@ -130,12 +154,10 @@ fn utf8_row(name: &str, text: &str) {
 }
 
 fn main() {
-    println!(
-        "Texts of {SIZE} bytes; the median of {TURNS} turns; the ratio is the Rust's time by ours."
-    );
+    println!("Medians of {TURNS} turns; the ratio is the Rust's time by ours.");
     println!("is_utf8 stands beside std::str::from_utf8.\n");
-    println!("| operation | text | Falzheod ns | GB/s | Rust ns | GB/s | ratio |");
-    println!("|---|---|---:|---:|---:|---:|---:|");
+    println!("| operation | text | bytes | Falzheod ns | GB/s | Rust ns | GB/s | ratio |");
+    println!("|---|---|---:|---:|---:|---:|---:|---:|");
     for (name, text) in reference_texts() {
         unescape_row(name, &text);
     }

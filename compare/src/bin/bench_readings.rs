@@ -8,7 +8,7 @@
 //!
 //! What is timed, and what is compared before, says src/read_times.rs.
 
-use compare::bodies::{nested, short_name, start_tag};
+use compare::bodies::{attributes, nested, short_name, start_tag};
 use compare::lent::Made;
 use compare::random::Random;
 use compare::read_times::Reading::{self, Boolean, BySheet, Find, Integer};
@@ -16,11 +16,7 @@ use compare::read_times::{times, Times};
 use compare::reader::Kind;
 use compare::sheets::{List, Map, Member, Structure};
 use compare::timing::{heading, line, ratio_cells, TURNS};
-use compare::uploads::{core, filled, many_references, numeric, rowed, widths};
-
-/// The bytes of small and of large bodies, about.
-const SMALL: usize = 1_050;
-const LARGE: usize = 60_000;
+use compare::uploads::{cores, filled, many_references, numeric, rowed, widths, LARGE, SMALL};
 
 /// The ratio that a line is to reach.
 const GOAL: f64 = 4.0;
@@ -179,7 +175,7 @@ fn pairs() -> Reading {
 
 fn uploads(lines: &mut Lines) {
     for (size, decades, words) in [(SMALL, 2, "1 KB"), (LARGE, 9, "60 KB")] {
-        let body = filled(size, |random, number| core(random, number, decades));
+        let body = cores(size, decades);
         let groups = structure("r", vec![group("core")]);
         lines.add(
             format!("upload of {words}, flattened groups"),
@@ -286,7 +282,7 @@ fn scalars(lines: &mut Lines) {
 
 fn finds(lines: &mut Lines) {
     for (size, decades, words) in [(SMALL, 2, "1 KB"), (LARGE, 9, "60 KB")] {
-        let mut body = filled(size, |random, number| core(random, number, decades));
+        let mut body = cores(size, decades);
         body.truncate(body.len() - "</r>".len());
         body.extend_from_slice(b"<lab>north</lab></r>");
         let name = format!("find the first child of {words}");
@@ -331,17 +327,15 @@ fn many_attributes(lines: &mut Lines) {
     let name = "8,190 attributes, 64 long asked for";
     lines.add(name, &reading, start_tag(8_190, "p:").as_bytes());
     for (count, words, length) in [(5_000, "5,000", 8), (240, "240", 255)] {
-        let tag = attributes((0..count).map(|number| late_name(length, number)));
+        let names: Vec<String> = (0..count).map(|number| late_name(length, number)).collect();
+        let tag = attributes(&names);
         let name = format!("{words} attributes of {length} bytes, differ late");
         lines.add(&name, &items(Kind::List), format!("<r{tag}/>").as_bytes());
     }
-    let tag = attributes((1..=64).map(short_name));
+    let names: Vec<String> = (1..=64).map(short_name).collect();
+    let tag = attributes(&names);
     let body = rowed(8_000, 66, |_| format!("<ring{tag}/>"));
     lines.add("64 attributes in each item", &items(Kind::List), &body);
-}
-
-fn attributes(names: impl Iterator<Item = String>) -> String {
-    names.map(|name| format!(" {name}=''")).collect()
 }
 
 /// Names of `length` bytes that differ in the last ones.
