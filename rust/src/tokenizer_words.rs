@@ -48,13 +48,19 @@ fn byte_of_cause(text: &str, cause: StreamError, begins: usize) -> usize {
         StreamError::InvalidCommentData => find("--", begins + 4),
         StreamError::InvalidCommentEnd => find("--->", begins + 3),
         StreamError::InvalidCharacterData => find("]]>", begins),
-        StreamError::InvalidName => {
-            // the white space before an attribute belongs to its token
-            let spaces = |c: char| matches!(c, ' ' | '\t' | '\r' | '\n');
-            text.len() - text[begins..].trim_start_matches(spaces).len()
-        }
+        StreamError::InvalidName => name_in(text, begins),
         cause => place_of(cause).map_or(begins, |place| byte_of(text, place)),
     }
+}
+
+/// Where the name stands in a token that begins at `begins`: behind the word that the token
+/// begins with, and behind white space, which belongs to an attribute's token too.
+fn name_in(text: &str, begins: usize) -> usize {
+    let token = &text[begins..];
+    let words = ["<!DOCTYPE", "<!ENTITY", "<?"];
+    let behind = words.iter().find_map(|word| token.strip_prefix(word));
+    let spaces = |c: char| matches!(c, ' ' | '\t' | '\r' | '\n');
+    text.len() - behind.unwrap_or(token).trim_start_matches(spaces).len()
 }
 
 /// The place that the tokenizer tells of a cause.

@@ -171,6 +171,18 @@ fn the_tokenizers_words() {
         ("<a/><b/>", "-:1:5: unknown token"),
         ("<a/", "-:1:4: invalid attribute: unexpected end of stream"),
         (
+            "<!DOCTYPE\n\n 5>\n<a/>",
+            "-:3:2: invalid DTD: invalid name token",
+        ),
+        (
+            "<!DOCTYPE a [\n<!ENTITY 5 'x'>]><a/>",
+            "-:2:10: invalid DTD entity: invalid name token",
+        ),
+        (
+            "<a><?\n5?></a>",
+            "-:2:1: invalid processing instruction: invalid name token",
+        ),
+        (
             "<a><!-- -- --></a>",
             "-:1:9: invalid comment: '--' is not allowed in comments",
         ),
