@@ -17,15 +17,19 @@ enum { ENTRY_KIND, MEMBER, KEY, KEY_LEN, START, LENGTH };
     "<upload team=\"north slope\"><remark>bark &amp; pith</remark>"                    \
     "<site code=\"LAE-3\"/><core id=\"17\"/><core id=\"18\"/></upload>"
 
+/* The rows up to where the second upload is cut. */
+#define FRONT_ROWS                                    \
+    1, 0, 0, 1,   6, 0,   0,  7,   /* <upload             */ \
+    2, 0, 0, 8,   4, 14,  11, 26,  /* team="north slope"  */ \
+    3, 0, 0, 0,   0, 0,   0,  27,  /* >                   */ \
+    1, 0, 0, 28,  6, 0,   0,  34,  /* <remark             */ \
+    3, 0, 0, 0,   0, 0,   0,  35,  /* >                   */ \
+    6, 0, 0, 0,   0, 35,  15, 50,  /* bark &amp; pith     */ \
+    4, 0, 0, 52,  6, 0,   0,  59,  /* </remark>           */ \
+    1, 0, 0, 60,  4, 0,   0,  64   /* <site               */
+
 static const uint32_t whole_rows[] = {
-    1, 0, 0, 1,   6, 0,   0,  7,   /* <upload             */
-    2, 0, 0, 8,   4, 14,  11, 26,  /* team="north slope"  */
-    3, 0, 0, 0,   0, 0,   0,  27,  /* >                   */
-    1, 0, 0, 28,  6, 0,   0,  34,  /* <remark             */
-    3, 0, 0, 0,   0, 0,   0,  35,  /* >                   */
-    6, 0, 0, 0,   0, 35,  15, 50,  /* bark &amp; pith     */
-    4, 0, 0, 52,  6, 0,   0,  59,  /* </remark>           */
-    1, 0, 0, 60,  4, 0,   0,  64,  /* <site               */
+    FRONT_ROWS,
     2, 0, 0, 65,  4, 71,  5,  77,  /* code="LAE-3"        */
     5, 0, 0, 0,   0, 0,   0,  79,  /* />                  */
     1, 0, 0, 80,  4, 0,   0,  84,  /* <core               */
@@ -40,14 +44,7 @@ static const uint32_t whole_rows[] = {
 /* The same upload cut short in the site's code, after 73 bytes. The tokenizer cannot go on
  * there, and says so by a row of kind 8. */
 static const uint32_t cut_rows[] = {
-    1, 0, 0, 1,   6, 0,   0,  7,   /* <upload             */
-    2, 0, 0, 8,   4, 14,  11, 26,  /* team="north slope"  */
-    3, 0, 0, 0,   0, 0,   0,  27,  /* >                   */
-    1, 0, 0, 28,  6, 0,   0,  34,  /* <remark             */
-    3, 0, 0, 0,   0, 0,   0,  35,  /* >                   */
-    6, 0, 0, 0,   0, 35,  15, 50,  /* bark &amp; pith     */
-    4, 0, 0, 52,  6, 0,   0,  59,  /* </remark>           */
-    1, 0, 0, 60,  4, 0,   0,  64,  /* <site               */
+    FRONT_ROWS,
     8, 0, 0, 0,   0, 0,   0,  73,  /* code="LA            */
 };
 

@@ -158,7 +158,7 @@ fn ill_formed(body: &[u8], rows: &[Row], row: usize, cause: Cause) -> CheckError
             let (open, opened) = innermost(body, before);
             CheckError::Mismatched {
                 at: place(fails.tag_start(body)),
-                found: name(body, &fails),
+                found: fails.name(body),
                 open,
                 opened,
             }
@@ -170,7 +170,7 @@ fn ill_formed(body: &[u8], rows: &[Row], row: usize, cause: Cause) -> CheckError
         }
         Cause::Repeated => CheckError::Repeated {
             at: place(fails.name_start()),
-            name: name(body, &fails),
+            name: fails.name(body),
             first: place(alike(body, before, &fails).name_start()),
         },
         Cause::Reference => {
@@ -178,17 +178,6 @@ fn ill_formed(body: &[u8], rows: &[Row], row: usize, cause: Cause) -> CheckError
             let at = place(fails.value_start as usize + start);
             CheckError::Reference { at, reference }
         }
-    }
-}
-
-/// The name of a row as it stands in the body.
-fn name(body: &[u8], row: &Row) -> String {
-    let (prefix, local) = (row.prefix(body), row.local(body));
-    let local = String::from_utf8_lossy(local);
-    if prefix.is_empty() {
-        local.into_owned()
-    } else {
-        format!("{}:{local}", String::from_utf8_lossy(prefix))
     }
 }
 
@@ -203,7 +192,7 @@ fn innermost(body: &[u8], rows: &[Row]) -> (String, Place) {
         }
     }
     let row = open.last().copied().copied().unwrap_or_default();
-    (name(body, &row), Place::of(body, row.tag_start(body)))
+    (row.name(body), Place::of(body, row.tag_start(body)))
 }
 
 /// The attribute of the same tag that has the name of this one.

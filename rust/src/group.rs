@@ -157,7 +157,10 @@ pub(crate) fn siblings(
     sheet: Sheet<'_>,
     entries: &[lent::Entry],
 ) -> Vec<Vec<(u32, u32)>> {
-    let groups: Vec<_> = entries.iter().filter(|entry| entry.kind == 3).collect();
+    let groups: Vec<_> = entries
+        .iter()
+        .filter(|entry| entry.kind == lent::kind::GROUP)
+        .collect();
     if groups.is_empty() {
         return Vec::new();
     }

@@ -76,6 +76,14 @@ pub struct Entry {
     pub len: u32,
 }
 
+/// The kinds of entries.
+pub(crate) mod kind {
+    pub const TEXT: u32 = 1;
+    pub const PIECE: u32 = 2;
+    pub const GROUP: u32 = 3;
+    pub const FAILED: u32 = 4;
+}
+
 /// The numbers of an entry in the library's buffers.
 pub(crate) const NUMBERS: usize = 6;
 

@@ -59,10 +59,14 @@ impl Limit {
 
 impl fmt::Display for Limit {
     fn fmt(&self, f: &mut fmt::Formatter<'_>) -> fmt::Result {
-        f.write_str(match self {
-            Limit::Bytes => "more than 65,536 bytes",
-            Limit::Rows => "more than 8,192 tokens",
-            Limit::Open => "more than 256 open elements",
-        })
+        let what = match self {
+            Limit::Bytes => "bytes",
+            Limit::Rows => "tokens",
+            Limit::Open => "open elements",
+        };
+        match (self.most() / 1_000, self.most() % 1_000) {
+            (0, few) => write!(f, "more than {few} {what}"),
+            (thousands, rest) => write!(f, "more than {thousands},{rest:03} {what}"),
+        }
     }
 }

@@ -1,6 +1,7 @@
 //! What a reading gave: its entries, and its refusal, if it was refused.
 
-use crate::{lent, Entry, Group, Piece, Refusal, Text, Upload};
+use crate::lent::{self, kind};
+use crate::{Entry, Group, Piece, Refusal, Text, Upload};
 
 /// What a reading by a sheet gave: its entries, and its refusal, if it was refused. A
 /// refusal keeps the entries that were written before it.
@@ -89,23 +90,23 @@ impl Reading<'_> {
             self.is_map.then_some(Text::from(key))
         };
         match raw.kind {
-            1 => Entry::Text {
+            kind::TEXT => Entry::Text {
                 member,
                 key: key(),
                 text: Text::from(self.text(raw.start, raw.len)),
             },
-            2 => Entry::Piece {
+            kind::PIECE => Entry::Piece {
                 member,
                 key: key(),
                 piece: Piece::of(self.upload, (raw.start, raw.len), 1),
             },
-            3 => {
+            kind::GROUP => {
                 let siblings = &self.groups[index + self.groups.len() - self.entries.len()];
                 let bytes = self.text(raw.start, raw.len);
                 let group = Group::of(self.upload, bytes, siblings);
                 Entry::Group { member, group }
             }
-            4 => Entry::Failed {
+            kind::FAILED => Entry::Failed {
                 member,
                 refusal: Refusal::of(raw.start, || unreachable!("a text of what passed gave 9")),
             },

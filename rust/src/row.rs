@@ -98,6 +98,17 @@ impl Row {
         part(body, self.prefix_start, self.prefix_len)
     }
 
+    /// The name as it stands in the body, with its prefix.
+    pub(crate) fn name(&self, body: &[u8]) -> String {
+        let (prefix, local) = (self.prefix(body), self.local(body));
+        let local = String::from_utf8_lossy(local);
+        if prefix.is_empty() {
+            local.into_owned()
+        } else {
+            format!("{}:{local}", String::from_utf8_lossy(prefix))
+        }
+    }
+
     /// The value in the body.
     pub(crate) fn value<'a>(&self, body: &'a [u8]) -> &'a [u8] {
         part(body, self.value_start, self.value_len)

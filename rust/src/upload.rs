@@ -113,6 +113,19 @@ impl<'a> Upload<'a> {
         self.body
     }
 
+    /// The root's name, with its prefix.
+    ///
+    /// ```
+    /// # #[cfg(feature = "xmlparser")] {
+    /// assert_eq!(falzheod::check(b"<!-- c --><d:core/>")?.root_name(), "d:core");
+    /// # }
+    /// # Ok::<(), falzheod::CheckError>(())
+    /// ```
+    pub fn root_name(&self) -> String {
+        let root = self.rows.iter().find(|row| row.kind == kind::START);
+        root.map_or(String::new(), |row| row.name(self.body))
+    }
+
     /// The rows of its table.
     ///
     /// ```

@@ -8,13 +8,6 @@ use falzheod::table::{from_tokens, Table};
 use falzheod::{check, Entry, ListSheet, MapSheet, Member, Piece, Settings, Sheet};
 use falzheod::{drain, CheckError, Limit, Row, StructSheet, Upload};
 
-const LENIENT: Settings = Settings {
-    validate_document: false,
-    validate_root_name: false,
-    strict_collection_element_names: false,
-    max_depth: 128,
-};
-
 /// The piece's own rows, and those of its bytes checked afresh.
 fn same_as_fresh(piece: Piece<'_>, depth: u32) {
     let upload = piece.upload();
@@ -25,7 +18,7 @@ fn same_as_fresh(piece: Piece<'_>, depth: u32) {
 
 /// Every element of an upload, level by level; how many they are.
 fn every_element(upload: &Upload<'_>, list: &ListSheet) -> usize {
-    let reading = upload.read_list(list, &LENIENT);
+    let reading = upload.read_list(list, &Settings::default());
     assert_eq!(reading.refusal(), None);
     let mut count = 0;
     for entry in reading.entries() {
@@ -76,7 +69,7 @@ fn maps_structures_and_groups_of_random_bodies() {
         let body = body(&mut random);
         let upload = check(body.as_bytes()).unwrap();
         for by in [Sheet::from(&map), Sheet::from(&sheet)] {
-            let reading = upload.read(by, &LENIENT);
+            let reading = upload.read(by, &Settings::default());
             for entry in reading.entries() {
                 match entry {
                     Entry::Piece { piece, .. } => {
@@ -153,7 +146,7 @@ fn the_pieces_of_other_tables() {
         let Ok(upload) = Upload::of_table(body.as_bytes(), rows, end) else {
             continue;
         };
-        let reading = upload.read_list(&list, &LENIENT);
+        let reading = upload.read_list(&list, &Settings::default());
         for entry in reading.entries() {
             let Entry::Piece { piece, .. } = entry else {
                 panic!("{entry:?}");

@@ -28,7 +28,7 @@ fn is_broken<T>(read: Result<T, lent::Refused>) -> bool {
 fn agree(bytes: &[u8]) {
     let structure = lent::read_struct(BODY, bytes, SETTINGS, 0, &mut [], &mut []);
     match StructSheet::parse(bytes) {
-        Ok(sheet) => assert_eq!(sheet.to_bytes(), bytes),
+        Ok(sheet) => assert_eq!(sheet.as_bytes(), bytes),
         Err(error) => assert!(matches!(error, SheetError::Broken { .. })),
     }
     assert_eq!(
@@ -157,10 +157,10 @@ fn lists_and_maps_there_and_back() {
     assert_eq!(MapSheet::parse(map.as_bytes()), Ok(map));
     for bits in [1, 5, 4, 20, 2, 0] {
         if let Ok(list) = ListSheet::parse(&[bits]) {
-            assert_eq!(list.to_bytes(), [bits]);
+            assert_eq!(list.as_bytes(), [bits]);
         }
         if let Ok(map) = MapSheet::parse(&[bits]) {
-            assert_eq!(map.to_bytes(), [bits]);
+            assert_eq!(map.as_bytes(), [bits]);
         }
     }
 }

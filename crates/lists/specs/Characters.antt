@@ -1,4 +1,4 @@
--- Characters by their bytes: those to which XML 1.0 gives a meaning, and the `+` that the Rust takes before digits.
+-- Characters by their bytes: those to which XML 1.0 gives a meaning, and the signs `+` and `-` that 01 takes before digits.
 use Prim.Native.Nat.{ℕ}
 
 abbrev pub quote : ℕ

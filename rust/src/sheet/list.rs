@@ -88,16 +88,6 @@ impl ListSheet {
         &self.bytes
     }
 
-    /// A copy of its bytes.
-    ///
-    /// ```
-    /// assert_eq!(falzheod::ListSheet::builder().build()?.to_bytes(), vec![0]);
-    /// # Ok::<(), falzheod::SheetError>(())
-    /// ```
-    pub fn to_bytes(&self) -> Vec<u8> {
-        self.bytes.clone()
-    }
-
     /// The name of its items, if it has a member: its name in XML, else its own, else
     /// `member`.
     ///

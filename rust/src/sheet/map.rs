@@ -88,16 +88,6 @@ impl MapSheet {
         &self.bytes
     }
 
-    /// A copy of its bytes.
-    ///
-    /// ```
-    /// assert_eq!(falzheod::MapSheet::builder().build()?.to_bytes(), vec![0]);
-    /// # Ok::<(), falzheod::SheetError>(())
-    /// ```
-    pub fn to_bytes(&self) -> Vec<u8> {
-        self.bytes.clone()
-    }
-
     /// The name of the keys.
     ///
     /// ```

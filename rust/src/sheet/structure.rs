@@ -99,17 +99,6 @@ impl StructSheet {
         &self.bytes
     }
 
-    /// A copy of its bytes.
-    ///
-    /// ```
-    /// let sheet = falzheod::StructSheet::builder("r").build()?;
-    /// assert_eq!(sheet.to_bytes(), vec![0, 1, b'r', 0]);
-    /// # Ok::<(), falzheod::SheetError>(())
-    /// ```
-    pub fn to_bytes(&self) -> Vec<u8> {
-        self.bytes.clone()
-    }
-
     /// The members; a member's index is its place.
     ///
     /// ```

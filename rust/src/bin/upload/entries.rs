@@ -229,15 +229,10 @@ fn name_of(shape: &Shape, member: usize) -> Option<String> {
 
 /// The two names, where the root's is another than the sheet says.
 fn root_names(upload: &Upload<'_>, shape: &Shape, number: u32) -> String {
-    let start = upload.rows().iter().find(|row| row.kind == 1);
-    let (Shape::Structure(sheet), Some(row), 5) = (shape, start, number) else {
+    let (Shape::Structure(sheet), true) = (shape, number == Refusal::RootName.number()) else {
         return String::new();
     };
-    let body = upload.body();
-    let part = |start: u32, len: u32| visible_bytes(&body[start as usize..][..len as usize]);
-    let prefix = part(row.prefix_start, row.prefix_len);
-    let colon = if prefix.is_empty() { "" } else { ":" };
-    let local = part(row.local_start, row.local_len);
+    let found = visible_bytes(upload.root_name().as_bytes());
     let wanted = visible_bytes(sheet.root_name());
-    format!(": it is {prefix}{colon}{local}, and the sheet says {wanted}")
+    format!(": it is {found}, and the sheet says {wanted}")
 }

@@ -5,7 +5,7 @@ use super::member::{item, member, value};
 use super::{Problem, Shape};
 use falzheod::{ListBuilder, ListSheet, MapSheet, SheetError, StructBuilder, StructSheet};
 
-const KINDS: [&str; 4] = ["structure", "list", "strings", "map"];
+pub const KINDS: [&str; 4] = ["structure", "list", "strings", "map"];
 
 /// The name of the sheet that reads something, and the line that says so.
 pub type By = Option<(usize, Vec<u8>)>;

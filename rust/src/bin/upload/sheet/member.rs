@@ -5,7 +5,7 @@ use super::line::Line;
 use super::Problem;
 use falzheod::{ListBuilder, MapBuilder, Member};
 
-const FLAGS: [&str; 4] = ["attribute", "flattened", "aggregate", "scalar"];
+pub const FLAGS: [&str; 4] = ["attribute", "flattened", "aggregate", "scalar"];
 
 /// Which of the four words stand at the front of a line.
 fn flags(line: &mut Line) -> Result<[bool; 4], Problem> {

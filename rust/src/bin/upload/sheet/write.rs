@@ -1,25 +1,20 @@
 //! A sheet back as text, in the words in which it is parsed.
 
+use super::block::KINDS;
+use super::member::FLAGS;
 use super::Shape;
 use falzheod::{ListSheet, MapSheet, Member, StructSheet};
 use std::borrow::Cow;
 
-/// Words of the format, which are names only in quotes.
-const WORDS: [&str; 16] = [
-    "structure",
-    "list",
-    "strings",
-    "map",
+/// Words of the format beside those that begin a sheet or a member: all are names only in
+/// quotes.
+const WORDS: [&str; 8] = [
     "shape",
     "named",
     "original",
     "member",
     "unwrapped",
     "by",
-    "attribute",
-    "flattened",
-    "aggregate",
-    "scalar",
     "value",
     "-",
 ];
@@ -118,9 +113,14 @@ fn name(name: Option<&[u8]>) -> Cow<'_, str> {
 fn word(name: &[u8]) -> Cow<'_, str> {
     let is_bare = |c: char| c.is_alphanumeric() || matches!(c, '_' | '-' | '.' | ':');
     match std::str::from_utf8(name) {
-        Ok(text) if text.chars().all(is_bare) && !WORDS.contains(&text) => text.into(),
+        Ok(text) if text.chars().all(is_bare) && !is_word(text) => text.into(),
         _ => quoted(name).into(),
     }
+}
+
+fn is_word(text: &str) -> bool {
+    let words = KINDS.iter().chain(&FLAGS).chain(&WORDS);
+    words.into_iter().any(|word| *word == text)
 }
 
 fn quoted(name: &[u8]) -> String {
