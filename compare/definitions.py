@@ -2,9 +2,9 @@
 """The definitions of the readings, computed, beside the answers of the Rust.
 
 Makes cases (definitions/cases.py), asks the oracle, and writes a crate `faith` beside links to ours, in a
-folder of its own; its specs say by `refl` that the definitions compute the answers of the Rust. `rt` checks
-them. Of a file that does not pass, each case is stated alone, and what the definitions compute is printed.
-The last line is `N passed, M failed`."""
+folder of its own; its specs say by `refl` that the definitions compute the answers of the Rust, and the places of
+bad references, which the Rust does not tell, as definitions/model.py has them. `rt` checks them. Of a file that
+does not pass, each case is stated alone, and what the definitions compute is printed. The last line is `N passed, M failed`."""
 
 import argparse
 import collections
@@ -102,7 +102,12 @@ def within(number, entries, room):
     return 0, written + groups
 
 
-def numbers_of(number, entries, in_map):
+def placeless(entries):
+    """Change request 1, "Runs against the Rust leave the place out": that in an entry of kind 4 whose number is 7."""
+    return [entry[:5] + (0,) if entry[0] == 4 and entry[4] == 7 else entry for entry in entries]
+
+
+def numbers_of(number, place, entries, in_map):
     """As definitions/Ask.antt writes a reading: texts follow one another from 0."""
     out, texts = [], b""
     for kind, index, key, text, start, length in entries:
@@ -111,7 +116,7 @@ def numbers_of(number, entries, in_map):
         row += [len(texts), len(text)] if kind in (1, 3) else [start, length]
         texts += text
         out += row
-    return [number, len(entries)] + out + list(texts)
+    return [number, place, len(entries)] + out + list(texts)
 
 
 class Expected:
@@ -126,24 +131,24 @@ class Expected:
         word = "ask-" + case.kind
         if case.kind.startswith("text"):
             number, given = self.rust(case)
-            return word, self.plain(case, number, given)
+            return word, self.plain(case, number, 0, given)
         rows, final = self.answers.table(case.body)
         numbers = [number for row in rows for number in row]
         if case.table is not None:
             numbers, final = case.table
             rows = [numbers[at:at + 8] for at in range(0, len(numbers), 8)]
         if not model.obeys(case.body, numbers, final):
-            return word, [1, 0] if case.kind in SHEETED else [1]
-        number, given = self.modelled(case, rows, final)
+            return word, [1, 0, 0] if case.kind in SHEETED else [1, 0]
+        number, place, given = self.modelled(case, rows, final)
         if case.table is None and case.kind != "whole":
             rust = self.rust(case)
             if rust is None:
                 return None
-            self.hold(case, rust, (number, given))
+            self.hold(case, rust, (number, placeless(given) if case.kind in SHEETED else given))
         if case.kind in SHEETED:
             number, given = within(number, given, case.room or ENOUGH)
-            return word, numbers_of(number, given, case.kind == "map")
-        return word, self.plain(case, number, given)
+            return word, numbers_of(number, place if number == 7 else 0, given, case.kind == "map")
+        return word, self.plain(case, number, place, given)
 
     def rust(self, case):
         """(number, what was given), or None."""
@@ -167,22 +172,23 @@ class Expected:
         return 0, oracle.unhexed(fields[1])
 
     def modelled(self, case, rows, final):
-        """The same by definitions/model.py."""
+        """The same by definitions/model.py, with the place beside the number, which the Rust has not."""
         if case.kind in SHEETED:
             return model.reading(case, rows, final)
         if case.kind == "drain":
             failed = model.drain(case, rows, final)
-            return (9 if failed else 0), failed or 0
-        if case.kind == "find":
-            return model.find(case, rows, final)
-        number, text = (model.whole if case.kind == "whole" else model.scalar)(case, rows, final)
+            return (9, failed[2], failed[:2]) if failed else (0, 0, 0)
+        if case.kind in ("find", "whole"):
+            number, given = (model.find if case.kind == "find" else model.whole)(case, rows, final)
+            return number, 0, given
+        number, place, text = model.scalar(case, rows, final)
         if number != 0:
-            return number, None
-        if case.kind in ("string", "whole"):
-            return 0, text
+            return number, place, None
+        if case.kind == "string":
+            return 0, 0, text
         # a text is read by the Rust, in both
-        made_of = made.Case("", "", "text" + case.kind, text)
-        return self.rust(made_of)
+        number, given = self.rust(made.Case("", "", "text" + case.kind, text))
+        return number, 0, given
 
     def hold(self, case, rust, ours):
         """The model's answer is the Rust's, but for what 01 has otherwise and for what the Rust drops."""
@@ -209,18 +215,18 @@ class Expected:
             out.append((kind, 0, key, text, None, None))
         return out
 
-    def plain(self, case, number, given):
+    def plain(self, case, number, place, given):
         if case.kind == "drain":
-            return [9, given[0], CAUSES[given[1]]] if number else [0]
+            return [9, given[0], CAUSES[given[1]], place] if number else [0, 0]
         if number != 0:
-            return [number]
+            return [number, place]
         if case.kind == "find":
             return [0, given[0], given[1]]
         if case.kind.endswith("bool"):
             return [0, given]
         if case.kind.endswith("int"):
             return [0, 0, given] if given >= 0 else [0, 1, -given - 1]
-        return [0] + list(given) if len(given) <= (case.room or ENOUGH)[1] else [10]
+        return [0] + list(given) if len(given) <= (case.room or ENOUGH)[1] else [10, 0]
 
 
 # ------------------------------------------------------------ what the definitions compute
@@ -458,7 +464,7 @@ def main():
             for i, (case, word, numbers) in enumerate(chunk):
                 if (name, i) in wrong:
                     differs.append((case, numbers))
-                    print("differs: %s %s: %s\n    the Rust %s\n    %s" % (case.origin, case.group, shown(case), numbers, wrong[(name, i)]))
+                    print("differs: %s %s: %s\n    expected %s\n    %s" % (case.origin, case.group, shown(case), numbers, wrong[(name, i)]))
                 else:
                     passed[(case.origin, case.group, word)] += 1
         done += sum(map(len, part.values()))

@@ -13,11 +13,16 @@ enum { KIND, PREFIX, PREFIX_LEN, LOCAL, LOCAL_LEN, VALUE, VALUE_LEN, POSITION, R
 enum { START_TAG = 1, ATTRIBUTE = 2, END_TAG = 4, EMPTY_END = 5 };
 enum { ENTRY_KIND, MEMBER, KEY, KEY_LEN, START, LENGTH };
 
-#define BODY                                                                           \
-    "<upload team=\"north slope\"><remark>bark &amp; pith</remark>"                    \
+#define BODY_WITH(remark)                                                              \
+    "<upload team=\"north slope\"><remark>" remark "</remark>"                         \
     "<site code=\"LAE-3\"/><core id=\"17\"/><core id=\"18\"/></upload>"
+#define BODY BODY_WITH("bark &amp; pith")
 
-/* The rows up to where the second upload is cut. */
+/* The same upload with a typing error in the remark. Its tokens stand where they stood, so that
+ * it has the same rows. */
+#define MISTYPED BODY_WITH("bark &amp, pith")
+
+/* The rows up to where the last upload is cut. */
 #define FRONT_ROWS                                    \
     1, 0, 0, 1,   6, 0,   0,  7,   /* <upload             */ \
     2, 0, 0, 8,   4, 14,  11, 26,  /* team="north slope"  */ \
@@ -60,6 +65,8 @@ struct upload {
 #define COUNT(array) (sizeof(array) / sizeof((array)[0]))
 static const struct upload whole = {(const uint8_t *)BODY, sizeof BODY - 1, whole_rows,
                                     COUNT(whole_rows), sizeof BODY - 1};
+static const struct upload mistyped = {(const uint8_t *)MISTYPED, sizeof MISTYPED - 1, whole_rows,
+                                       COUNT(whole_rows), sizeof MISTYPED - 1};
 static const struct upload cut = {(const uint8_t *)BODY, 73, cut_rows, COUNT(cut_rows), 73};
 
 /* A sheet, with what decides how much room its readings need. */
@@ -111,6 +118,7 @@ struct part {
 struct taken {
     size_t failing_row;
     uint32_t cause;
+    size_t place; /* of the `&`, where the cause is a reference */
     struct reading of_upload;
     struct reading of_site;
     uint32_t *site_rows;
@@ -130,14 +138,15 @@ static const char *cause_in_words(uint32_t cause)
     }
 }
 
-/* Drains an upload. A body that is not UTF-8 may have no rows, and a table without rows passes the
- * drain; so such a body is refused before, by the number that it has with rows. */
-static uint32_t drain(const struct upload *upload, size_t *row, uint32_t *cause)
+/* Drains an upload, and keeps why it fails and where. A body that is not UTF-8 may have no rows, and
+ * a table without rows passes the drain; so such a body is refused before, by the number that it
+ * has with rows. */
+static uint32_t drain(const struct upload *upload, struct taken *taken)
 {
     if (!falzheod_is_utf8(upload->body, upload->body_len))
         return FALZHEOD_TABLE;
     return falzheod_drain(upload->body, upload->body_len, upload->rows, upload->rows_len,
-                          upload->end, row, cause);
+                          upload->end, &taken->failing_row, &taken->cause, &taken->place);
 }
 
 /* Makes room that is always enough, so that FALZHEOD_NO_ROOM never comes.
@@ -254,7 +263,7 @@ static uint32_t read_site(const struct upload *upload, struct taken *taken)
     site.rows = taken->site_rows;
     site.rows_len = rows_of_piece(upload, (uint32_t)(piece->bytes - upload->body),
                                   taken->site_rows);
-    number = drain(&site, &taken->failing_row, &taken->cause);
+    number = drain(&site, taken);
     if (number == FALZHEOD_FINISHED)
         number = read_by(&site, &site_sheet, 1, &taken->of_site);
     if (number == FALZHEOD_FINISHED)
@@ -268,7 +277,7 @@ static uint32_t take(const struct upload *upload, struct taken *taken)
 {
     uint32_t number;
     memset(taken, 0, sizeof *taken); /* so that what was never made may be given back */
-    number = drain(upload, &taken->failing_row, &taken->cause);
+    number = drain(upload, taken);
     if (number == FALZHEOD_FINISHED)
         number = read_by(upload, &upload_sheet, 0, &taken->of_upload);
     if (number == FALZHEOD_FINISHED)
@@ -305,6 +314,8 @@ static uint32_t take_and_hand_on(const struct upload *upload, struct taken *take
         printf("refused with %u", (unsigned)number);
         if (number == FALZHEOD_ILL_FORMED)
             printf(", row %u: %s", (unsigned)taken->failing_row, cause_in_words(taken->cause));
+        if (taken->cause == FALZHEOD_CAUSE_REFERENCE)
+            printf(", at byte %u", (unsigned)taken->place);
         printf("\n  nothing is handed on\n");
         return number;
     }
@@ -323,10 +334,10 @@ static int is(const struct part *part, const char *wanted)
            memcmp(part->bytes, wanted, part->len) == 0;
 }
 
-/* Succeeds only if both uploads came out as they should, so that the example is a test, too. */
+/* Succeeds only if all uploads came out as they should, so that the example is a test, too. */
 int main(void)
 {
-    struct taken of_whole, of_cut;
+    struct taken of_whole, of_mistyped, of_cut;
     int right = take_and_hand_on(&whole, &of_whole) == FALZHEOD_FINISHED &&
                 is(&of_whole.members[TEAM], "north slope") &&
                 is(&of_whole.members[REMARK], "bark & pith") &&
@@ -334,9 +345,13 @@ int main(void)
                 is(&of_whole.site_members[CODE], "LAE-3") &&
                 is(&of_whole.members[CORES],
                    "<__flat><core id=\"17\"/><core id=\"18\"/></__flat>");
+    int found = take_and_hand_on(&mistyped, &of_mistyped) == FALZHEOD_ILL_FORMED &&
+                of_mistyped.cause == FALZHEOD_CAUSE_REFERENCE &&
+                MISTYPED[of_mistyped.place] == '&';
     int refused = take_and_hand_on(&cut, &of_cut) == FALZHEOD_ILL_FORMED &&
                   of_cut.cause == FALZHEOD_CAUSE_TOKEN && of_cut.failing_row == 8;
     give_back(&of_whole);
+    give_back(&of_mistyped);
     give_back(&of_cut);
-    return right && refused ? EXIT_SUCCESS : EXIT_FAILURE;
+    return right && found && refused ? EXIT_SUCCESS : EXIT_FAILURE;
 }

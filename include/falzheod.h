@@ -57,7 +57,8 @@ extern "C" {
 #define FALZHEOD_ELEMENT_IN_TEXT UINT32_C(6)
 
 /* A reference is bad: an `&` without a `;` before the next `&` or the end, a
- * name other than lt, gt, amp, quot and apos, or a number that is not taken. */
+ * name other than lt, gt, amp, quot and apos, or a number that is not taken. Each
+ * function that answers it tells the place of the first `&` that fails, from 0. */
 #define FALZHEOD_REFERENCE UINT32_C(7)
 
 /* A token error stands where text is wanted. */
@@ -91,18 +92,27 @@ extern "C" {
  *
  * `*length` becomes the number of bytes written, 0 for a refusal. The bytes of
  * `out` from `*length` on are untouched, so a refusal writes nothing to `out`.
+ * `*place` becomes where the first failing `&` stands in `text`, and 0 where the
+ * answer is not FALZHEOD_REFERENCE.
  *
- * Not in place: `out` and `*length` must not overlap `text` or each other. */
+ * Not in place: `out`, `*length` and `*place` must not overlap `text` or one
+ * another. */
 uint32_t falzheod_unescape(const uint8_t *text, size_t text_len, uint8_t *out,
-                           size_t out_len, size_t *length);
+                           size_t out_len, size_t *length, size_t *place);
 
 /* Tests every reference in `text` as XML 1.0 has it: one of the five names, or
  * one or more digits (no sign) whose value is a character of XML 1.0, 2.2. This
- * is stricter than falzheod_unescape: what it takes, falzheod_unescape takes.
+ * is stricter than falzheod_unescape: what it takes, falzheod_unescape takes. So
+ * the two may name different places of a text: `&#+65;&zz;` fails here at 0, and
+ * in falzheod_unescape at 6.
  *
  * Answers FALZHEOD_FINISHED (every reference is valid) or FALZHEOD_REFERENCE.
- * Writes nothing. */
-uint32_t falzheod_validate_references(const uint8_t *text, size_t text_len);
+ * `*place` becomes where the first failing `&` stands in `text`, 0 where there is
+ * none. Writes nothing else.
+ *
+ * Not in place: `*place` must not overlap `text`. */
+uint32_t falzheod_validate_references(const uint8_t *text, size_t text_len,
+                                      size_t *place);
 
 /* Tells whether `text` is well-formed UTF-8 (Unicode, table 3-7): 1 it is,
  * 0 it is not. These two are a yes and a no, none of the numbers above.
@@ -124,7 +134,8 @@ uint32_t falzheod_is_utf8(const uint8_t *text, size_t text_len);
 /* An attribute alike in prefix and local name to an earlier one of its tag. */
 #define FALZHEOD_CAUSE_REPEATED UINT32_C(4)
 
-/* A value or a text with a reference that falzheod_validate_references refuses. */
+/* A value or a text with a reference that falzheod_validate_references refuses. Of
+ * this cause alone falzheod_drain tells a place. */
 #define FALZHEOD_CAUSE_REFERENCE UINT32_C(5)
 
 /* Tests that a token table obeys its rules and that its tokens are well-formed: the
@@ -158,17 +169,27 @@ uint32_t falzheod_is_utf8(const uint8_t *text, size_t text_len);
  *
  * `*row` and `*cause` become the number of the first failing row, from 0, and why;
  * the row of an unclosed element is the count of rows. Where the answer is not
- * FALZHEOD_ILL_FORMED both become 0. Writes nothing else.
+ * FALZHEOD_ILL_FORMED both become 0. `*place` becomes where the first failing `&` of
+ * that row's value stands in `body`, and 0 where the cause is not
+ * FALZHEOD_CAUSE_REFERENCE. Writes nothing else.
  *
- * Not in place: `*row` and `*cause` must not overlap `body`, `rows` or each other. */
+ * Not in place: `*row`, `*cause` and `*place` must not overlap `body`, `rows` or one
+ * another. */
 uint32_t falzheod_drain(const uint8_t *body, size_t body_len, const uint32_t *rows,
-                        size_t rows_len, uint32_t end, size_t *row, uint32_t *cause);
+                        size_t rows_len, uint32_t end, size_t *row, uint32_t *cause,
+                        size_t *place);
 
 /* ---- Readings.
  *
  * What is read comes first: a body, its token table `rows` with the final position
  * `end` (see falzheod_drain; a table that breaks a rule is FALZHEOD_TABLE). Then what
- * is asked, how, where to, and what came of it. */
+ * is asked, how, where to, and what came of it.
+ *
+ * The readings of a map, a list of strings, a boolean, an integer and a string may
+ * answer FALZHEOD_REFERENCE. Their `*place` becomes where the failing `&` stands in
+ * `body`, and 0 where they answer another number. A lenient reading (see the settings)
+ * tells the first `&` of the text that falzheod_unescape refuses, a strict one the place
+ * that falzheod_drain tells. */
 
 /* Settings: the sum of these; other bits are passed over. A reading at depth 0 with
  * FALZHEOD_VALIDATE_DOCUMENT is strict: it sees the rows before the one that fails
@@ -190,18 +211,21 @@ uint32_t falzheod_drain(const uint8_t *body, size_t body_len, const uint32_t *ro
 /* A gathered group in the text buffer: `<__flat>`, the siblings, `</__flat>`. */
 #define FALZHEOD_ENTRY_GROUP UINT32_C(3)
 
-/* A text that failed: start is its number, 6 to 9, and length 0. */
+/* A text that failed: start is its number, 6 to 9. Length is the place of the failing
+ * `&` in the body, as a reading tells it, where the number is FALZHEOD_REFERENCE, and
+ * else 0. */
 #define FALZHEOD_ENTRY_FAILED UINT32_C(4)
 
 /* How many numbers an entry has. */
 #define FALZHEOD_ENTRY_NUMBERS 6
 
-/* The four readings by a sheet have the same parameters. `entries` are numbers, six an
- * entry, of any length: there is room for entries_len / 6 of them, rounded down.
- * `*count` becomes the number of entries written and `*length` the number of text
- * bytes, finished or refused; a refusal keeps what was written before it, and all else
- * of both buffers stays as it was. An entry and its text are written only if both fit,
- * else FALZHEOD_NO_ROOM. Texts and groups follow one another in `texts` from 0.
+/* The four readings by a sheet have the same parameters, and two have `*place` besides,
+ * which is told above. `entries` are numbers, six an entry, of any length: there is room
+ * for entries_len / 6 of them, rounded down. `*count` becomes the number of entries
+ * written and `*length` the number of text bytes, finished or refused; a refusal keeps
+ * what was written before it, and all else of both buffers stays as it was. An entry and
+ * its text are written only if both fit, else FALZHEOD_NO_ROOM. Texts and groups follow
+ * one another in `texts` from 0.
  *
  * A sheet is a byte of bits, then only the fields whose bit stands, in bit order; higher
  * bits are 0. A name is a length byte 1 to 255, then its bytes. The sheet ends with its
@@ -276,59 +300,65 @@ uint32_t falzheod_read_list(const uint8_t *body, size_t body_len,
  * over, unless flattened stands. Of several keys or values the last counts, a child named
  * as both is a key, and an entry without both gives nothing. A key or value that fails
  * refuses the reading with its number, FALZHEOD_ELEMENT_IN_TEXT to FALZHEOD_ILL_FORMED,
- * as it is met; room is tested at the end of each entry, for key and value together; the
- * key stands before the value.
+ * as it is met, and `*place` becomes that of a bad reference, else 0; room is tested at
+ * the end of each entry, for key and value together; the key stands before the value.
  *
- * Not in place: `entries`, `texts`, `*count` and `*length` must not overlap `body`, `rows`,
- * `sheet` or one another. */
+ * Not in place: `entries`, `texts`, `*count`, `*length` and `*place` must not overlap
+ * `body`, `rows`, `sheet` or one another. */
 uint32_t falzheod_read_map(const uint8_t *body, size_t body_len,
                            const uint32_t *rows, size_t rows_len, uint32_t end,
                            const uint8_t *sheet, size_t sheet_len,
                            uint32_t flags, uint32_t max_depth, uint32_t depth,
                            uint32_t *entries, size_t entries_len,
                            uint8_t *texts, size_t texts_len,
-                           size_t *count, size_t *length);
+                           size_t *count, size_t *length, size_t *place);
 
 /* A list of strings, by a list's sheet: each item a text. One that fails refuses the
- * reading with its number, as it is met.
+ * reading with its number, as it is met, and `*place` becomes that of a bad reference,
+ * else 0.
  *
- * Not in place: `entries`, `texts`, `*count` and `*length` must not overlap `body`, `rows`,
- * `sheet` or one another. */
+ * Not in place: `entries`, `texts`, `*count`, `*length` and `*place` must not overlap
+ * `body`, `rows`, `sheet` or one another. */
 uint32_t falzheod_read_string_list(const uint8_t *body, size_t body_len,
                                    const uint32_t *rows, size_t rows_len, uint32_t end,
                                    const uint8_t *sheet, size_t sheet_len,
                                    uint32_t flags, uint32_t max_depth, uint32_t depth,
                                    uint32_t *entries, size_t entries_len,
                                    uint8_t *texts, size_t texts_len,
-                                   size_t *count, size_t *length);
+                                   size_t *count, size_t *length, size_t *place);
 
 /* The first text of the root, unescaped, as a boolean: `true` or `false`, nothing
  * trimmed. Answers FALZHEOD_FINISHED, FALZHEOD_TABLE, FALZHEOD_NO_ROOT, the numbers of
  * a text that fails, FALZHEOD_ILL_FORMED or FALZHEOD_NOT_BOOLEAN, in this order.
- * `*value` becomes 1 or 0; a refusal leaves it alone. Of `flags` only
- * FALZHEOD_VALIDATE_DOCUMENT says anything here.
+ * `*value` becomes 1 or 0; a refusal leaves it alone. `*place` becomes that of a bad
+ * reference, else 0. Of `flags` only FALZHEOD_VALIDATE_DOCUMENT says anything here.
  *
- * Not in place: `*value` must not overlap `body` or `rows`. */
+ * Not in place: `*value` and `*place` must not overlap `body`, `rows` or each other. */
 uint32_t falzheod_read_boolean(const uint8_t *body, size_t body_len,
                                const uint32_t *rows, size_t rows_len, uint32_t end,
-                               uint32_t flags, uint32_t depth, uint32_t *value);
+                               uint32_t flags, uint32_t depth, uint32_t *value,
+                               size_t *place);
 
 /* The same as an integer: an optional sign and one or more digits, in the range of 32
- * bits; FALZHEOD_NOT_INTEGER else.
+ * bits; FALZHEOD_NOT_INTEGER else. `*place` is as in falzheod_read_boolean.
  *
- * Not in place: `*value` must not overlap `body` or `rows`. */
+ * Not in place: `*value` and `*place` must not overlap `body`, `rows` or each other. */
 uint32_t falzheod_read_integer(const uint8_t *body, size_t body_len,
                                const uint32_t *rows, size_t rows_len, uint32_t end,
-                               uint32_t flags, uint32_t depth, int32_t *value);
+                               uint32_t flags, uint32_t depth, int32_t *value,
+                               size_t *place);
 
 /* The same as a string, to the front of `out`; FALZHEOD_NO_ROOM where it does not fit.
- * `*length` becomes the number of bytes written, 0 for a refusal.
+ * `*length` becomes the number of bytes written, 0 for a refusal; `*place` is as in
+ * falzheod_read_boolean.
  *
- * Not in place: `out` and `*length` must not overlap `body`, `rows` or each other. */
+ * Not in place: `out`, `*length` and `*place` must not overlap `body`, `rows` or one
+ * another. */
 uint32_t falzheod_read_string(const uint8_t *body, size_t body_len,
                               const uint32_t *rows, size_t rows_len, uint32_t end,
                               uint32_t flags, uint32_t depth,
-                              uint8_t *out, size_t out_len, size_t *length);
+                              uint8_t *out, size_t out_len, size_t *length,
+                              size_t *place);
 
 /* A text, such as an entry's, by the same rules. The first answers FALZHEOD_FINISHED or
  * FALZHEOD_NOT_BOOLEAN, the second FALZHEOD_FINISHED or FALZHEOD_NOT_INTEGER, and both

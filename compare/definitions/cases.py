@@ -462,6 +462,82 @@ def told_apart(rng):
     yield Case("targeted", "told apart", "find", b"<r/> <!--c-->", b"r", table=([1, 0, 0, 1, 1, 0, 0, 2, 5, 0, 0, 0, 0, 0, 0, 4], 4))
 
 
+# ------------------------------------------------------------ the place of a bad reference
+
+# good ones, ones that unescaping takes and validation does not, and bad ones, in every order; multi-byte characters
+# before them; one that is not closed, or only after the next `&`
+REFERRED = [
+    b"&zz;", b"1&zz;", b"&lt;&zz;", b"1&amp;2&#65;3&zz;4", b"&zz;&yy;", b"1&lt;&zz;2&yy;3", b"&zz;&lt;",
+    b"&#+65;", b"&#+65;&zz;", b"1&#+65;2&zz;3", b"&lt;&#x+41;&gt;&zz;&yy;", b"&lt;&#+65;", b"&#+65;&#x+41;", b"&zz;&#+65;",
+    b"&#0;&#xD800;", b"&lt;&#xFFFE;&#x110000;", b"&#+;&#+65;",
+    b"\xc3\xa9&lt;\xe2\x82\xac&zz;", b"\xf0\x9f\x8c\xb2&#+65;\xc3\xa9&zz;",
+    b"&", b"1&", b"&lt;2&amp", b"&lt;&", b"&#+65;&#x41", b"&amp&lt;", b"1&lt;&a&lt;;", b"&lt;;&;", b"&lt;&#65;",
+    b"x" * 300 + b"&#+65;y&zz;",
+]
+
+
+def referred(text):
+    """Bodies with a text that may fail, by the kind of question, beside what must not count: comments, CDATA, good ones."""
+    good = b"<entry><key>&lt;</key><value>&gt;</value></entry>"
+    return {
+        "string": [b"<r>" + text + b"</r>", b"<!--&zz;--><r y='&lt;'><?pi &zz;?><![CDATA[&zz;]]>" + text + b"</r>",
+                   b"<r>1<!--&zz;-->" + text + b"</r>"],
+        "bool": [b"<r>" + text + b"</r>"],
+        "int": [b"<r x='1'><![CDATA[&zz;]]>" + text + b"</r>"],
+        "struct": [b"<r x='&lt;'><a>&lt;</a><c>" + text + b"</c><a>" + text + b"</a><a>&zz;</a></r>",
+                   b"<r><a><!--&zz;--><![CDATA[&zz;]]>" + text + b"</a><b>" + text + b"</b></r>",
+                   b"<r>" + text + b"<a>&zz;</a></r>", b"<r><b y='" + text + b"'/><a>" + text + b"</a></r>",
+                   b"<r x='&lt;' p:x=\"" + text + b"\"><a>&zz;</a></r>"],
+        "strings": [b"<r><a>&lt;</a><a>" + text + b"</a><a>&zz;</a></r>", b"<r><a/>" + text + b"<a><!--&-->" + text + b"</a></r>"],
+        "map": [b"<r>" + good + b"<entry><key>" + text + b"</key><value>&zz;</value></entry></r>",
+                b"<r>" + good + b"<entry><key>k</key><value>" + text + b"</value></entry></r>",
+                b"<r><entry><value>" + text + b"</value><key>" + text + b"</key></entry></r>"],
+    }
+
+
+# 6, 8 and 9 beside 7: these keep 0
+BESIDE_SEVEN = [
+    b"<r><a><c/>&zz;</a><c>&zz;</c></r>", b"<r><a>&zz;<c/></a><c><a>&zz;</a></c></r>", b"<r><c>&zz;</c><a>\x01&zz;</a></r>",
+    b"<r><a>\x01&zz;</a></r>", b"<r><c>&zz;</c><a></b>&zz;</a></r>", b"<r><a></b>&zz;</a></r>", b"<r><a>",
+    b"<r><c>&lt;</c><a><!--&zz;-->", b"<r><a>1&zz;", b"<r><a>1</a></b>&zz;</r>", b"<r><a>1</a>&zz;</r>",
+    b"<r><a x='1' x='&zz;'>&zz;</a></r>", b"<r>&zz;", b"<r><a/>&zz;</r>", b"<r>\x01&zz;</r>", b"<r></b>&zz;</r>", b"<r>&zz;</b>",
+    b"<r>&zz;</r>&zz;", b"&zz;<r/>",
+]
+
+PLACE_SHEETS = {"struct": STRUCT, "strings": ANY_LIST, "map": MAP}
+
+
+def places(rng):
+    """Where a 7 is: strict by validation, lenient and at a depth by unescaping, and the drain's."""
+    for text in REFERRED:
+        bodies = referred(text)
+        for kind in bodies:
+            for body in bodies[kind]:
+                for flags, depth in (STRICT, LENIENT, INNER):
+                    yield Case("targeted", "place", kind, body, PLACE_SHEETS.get(kind, b""), flags, depth)
+                yield Case("targeted", "place", "drain", body)
+        yield Case("targeted", "place", "map", bodies["map"][0], PIECES, 1, 0)
+        yield Case("targeted", "place", "list", bodies["strings"][0], ANY_LIST, 1, 0)
+        yield Case("targeted", "place", "whole", bodies["string"][0])
+    for body in BESIDE_SEVEN:
+        for kind in ("struct", "strings", "map", "string", "int"):
+            for flags, depth in (STRICT, LENIENT, INNER):
+                yield Case("targeted", "place", kind, body, PLACE_SHEETS.get(kind, b""), flags, depth)
+        yield Case("targeted", "place", "drain", body)
+    # 10 before a 7 has no place, and a 7 before 10 has one
+    for kind, body in (("struct", b"<r><a>1</a><a>2&zz;</a><c>3</c></r>"), ("strings", b"<r><a>12</a><a>3&zz;</a></r>"),
+                       ("map", referred(b"2&zz;")["map"][1]), ("string", b"<r>1&zz;</r>")):
+        for room in ((0, 9), (1, 9), (2, 9), (9, 0), (9, 1), (9, 2)):
+            yield Case("targeted", "place", kind, body, PLACE_SHEETS.get(kind, b""), rng.choice([0, 1]), 0, room=room)
+    # a value that no tokenizer made: the place is counted from its start, wherever its row begins
+    body = b"<r>&lt;&#+65;&zz;</r>"
+    for start in range(3, 17):
+        table = ([1, 0, 0, 1, 1, 0, 0, 2, 3, 0, 0, 0, 0, 0, 0, 3, 6, 0, 0, 0, 0, start, 17 - start, 17, 4, 0, 0, 19, 1, 0, 0, 21], 21)
+        for flags in (0, 1):
+            yield Case("targeted", "place", "string", body, b"", flags, 0, table=table)
+        yield Case("targeted", "place", "drain", body, table=table)
+
+
 def targeted(seed_rng, tables):
     for family in (chosen, names, members, broken_sheets, order, texts, rooms, unwrapped, defects, told_apart):
         yield from family(seed_rng)
@@ -472,6 +548,8 @@ def targeted(seed_rng, tables):
         for kind, sheet in (("struct", STRUCT), ("list", ANY_LIST), ("strings", ANY_LIST), ("map", MAP), ("string", b""), ("find", b"a"),
                             ("drain", b""), ("whole", b"")):
             yield Case("targeted", "limit", kind, body, sheet, 1, 0)
+    # last, so that what the others draw stays as it was
+    yield from places(seed_rng)
 
 
 # ------------------------------------------------------------ tables that no tokenizer made

@@ -1,5 +1,6 @@
 """The readings over rows, for tables that no tokenizer made: src/decode.rs and src/codec/deserializer.rs once more,
-with rows for tokens, and 01's rules for tables. definitions.py holds it to the Rust on every table of the tokenizer."""
+with rows for tokens, and 01's rules for tables. definitions.py holds it to the Rust on every table of the tokenizer.
+The place of a bad reference, which the Rust does not tell, is written from change request 1 and XML 1.0."""
 
 import cases as made
 
@@ -38,6 +39,16 @@ def unescape(text, strict=False):
             return None
         out += chr(code).encode("utf-8") + rest
     return out
+
+
+def failing(text, strict):
+    """The place of the first `&` at which no reference that is taken begins, where there is one: change request 1."""
+    for at in range(len(text)):
+        if text[at:at + 1] == b"&":
+            entity, semicolon, _ = text[at + 1:].partition(b";")
+            if not semicolon or code_of(entity, strict) is None:
+                return at
+    return None
 
 
 # ------------------------------------------------------------ rules
@@ -95,9 +106,11 @@ def obeys(body, numbers, final):
 
 
 class Refused(Exception):
-    def __init__(self, number):
+    """A number, and the place of a 7 in the body."""
+
+    def __init__(self, number, place=0):
         Exception.__init__(self)
-        self.number = number
+        self.number, self.place = number, place
 
 
 class Document:
@@ -112,31 +125,35 @@ class Document:
     def value(self, row):
         return self.body[row[5]:row[5] + row[6]]
 
-    def stop(self, number):
+    def bad_reference(self, row, strict):
+        """7, at the place in the body where validating the row's value fails, or unescaping it."""
+        return Refused(7, row[5] + failing(self.value(row), strict))
+
+    def stop(self, refused):
         self.malformed = self.strict
-        return number
+        return refused
 
     def next(self):
-        """None, a number, or (row, depth)."""
+        """None, what is refused, or (row, depth)."""
         if self.malformed:
             return None
         if self.row == len(self.rows):
             self.offset = self.final
-            return self.stop(9) if self.strict and self.open else None
+            return self.stop(Refused(9)) if self.strict and self.open else None
         row = self.rows[self.row]
         self.row += 1
         kind, self.offset = row[0], row[7]
         if kind == 8:
-            return self.stop(8)
+            return self.stop(Refused(8))
         if self.strict:
             if kind == 2:
                 if self.name(row) in self.attributes:
-                    return self.stop(9)
+                    return self.stop(Refused(9))
                 self.attributes.add(self.name(row))
             if kind in (2, 6) and unescape(self.value(row), True) is None:
-                return self.stop(7)
+                return self.stop(self.bad_reference(row, True))
             if kind == 4 and (not self.open or self.open.pop() != self.name(row)):
-                return self.stop(9)
+                return self.stop(Refused(9))
             if kind == 5:
                 self.open.pop()
             if kind == 1:
@@ -201,14 +218,14 @@ class Scope:
             got = self.next()
             if got is None:
                 return b""
-            if isinstance(got, int):
-                raise Refused(got)
+            if isinstance(got, Refused):
+                raise got
             if got[0][0] == 1:
                 raise Refused(6)
             if got[0][0] == 6:
                 text = unescape(self.document.value(got[0]))
                 if text is None:
-                    raise Refused(7)
+                    raise self.document.bad_reference(got[0], False)
                 return text
 
 
@@ -218,7 +235,7 @@ def next_start(tokens, document):
         got = tokens.next()
         if got is None:
             return None
-        if isinstance(got, int):
+        if isinstance(got, Refused):
             continue
         row, depth = got
         if row[0] == 1:
@@ -339,7 +356,7 @@ def read_struct(case, document, root, entries):
             try:
                 entries.append((1, index, b"", child.text(), None, None))
             except Refused as refused:
-                entries.append((4, index, b"", b"", refused.number, 0))
+                entries.append((4, index, b"", b"", refused.number, refused.place))
         else:
             start, length = child.piece()
             if flags & made.FLATTENED:
@@ -411,40 +428,40 @@ READ = {"struct": (structure_of, read_struct), "list": (list_of, read_list), "st
 
 
 def reading(case, rows, final):
-    """(number, entries) of a table that obeys the rules, where there is room enough."""
+    """(number, place, entries) of a table that obeys the rules, where there is room enough."""
     sheet_of, read = READ[case.kind]
     entries = []
     try:
         sheet_of(case.sheet)
     except Broken:
-        return 2, entries
+        return 2, 0, entries
     if case.depth >= case.maximum:
-        return 3, entries
+        return 3, 0, entries
     document = Document(case.body, rows, final, case.flags & 1 == 1 and case.depth == 0)
     start = next_start(document, document)
     if start is None:
-        return 4, entries
+        return 4, 0, entries
     try:
         read(case, document, Scope(document, start), entries)
     except Refused as refused:
-        return refused.number, entries
-    return 0, entries
+        return refused.number, refused.place, entries
+    return 0, 0, entries
 
 
 def scalar(case, rows, final):
-    """(number, text)"""
+    """(number, place, text)"""
     document = Document(case.body, rows, final, case.flags & 1 == 1 and case.depth == 0)
     start = next_start(document, document)
     if start is None:
-        return 4, b""
+        return 4, 0, b""
     root = Scope(document, start)
     try:
         text = root.text()
         root.drop()
         finish(document)
     except Refused as refused:
-        return refused.number, b""
-    return 0, text
+        return refused.number, refused.place, b""
+    return 0, 0, text
 
 
 def find(case, rows, final):
@@ -462,27 +479,27 @@ def find(case, rows, final):
 
 
 def drain(case, rows, final):
-    """None where it passes, or (row, cause)."""
+    """None where it passes, or (row, cause, place)."""
     open_, names = [], set()
     document = Document(case.body, rows, final, True)
     for at, row in enumerate(rows):
         kind = row[0]
         if kind == 8:
-            return at, "token"
+            return at, "token", 0
         if kind == 1:
             open_.append(document.name(row))
             names = set()
         elif kind == 5:
             open_.pop()
         elif kind == 4 and open_.pop() != document.name(row):
-            return at, "mismatched"
+            return at, "mismatched", 0
         elif kind == 2 and document.name(row) in names:
-            return at, "repeated"
+            return at, "repeated", 0
         if kind in (2, 6) and unescape(document.value(row), True) is None:
-            return at, "reference"
+            return at, "reference", document.bad_reference(row, True).place
         if kind == 2:
             names.add(document.name(row))
-    return (len(rows), "unclosed") if open_ else None
+    return (len(rows), "unclosed", 0) if open_ else None
 
 
 def whole(case, rows, final):

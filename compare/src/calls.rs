@@ -2,7 +2,7 @@
 //! stay as it is, and what is lent filled with marks, so that each number and byte
 //! that is not to be written shows when it is.
 
-use crate::reader::{Asked, Kind, Room, Told};
+use crate::reader::{Asked, Kind, Refused, Room, Told};
 use crate::rules::Lent;
 use falzheod::sys;
 
@@ -10,6 +10,9 @@ use falzheod::sys;
 const MARK: u32 = 0xA5C3_96E1;
 const BYTE: u8 = 0xA7;
 const BORDER: usize = 8;
+
+/// What a call that gives one value answers, or what it did that it must not.
+pub type Answer<T> = Result<Result<T, Refused>, String>;
 
 /// Holds the memory that is lent, for one call after the other.
 #[derive(Default)]
@@ -30,34 +33,7 @@ impl Caller {
         // any length is room for its sixth part
         let numbers = room.entries * 6 + (lent.body.len() + room.bytes) % 6;
         self.lend(numbers, room.bytes);
-        let call = match kind {
-            Kind::Struct => sys::falzheod_read_struct,
-            Kind::List => sys::falzheod_read_list,
-            Kind::Map => sys::falzheod_read_map,
-            Kind::Strings => sys::falzheod_read_string_list,
-        };
-        let (mut count, mut length) = (usize::MAX, usize::MAX);
-        // SAFETY: pointers to live memory of the lengths given; nothing overlaps.
-        let number = unsafe {
-            call(
-                lent.body.as_ptr(),
-                lent.body.len(),
-                lent.numbers.as_ptr(),
-                lent.numbers.len(),
-                lent.end,
-                asked.sheet.as_ptr(),
-                asked.sheet.len(),
-                asked.flags,
-                asked.max_depth,
-                asked.depth,
-                self.entries[BORDER..].as_mut_ptr(),
-                numbers,
-                self.texts[BORDER..].as_mut_ptr(),
-                room.bytes,
-                &mut count,
-                &mut length,
-            )
-        };
+        let (told, count, length) = self.called(kind, lent, asked);
         if count > room.entries || length > room.bytes {
             return Err(format!(
                 "says {count} entries and {length} bytes in {room:?}"
@@ -66,12 +42,52 @@ impl Caller {
         self.kept(count * 6, length)?;
         let entries = self.entries[BORDER..][..count * 6].chunks(6);
         Ok(Told {
-            number,
+            number: told.number,
+            place: told.place,
             entries: entries
                 .map(|entry| entry.try_into().expect("six"))
                 .collect(),
             texts: self.texts[BORDER..][..length].to_vec(),
         })
+    }
+
+    /// What is told, and how many entries and text bytes are said to be written. A
+    /// structure and a list have no place.
+    fn called(&mut self, kind: Kind, lent: Lent<'_>, asked: Asked<'_>) -> (Refused, usize, usize) {
+        let (mut count, mut length) = (usize::MAX, usize::MAX);
+        macro_rules! call {
+            ($function:ident $(, $place:ident)?) => {
+                // SAFETY: pointers to live memory of the lengths given; nothing overlaps.
+                unsafe {
+                    sys::$function(
+                        lent.body.as_ptr(),
+                        lent.body.len(),
+                        lent.numbers.as_ptr(),
+                        lent.numbers.len(),
+                        lent.end,
+                        asked.sheet.as_ptr(),
+                        asked.sheet.len(),
+                        asked.flags,
+                        asked.max_depth,
+                        asked.depth,
+                        self.entries[BORDER..].as_mut_ptr(),
+                        self.entries.len() - 2 * BORDER,
+                        self.texts[BORDER..].as_mut_ptr(),
+                        self.texts.len() - 2 * BORDER,
+                        &mut count,
+                        &mut length,
+                        $($place,)?
+                    )
+                }
+            };
+        }
+        let told = match kind {
+            Kind::Struct => call!(falzheod_read_struct).into(),
+            Kind::List => call!(falzheod_read_list).into(),
+            Kind::Map => placed(|place| call!(falzheod_read_map, place)),
+            Kind::Strings => placed(|place| call!(falzheod_read_string_list, place)),
+        };
+        (told, count, length)
     }
 
     /// The string of a body.
@@ -81,10 +97,10 @@ impl Caller {
         flags: u32,
         depth: u32,
         room: usize,
-    ) -> Result<Result<Vec<u8>, u32>, String> {
+    ) -> Answer<Vec<u8>> {
         self.filled(room, |out, length| {
             // SAFETY: as above.
-            unsafe {
+            placed(|place| unsafe {
                 sys::falzheod_read_string(
                     lent.body.as_ptr(),
                     lent.body.len(),
@@ -96,17 +112,14 @@ impl Caller {
                     out,
                     room,
                     length,
+                    place,
                 )
-            }
+            })
         })
     }
 
     /// The whole text of a body.
-    pub fn whole_text(
-        &mut self,
-        lent: Lent<'_>,
-        room: usize,
-    ) -> Result<Result<Vec<u8>, u32>, String> {
+    pub fn whole_text(&mut self, lent: Lent<'_>, room: usize) -> Answer<Vec<u8>> {
         self.filled(room, |out, length| {
             // SAFETY: as above.
             unsafe {
@@ -121,18 +134,16 @@ impl Caller {
                     length,
                 )
             }
+            .into()
         })
     }
 
     /// A text as a string.
-    pub fn text_string(
-        &mut self,
-        text: &[u8],
-        room: usize,
-    ) -> Result<Result<Vec<u8>, u32>, String> {
+    pub fn text_string(&mut self, text: &[u8], room: usize) -> Answer<Vec<u8>> {
         self.filled(room, |out, length| {
             // SAFETY: as above.
             unsafe { sys::falzheod_text_string(text.as_ptr(), text.len(), out, room, length) }
+                .into()
         })
     }
 
@@ -140,19 +151,16 @@ impl Caller {
     fn filled(
         &mut self,
         room: usize,
-        call: impl FnOnce(*mut u8, &mut usize) -> u32,
-    ) -> Result<Result<Vec<u8>, u32>, String> {
+        call: impl FnOnce(*mut u8, &mut usize) -> Refused,
+    ) -> Answer<Vec<u8>> {
         self.lend(0, room);
         let mut length = usize::MAX;
-        let number = call(self.texts[BORDER..].as_mut_ptr(), &mut length);
-        if length > room || number != 0 && length != 0 {
+        let told = call(self.texts[BORDER..].as_mut_ptr(), &mut length);
+        if length > room || told.number != 0 && length != 0 {
             return Err(format!("says {length} bytes in room for {room}"));
         }
         self.kept(0, length)?;
-        Ok(match number {
-            0 => Ok(self.texts[BORDER..][..length].to_vec()),
-            number => Err(number),
-        })
+        given(told, self.texts[BORDER..][..length].to_vec())
     }
 
     fn lend(&mut self, numbers: usize, bytes: usize) {
@@ -175,23 +183,37 @@ impl Caller {
     }
 }
 
-/// A scalar's value is left alone by a refusal, and set else.
-fn valued<T: Copy + PartialEq>(
-    mark: T,
-    call: impl FnOnce(&mut T) -> u32,
-) -> Result<Result<T, u32>, String> {
-    let mut value = mark;
-    match call(&mut value) {
-        0 => Ok(Ok(value)),
-        _ if value != mark => Err("a refusal that sets the value".to_string()),
-        number => Ok(Err(number)),
+/// What a call tells that is lent a place. It is not 0 before: that it becomes 0 has to
+/// show.
+fn placed(call: impl FnOnce(&mut usize) -> u32) -> Refused {
+    let mut place = usize::MAX;
+    let number = call(&mut place);
+    Refused { number, place }
+}
+
+/// The value where the number is 0, and then no place is told.
+fn given<T>(told: Refused, value: T) -> Answer<T> {
+    match told {
+        Refused { number: 0, place } if place != 0 => Err(format!("finishes at place {place}")),
+        Refused { number: 0, .. } => Ok(Ok(value)),
+        refused => Ok(Err(refused)),
     }
 }
 
-pub fn boolean(lent: Lent<'_>, flags: u32, depth: u32) -> Result<Result<bool, u32>, String> {
+/// A scalar's value is left alone by a refusal, and set else.
+fn valued<T: Copy + PartialEq>(mark: T, call: impl FnOnce(&mut T) -> Refused) -> Answer<T> {
+    let mut value = mark;
+    let told = call(&mut value);
+    if told.number != 0 && value != mark {
+        return Err("a refusal that sets the value".to_string());
+    }
+    given(told, value)
+}
+
+pub fn boolean(lent: Lent<'_>, flags: u32, depth: u32) -> Answer<bool> {
     let read = valued(MARK, |value| {
         // SAFETY: as above.
-        unsafe {
+        placed(|place| unsafe {
             sys::falzheod_read_boolean(
                 lent.body.as_ptr(),
                 lent.body.len(),
@@ -201,16 +223,17 @@ pub fn boolean(lent: Lent<'_>, flags: u32, depth: u32) -> Result<Result<bool, u3
                 flags,
                 depth,
                 value,
+                place,
             )
-        }
+        })
     });
     yes_or_no(read?)
 }
 
-pub fn integer(lent: Lent<'_>, flags: u32, depth: u32) -> Result<Result<i32, u32>, String> {
+pub fn integer(lent: Lent<'_>, flags: u32, depth: u32) -> Answer<i32> {
     valued(MARK as i32, |value| {
         // SAFETY: as above.
-        unsafe {
+        placed(|place| unsafe {
             sys::falzheod_read_integer(
                 lent.body.as_ptr(),
                 lent.body.len(),
@@ -220,35 +243,36 @@ pub fn integer(lent: Lent<'_>, flags: u32, depth: u32) -> Result<Result<i32, u32
                 flags,
                 depth,
                 value,
+                place,
             )
-        }
+        })
     })
 }
 
-pub fn text_boolean(text: &[u8]) -> Result<Result<bool, u32>, String> {
+pub fn text_boolean(text: &[u8]) -> Answer<bool> {
     // SAFETY: as above.
-    yes_or_no(valued(MARK, |value| unsafe {
-        sys::falzheod_text_boolean(text.as_ptr(), text.len(), value)
+    yes_or_no(valued(MARK, |value| {
+        unsafe { sys::falzheod_text_boolean(text.as_ptr(), text.len(), value) }.into()
     })?)
 }
 
-pub fn text_integer(text: &[u8]) -> Result<Result<i32, u32>, String> {
+pub fn text_integer(text: &[u8]) -> Answer<i32> {
     // SAFETY: as above.
-    valued(MARK as i32, |value| unsafe {
-        sys::falzheod_text_integer(text.as_ptr(), text.len(), value)
+    valued(MARK as i32, |value| {
+        unsafe { sys::falzheod_text_integer(text.as_ptr(), text.len(), value) }.into()
     })
 }
 
-fn yes_or_no(read: Result<u32, u32>) -> Result<Result<bool, u32>, String> {
+fn yes_or_no(read: Result<u32, Refused>) -> Answer<bool> {
     match read {
         Ok(value @ 0..=1) => Ok(Ok(value == 1)),
         Ok(value) => Err(format!("a boolean {value}")),
-        Err(number) => Ok(Err(number)),
+        Err(refused) => Ok(Err(refused)),
     }
 }
 
 /// Start and length, or the number.
-pub fn find(lent: Lent<'_>, name: &[u8]) -> Result<Result<(usize, usize), u32>, String> {
+pub fn find(lent: Lent<'_>, name: &[u8]) -> Answer<(usize, usize)> {
     let (mut start, mut length) = (usize::MAX, usize::MAX);
     // SAFETY: as above.
     let number = unsafe {
@@ -267,6 +291,6 @@ pub fn find(lent: Lent<'_>, name: &[u8]) -> Result<Result<(usize, usize), u32>, 
     match number {
         0 => Ok(Ok((start, length))),
         _ if (start, length) != (0, 0) => Err("a refusal with a part".to_string()),
-        number => Ok(Err(number)),
+        number => Ok(Err(number.into())),
     }
 }

@@ -1,7 +1,8 @@
 //! The check of one text: the static library's answers, all of them and every
-//! byte lent, beside what is expected.
+//! byte lent, beside what is expected. The place of a 7 stands beside the model alone,
+//! of every text: the Rust knows none.
 
-use crate::model;
+use crate::model::{self, Places};
 use falzheod::sys;
 use std::borrow::Cow;
 
@@ -52,16 +53,42 @@ impl Expected<'_> {
     }
 }
 
+/// How many texts were checked, and what was to come of them.
+#[derive(Clone, Copy, Default)]
+pub struct Counts {
+    pub texts: u64,
+    /// Texts that unescape was to take.
+    pub taken: u64,
+    /// Texts that validate was to take.
+    pub valid: u64,
+    /// Texts that fail both, at two places.
+    pub apart: u64,
+}
+
+impl Counts {
+    fn add(&mut self, expected: &Expected<'_>, places: Places) {
+        self.texts += 1;
+        self.taken += u64::from(expected.unescape.is_ok());
+        self.valid += u64::from(expected.validate == FINISHED);
+        let both = places.unescape.is_some();
+        self.apart += u64::from(both && places.unescape != places.validate);
+    }
+
+    pub fn merge(&mut self, other: &Counts) {
+        self.texts += other.texts;
+        self.taken += other.taken;
+        self.valid += other.valid;
+        self.apart += other.apart;
+    }
+}
+
 /// Holds the memory that is lent, for one text after the other.
 #[derive(Default)]
 pub struct Checker {
     lent: Vec<u8>,
     out: Vec<u8>,
     pattern: Vec<u8>,
-    /// Texts that unescape was to take.
-    pub taken: u64,
-    /// Texts that validate was to take.
-    pub valid: u64,
+    pub counts: Counts,
 }
 
 impl Checker {
@@ -83,12 +110,16 @@ impl Checker {
     }
 
     fn beside(&mut self, text: &[u8], expected: &Expected<'_>, extra: usize) -> Option<String> {
-        self.taken += u64::from(expected.unescape.is_ok());
-        self.valid += u64::from(expected.validate == FINISHED);
+        let places = model::places(text);
+        self.counts.add(expected, places);
+        if places.validate.is_some() != (expected.validate == REFERENCE)
+            || places.unescape.is_some() != expected.unescape.is_err()
+        {
+            return Some("the model has a place without a 7, or a 7 without a place".to_string());
+        }
         self.lend(text);
-        let validate = self.validate();
-        if validate != expected.validate {
-            return Some(format!("validate is {validate}, not {}", expected.validate));
+        if let Some(problem) = self.validate(expected.validate, places.validate) {
+            return Some(format!("validate {problem}"));
         }
         let utf8 = std::str::from_utf8(text).is_ok();
         if falzheod::is_utf8(self.text()) != utf8 {
@@ -98,13 +129,13 @@ impl Checker {
             Ok(result) => {
                 let just = result.len();
                 let less = just.checked_sub(1);
-                less.and_then(|room| self.unescape(room, NO_ROOM, b""))
-                    .or_else(|| self.unescape(just, FINISHED, result))
-                    .or_else(|| self.unescape(just + extra, FINISHED, result))
+                less.and_then(|room| self.unescape(room, (NO_ROOM, None), b""))
+                    .or_else(|| self.unescape(just, (FINISHED, None), result))
+                    .or_else(|| self.unescape(just + extra, (FINISHED, None), result))
             }
             Err(number) => self
-                .unescape(0, *number, b"")
-                .or_else(|| self.unescape(text.len() + extra, *number, b"")),
+                .unescape(0, (*number, places.unescape), b"")
+                .or_else(|| self.unescape(text.len() + extra, (*number, places.unescape), b"")),
         }
     }
 
@@ -119,15 +150,24 @@ impl Checker {
         &self.lent[BEFORE.len()..self.lent.len() - BEHIND.len()]
     }
 
-    fn validate(&self) -> u32 {
+    fn validate(&self, number: u32, place: Option<usize>) -> Option<String> {
         let text = self.text();
-        // SAFETY: a live slice's pointer and length.
-        unsafe { sys::falzheod_validate_references(text.as_ptr(), text.len()) }
+        // not 0: that it becomes 0 has to show
+        let mut told = usize::MAX;
+        // SAFETY: pointers to a live slice, with its length, and to a variable.
+        let got =
+            unsafe { sys::falzheod_validate_references(text.as_ptr(), text.len(), &mut told) };
+        differs(text, (got, told), (number, place))
     }
 
     /// One call with `room` bytes lent. `written` is what has to stand at the
     /// front of `out` afterwards; all bytes behind it keep the pattern.
-    fn unescape(&mut self, room: usize, number: u32, written: &[u8]) -> Option<String> {
+    fn unescape(
+        &mut self,
+        room: usize,
+        expected: (u32, Option<usize>),
+        written: &[u8],
+    ) -> Option<String> {
         let watched = room + GUARD;
         while self.pattern.len() < watched {
             // differs from byte to byte, so that moved bytes show
@@ -136,15 +176,16 @@ impl Checker {
         }
         self.out.clear();
         self.out.extend_from_slice(&self.pattern[..watched]);
-        // not 0: that a refusal sets it to 0 has to show
-        let mut length = usize::MAX;
+        // not 0: that a refusal sets them to 0 has to show
+        let (mut length, mut place) = (usize::MAX, usize::MAX);
         let out = self.out.as_mut_ptr();
         let text = self.text();
+        let (start, size) = (text.as_ptr(), text.len());
         // SAFETY: pointers to live memory of the lengths given; nothing overlaps.
         let got =
-            unsafe { sys::falzheod_unescape(text.as_ptr(), text.len(), out, room, &mut length) };
-        let problem = if got != number {
-            format!("is {got}, not {number}")
+            unsafe { sys::falzheod_unescape(start, size, out, room, &mut length, &mut place) };
+        let problem = if let Some(problem) = differs(text, (got, place), expected) {
+            problem
         } else if length != written.len() {
             format!("says length {length}, not {}", written.len())
         } else if &self.out[..length] != written {
@@ -155,5 +196,19 @@ impl Checker {
             return None;
         };
         Some(format!("unescape with room for {room} {problem}"))
+    }
+}
+
+/// What differs in a number and a place that were told of a text.
+fn differs(text: &[u8], told: (u32, usize), expected: (u32, Option<usize>)) -> Option<String> {
+    let ((number, place), (wanted, at)) = (told, expected);
+    if number != wanted {
+        Some(format!("is {number}, not {wanted}"))
+    } else if place != at.unwrap_or(0) {
+        Some(format!("tells the place {place}, not {at:?}"))
+    } else if !model::may_be_told(text, number == REFERENCE, place) {
+        Some(format!("tells the place {place} of no `&`"))
+    } else {
+        None
     }
 }

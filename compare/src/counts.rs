@@ -51,6 +51,11 @@ impl Operation {
         Kind::ALL.map(Operation::from).contains(&self)
     }
 
+    /// Whether it tells a place, beside its number or in an entry.
+    fn has_place(self) -> bool {
+        self.has_flags() && self != Operation::List
+    }
+
     /// Whether its answer depends on its being strict.
     fn has_flags(self) -> bool {
         self.has_sheet() || SCALARS.contains(&self)
@@ -64,22 +69,25 @@ pub enum Source {
     Damaged,
     Cut,
     Snippets,
+    /// With many references, good, lax and bad.
+    Referring,
     LessRoom,
     Lent,
     Text,
 }
 
-const SOURCES: [(Source, &str); 7] = [
+const SOURCES: [(Source, &str); 8] = [
     (Source::Random, "random"),
     (Source::Damaged, "damaged"),
     (Source::Cut, "cut at every byte"),
     (Source::Snippets, "rows of snippets"),
+    (Source::Referring, "with references"),
     (Source::LessRoom, "less room"),
     (Source::Lent, "lent tables"),
     (Source::Text, "texts"),
 ];
 
-/// The four kinds of bodies.
+/// The four kinds of bodies that every operation is asked about.
 const BODIES: [Source; 4] = [
     Source::Random,
     Source::Damaged,
@@ -106,6 +114,9 @@ pub struct Count {
     entries: u64,
     numbers: [u64; 14],
     longer_roots: u64,
+    /// Of all, lenient and strict: answers of 7, and entries of kind 4 whose number is 7.
+    sevens: [u64; 2],
+    bad_references: [u64; 2],
 }
 
 impl Count {
@@ -122,12 +133,17 @@ impl Count {
         self.entries += compared.entries as u64;
         self.numbers[compared.number as usize] += 1;
         self.longer_roots += u64::from(compared.longer_root);
+        let strict = usize::from(compared.strict);
+        self.sevens[strict] += u64::from(compared.number == 7);
+        self.bad_references[strict] += compared.bad_references as u64;
     }
 
     fn merge(&mut self, other: &Count) {
         add_each(&mut self.rust, &other.rust);
         add_each(&mut self.model, &other.model);
         add_each(&mut self.numbers, &other.numbers);
+        add_each(&mut self.sevens, &other.sevens);
+        add_each(&mut self.bad_references, &other.bad_references);
         self.strict += other.strict;
         self.derived += other.derived;
         self.finished += other.finished;
@@ -169,7 +185,20 @@ impl Count {
         if let Some(model) = listed(&self.model) {
             parts.push(format!("beside the model alone: {model}"));
         }
+        let [lenient, strict] = self.places(operation);
+        if lenient + strict > 0 {
+            parts.push(format!("places: strict {strict}, lenient {lenient}"));
+        }
         parts.join("; ")
+    }
+
+    /// How many places were compared, lenient and strict: those of entries where the
+    /// operation never answers 7.
+    fn places(&self, operation: Operation) -> [u64; 2] {
+        match operation {
+            Operation::Struct => self.bad_references,
+            _ => self.sevens,
+        }
     }
 }
 
@@ -247,6 +276,8 @@ pub struct Floor {
     pub rooms: u64,
     /// Lent tables, for each operation. (The readings by a sheet share them.)
     pub lent: u64,
+    /// Places, strict and lenient each, for each operation that tells one.
+    pub places: u64,
 }
 
 /// A count and the least that it may be.
@@ -279,6 +310,16 @@ impl Floor {
     }
 
     fn claims(&self, operation: Operation, count: &Count) -> Vec<Claim> {
+        let mut claims = self.of_operation(operation, count);
+        if operation.has_place() {
+            let [lenient, strict] = count.places(operation);
+            claims.push(claim("lenient places", lenient, self.places));
+            claims.push(claim("strict places", strict, self.places));
+        }
+        claims
+    }
+
+    fn of_operation(&self, operation: Operation, count: &Count) -> Vec<Claim> {
         let lent = count.model[Source::Lent as usize];
         match operation {
             Operation::OfText => vec![claim("beside the Rust", count.beside_rust(), self.scalars)],

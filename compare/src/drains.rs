@@ -1,5 +1,7 @@
-//! The check of one table: the static library's drain beside what is expected.
+//! The check of one table: the static library's drain beside what is expected. The place
+//! of a bad reference stands beside 01's rules alone: the Rust knows none.
 
+use crate::model;
 use crate::rules::{self, Answer, Lent, Rule};
 use falzheod::{sys, Row};
 use oracle::hex::hex;
@@ -16,8 +18,61 @@ const ROW_BEHIND: [u32; 8] = [8, 0, 0, 0, 0, 0, 0, 0];
 pub struct Drainer {
     body: Vec<u8>,
     rows: Vec<u32>,
-    /// How many were to be answered so: 0, 1, and 9 by its causes 1 to 5.
+    pub counts: Counts,
+}
+
+/// How many tables were drained, and what was to come of them.
+#[derive(Clone, Copy, Default)]
+pub struct Counts {
+    /// 0, 1, and 9 by its causes 1 to 5.
     answers: [u64; 7],
+    /// Bad references in attributes and in texts, and those of both that stand behind a
+    /// right one in their value.
+    pub in_attributes: u64,
+    pub in_texts: u64,
+    pub behind: u64,
+}
+
+impl Counts {
+    fn add(&mut self, lent: Lent<'_>, answer: Answer, place: usize) {
+        let index = if answer.number == 9 {
+            1 + answer.cause
+        } else {
+            answer.number
+        };
+        self.answers[index as usize] += 1;
+        if answer.is_reference() {
+            let row = &lent.numbers[8 * answer.row..][..8];
+            self.in_attributes += u64::from(row[0] == 2);
+            self.in_texts += u64::from(row[0] == 6);
+            let before = &lent.body[row[5] as usize..place];
+            self.behind += u64::from(before.contains(&b'&'));
+        }
+    }
+
+    pub fn merge(&mut self, other: &Counts) {
+        for (sum, count) in self.answers.iter_mut().zip(other.answers) {
+            *sum += count;
+        }
+        self.in_attributes += other.in_attributes;
+        self.in_texts += other.in_texts;
+        self.behind += other.behind;
+    }
+
+    pub fn all(&self) -> u64 {
+        self.answers.iter().sum()
+    }
+
+    /// How often each answer was expected, in words.
+    pub fn shown(&self) -> String {
+        let [passes, table, token, mismatched, unclosed, repeated, reference] = self.answers;
+        format!(
+            "{passes} pass, {table} break a rule, {token} token, {mismatched} mismatched, \
+             {unclosed} unclosed, {repeated} repeated, {reference} reference ({} in attributes, \
+             {} in texts, {} behind a right one)",
+            self.in_attributes, self.in_texts, self.behind
+        )
+    }
 }
 
 impl Drainer {
@@ -61,21 +116,20 @@ impl Drainer {
     }
 
     fn beside(&mut self, lent: Lent<'_>, expected: Answer) -> Option<String> {
-        let place = if expected.number == 9 {
-            1 + expected.cause
-        } else {
-            expected.number
-        };
-        self.answers[place as usize] += 1;
-        let (got, untouched) = self.ask(lent);
+        let place = rules::place(lent, expected);
+        self.counts.add(lent, expected, place);
+        let (got, told, untouched) = self.ask(lent);
         if got != expected {
             return Some(format!("is {got:?}, not {expected:?}"));
+        }
+        if told != place || !model::may_be_told(lent.body, got.is_reference(), told) {
+            return Some(format!("tells the place {told}, not {place}, with {got:?}"));
         }
         (!untouched).then(|| "wrote to what it only reads".to_string())
     }
 
-    /// The library's answer, and whether the memory lent is as it was.
-    fn ask(&mut self, lent: Lent<'_>) -> (Answer, bool) {
+    /// The library's answer and place, and whether the memory lent is as it was.
+    fn ask(&mut self, lent: Lent<'_>) -> (Answer, usize, bool) {
         self.body.clear();
         for part in [BEFORE, lent.body, BEHIND] {
             self.body.extend_from_slice(part);
@@ -87,7 +141,7 @@ impl Drainer {
         let body = &self.body[BEFORE.len()..][..lent.body.len()];
         let rows = &self.rows[ROW_BEFORE.len()..][..lent.numbers.len()];
         // not 0: that they become 0 has to show
-        let (mut row, mut cause) = (usize::MAX, u32::MAX);
+        let (mut row, mut cause, mut place) = (usize::MAX, u32::MAX, usize::MAX);
         // SAFETY: pointers to live memory of the lengths given; nothing overlaps.
         let number = unsafe {
             sys::falzheod_drain(
@@ -98,19 +152,12 @@ impl Drainer {
                 lent.end,
                 &mut row,
                 &mut cause,
+                &mut place,
             )
         };
         let answer = Answer { number, row, cause };
-        (answer, body == lent.body && rows == lent.numbers)
-    }
-
-    /// How often each answer was expected, in words.
-    pub fn answers(&self) -> String {
-        let [passes, table, token, mismatched, unclosed, repeated, reference] = self.answers;
-        format!(
-            "{passes} pass, {table} break a rule, {token} token, {mismatched} mismatched, \
-             {unclosed} unclosed, {repeated} repeated, {reference} reference"
-        )
+        let untouched = body == lent.body && rows == lent.numbers;
+        (answer, place, untouched)
     }
 }
 

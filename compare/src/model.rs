@@ -1,6 +1,8 @@
 //! Document 01 on references, for texts of any bytes: what it says of
 //! src/unescape.rs, byte by byte. Written from 01 alone, neither from the Rust
 //! nor from Falzheod, to stand in for the Rust on texts that its `&str` cannot hold.
+//! The places of a text are change request 1's, which the Rust does not tell: said of
+//! each `&` by itself, not by the walk that unescapes.
 
 /// One reference that was read: its code, and whether 01 calls it valid.
 struct Reference {
@@ -41,6 +43,38 @@ pub fn validate(text: &[u8]) -> bool {
         }
     }
     true
+}
+
+/// Where a text fails: "the place of the first failing `&`, counted from the start of
+/// the text they got"; `None` where the number is not 7.
+#[derive(Clone, Copy, Debug, PartialEq, Eq)]
+pub struct Places {
+    pub unescape: Option<usize>,
+    pub validate: Option<usize>,
+}
+
+pub fn places(text: &[u8]) -> Places {
+    Places {
+        unescape: first_failing(text, |_| true),
+        validate: first_failing(text, |reference| reference.valid),
+    }
+}
+
+/// The first `&` at which no reference begins that is taken. None is inside another: a
+/// reference ends before the next `&`.
+fn first_failing(text: &[u8], is_taken: impl Fn(Reference) -> bool) -> Option<usize> {
+    let mut ampersands = (0..text.len()).filter(|at| text[*at] == b'&');
+    ampersands.find(|at| !reference(&text[*at..]).is_some_and(&is_taken))
+}
+
+/// Whether a place may be told of `text`: an `&` stands there if the answer is 7, and it
+/// is 0 if not.
+pub fn may_be_told(text: &[u8], is_seven: bool, place: usize) -> bool {
+    if is_seven {
+        text.get(place) == Some(&b'&')
+    } else {
+        place == 0
+    }
 }
 
 /// The reference that `text` begins with (its first byte is `&`), if

@@ -1,7 +1,9 @@
 //! The readings over rows once more, as document 01 and the Rust's decode.rs and
 //! deserializer.rs have them: the model for what the Rust cannot be asked, which is
 //! room, tables that no tokenizer made, and the whole text. The comparison holds it
-//! to the Rust on every table of the tokenizer.
+//! to the Rust on every table of the tokenizer. The place beside 7, which the Rust does
+//! not tell, is change request 1's: a lenient reading has that of unescaping in the text
+//! at which it fails, a strict one that of the drain, which stops it there.
 
 use crate::model;
 use crate::rules::{self, Lent};
@@ -28,11 +30,24 @@ pub struct Room {
 #[derive(Clone, Debug, Default, PartialEq, Eq)]
 pub struct Told {
     pub number: u32,
+    pub place: usize,
     pub entries: Vec<[u32; 6]>,
     pub texts: Vec<u8>,
 }
 
-type Number = u32;
+/// Why there is no answer: the number, and beside 7 where the failing `&` stands in the
+/// body.
+#[derive(Clone, Copy, Debug, Default, PartialEq, Eq)]
+pub struct Refused {
+    pub number: u32,
+    pub place: usize,
+}
+
+impl From<u32> for Refused {
+    fn from(number: u32) -> Self {
+        Refused { number, place: 0 }
+    }
+}
 
 struct Output {
     room: Room,
@@ -50,20 +65,20 @@ impl Output {
         self.texts.len() as u32
     }
 
-    fn write(&mut self, entry: [u32; 6], bytes: &[u8]) -> Result<(), Number> {
+    fn write(&mut self, entry: [u32; 6], bytes: &[u8]) -> Result<(), Refused> {
         if !self.fits(1, bytes.len()) {
-            return Err(10);
+            return Err(10.into());
         }
         self.entries.push(entry);
         self.texts.extend_from_slice(bytes);
         Ok(())
     }
 
-    fn text(&mut self, member: u32, text: &[u8]) -> Result<(), Number> {
+    fn text(&mut self, member: u32, text: &[u8]) -> Result<(), Refused> {
         self.write([1, member, 0, 0, self.at(), text.len() as u32], text)
     }
 
-    fn piece(&mut self, member: u32, (start, len): (u32, u32)) -> Result<(), Number> {
+    fn piece(&mut self, member: u32, (start, len): (u32, u32)) -> Result<(), Refused> {
         self.write([2, member, 0, 0, start, len], b"")
     }
 }
@@ -71,6 +86,7 @@ impl Output {
 /// `Document`: the rows one by one, with the depth, and when strict the open names
 /// and the attribute names of the last start tag.
 struct Document<'a> {
+    lent: Lent<'a>,
     body: &'a [u8],
     rows: Vec<[u32; 8]>,
     end: u32,
@@ -86,13 +102,14 @@ struct Document<'a> {
 /// What `Document` gives: a row and its depth, an error, or nothing.
 enum Token {
     Row(usize, i64),
-    Error(Number),
+    Error(Refused),
     Nothing,
 }
 
 impl<'a> Document<'a> {
     fn new(lent: Lent<'a>, strict: bool) -> Self {
         Document {
+            lent,
             body: lent.body,
             rows: lent
                 .numbers
@@ -130,9 +147,19 @@ impl<'a> Document<'a> {
         self.span(row, 5)
     }
 
-    fn fail(&mut self, number: Number) -> Token {
+    /// A text row's value, unescaped.
+    fn unescaped(&self, row: usize) -> Result<Vec<u8>, Refused> {
+        let value = self.value(row);
+        model::unescape(value).ok_or_else(|| {
+            let at = model::places(value).unescape.expect("an `&` that fails");
+            let place = self.rows[row][5] as usize + at;
+            Refused { number: 7, place }
+        })
+    }
+
+    fn fail(&mut self, refused: Refused) -> Token {
         self.malformed = self.strict;
-        Token::Error(number)
+        Token::Error(refused)
     }
 
     fn next(&mut self) -> Token {
@@ -142,7 +169,7 @@ impl<'a> Document<'a> {
         let Some(row) = self.rows.get(self.row).copied() else {
             self.offset = self.end;
             return if self.strict && !self.open.is_empty() {
-                self.fail(9)
+                self.fail(9.into())
             } else {
                 Token::Nothing
             };
@@ -151,11 +178,11 @@ impl<'a> Document<'a> {
         self.row += 1;
         self.offset = row[7];
         if row[0] == 8 {
-            return self.fail(8);
+            return self.fail(8.into());
         }
         if self.strict {
-            if let Some(number) = self.strictly(at, row[0]) {
-                return self.fail(number);
+            if let Some(refused) = self.strictly(at, row[0]) {
+                return self.fail(refused);
             }
         }
         match row[0] {
@@ -166,7 +193,7 @@ impl<'a> Document<'a> {
         Token::Row(at, self.depth - i64::from(row[0] == 1))
     }
 
-    fn strictly(&mut self, at: usize, kind: u32) -> Option<Number> {
+    fn strictly(&mut self, at: usize, kind: u32) -> Option<Refused> {
         match kind {
             1 => {
                 self.open.push(at);
@@ -178,28 +205,31 @@ impl<'a> Document<'a> {
                     .iter()
                     .any(|other| self.name(*other) == self.name(at))
                 {
-                    return Some(9);
+                    return Some(9.into());
                 }
                 self.attributes.push(at);
             }
             4 => {
                 let open = self.open.pop();
                 if open.map(|open| self.name(open)) != Some(self.name(at)) {
-                    return Some(9);
+                    return Some(9.into());
                 }
             }
             5 => drop(self.open.pop()),
             _ => {}
         }
         let bad = matches!(kind, 2 | 6) && !model::validate(self.value(at));
-        bad.then_some(7)
+        bad.then(|| {
+            let place = rules::place(self.lent, rules::answer(self.lent));
+            Refused { number: 7, place }
+        })
     }
 
     /// `finish_well_formed`.
-    fn finish(&mut self) -> Result<(), Number> {
+    fn finish(&mut self) -> Result<(), Refused> {
         while self.strict && !matches!(self.next(), Token::Nothing) {}
         if self.malformed {
-            Err(9)
+            Err(9.into())
         } else {
             Ok(())
         }
@@ -257,14 +287,14 @@ impl Scope {
         (start, self.drop(document) - start)
     }
 
-    fn text(&mut self, document: &mut Document<'_>) -> Result<Vec<u8>, Number> {
+    fn text(&mut self, document: &mut Document<'_>) -> Result<Vec<u8>, Refused> {
         loop {
             match self.next(document) {
                 Token::Nothing => return Ok(Vec::new()),
-                Token::Error(number) => return Err(number),
+                Token::Error(refused) => return Err(refused),
                 Token::Row(row, _) => match document.rows[row][0] {
-                    1 => return Err(6),
-                    6 => return model::unescape(document.value(row)).ok_or(7),
+                    1 => return Err(6.into()),
+                    6 => return document.unescaped(row),
                     _ => {}
                 },
             }
@@ -364,8 +394,10 @@ pub fn read(kind: Kind, lent: Lent<'_>, asked: Asked<'_>, room: Room) -> Told {
         Sheet::List(sheet) => read_list(kind, &mut document, &mut root, sheet, asked, &mut out),
         Sheet::Map(sheet) => read_map(&mut document, &mut root, sheet, asked, &mut out),
     };
+    let Refused { number, place } = result.err().unwrap_or_default();
     Told {
-        number: result.err().unwrap_or(0),
+        number,
+        place,
         entries: out.entries,
         texts: out.texts,
     }
@@ -377,10 +409,10 @@ fn read_struct(
     sheet: &Structure,
     asked: Asked<'_>,
     out: &mut Output,
-) -> Result<(), Number> {
+) -> Result<(), Refused> {
     let name = document.name(root.start.row);
     if asked.flags & 2 != 0 && asked.depth == 0 && !matches(name, sheet.root_name()) {
-        return Err(5);
+        return Err(5.into());
     }
     if sheet.unwrapped {
         let piece = root_piece(document, root.start.row);
@@ -413,7 +445,9 @@ fn read_struct(
             if !member.aggregate {
                 match child.text(document) {
                     Ok(text) => out.text(index as u32, &text)?,
-                    Err(number) => out.write([4, index as u32, 0, 0, number, 0], b"")?,
+                    Err(Refused { number, place }) => {
+                        out.write([4, index as u32, 0, 0, number, place as u32], b"")?
+                    }
                 }
             } else {
                 let (start, len) = child.piece(document);
@@ -433,7 +467,7 @@ fn read_struct(
 }
 
 /// "if all groups together do not fit, 10 and none is written"
-fn write_groups(siblings: Vec<Vec<u8>>, out: &mut Output) -> Result<(), Number> {
+fn write_groups(siblings: Vec<Vec<u8>>, out: &mut Output) -> Result<(), Refused> {
     let mut groups = Vec::new();
     for (index, siblings) in siblings
         .iter()
@@ -451,7 +485,7 @@ fn write_groups(siblings: Vec<Vec<u8>>, out: &mut Output) -> Result<(), Number> 
             groups.iter().map(|(_, group)| group.len()).sum(),
         )
     {
-        return Err(10);
+        return Err(10.into());
     }
     for (index, group) in groups {
         out.write([3, index, 0, 0, out.at(), group.len() as u32], &group)?;
@@ -483,7 +517,7 @@ fn read_list(
     sheet: &List,
     asked: Asked<'_>,
     out: &mut Output,
-) -> Result<(), Number> {
+) -> Result<(), Refused> {
     let name = if asked.flags & 4 != 0 {
         sheet.item_name()
     } else {
@@ -508,7 +542,7 @@ fn read_map(
     sheet: &Map,
     asked: Asked<'_>,
     out: &mut Output,
-) -> Result<(), Number> {
+) -> Result<(), Refused> {
     while let Some(mut entry) = root.child(document) {
         let named = asked.flags & 4 != 0 && !sheet.flattened;
         if !named || matches(document.name(entry.start.row), b"entry") {
@@ -525,7 +559,7 @@ fn read_entry(
     entry: &mut Scope,
     sheet: &Map,
     out: &mut Output,
-) -> Result<(), Number> {
+) -> Result<(), Refused> {
     let (mut key, mut text, mut piece) = (None, None, None);
     while let Some(mut field) = entry.child(document) {
         let local = document.local(field.start.row);
@@ -556,9 +590,9 @@ fn read_entry(
 }
 
 /// The text of a scalar reading, or its number, room apart.
-pub fn scalar(lent: Lent<'_>, flags: u32, depth: u32) -> Result<Vec<u8>, Number> {
+pub fn scalar(lent: Lent<'_>, flags: u32, depth: u32) -> Result<Vec<u8>, Refused> {
     if rules::answer(lent).number == 1 {
-        return Err(1);
+        return Err(1.into());
     }
     let mut document = Document::new(lent, flags & 1 != 0 && depth == 0);
     let mut root = Scope::new(next_start(&mut document, |document| document.next()).ok_or(4u32)?);
@@ -569,33 +603,33 @@ pub fn scalar(lent: Lent<'_>, flags: u32, depth: u32) -> Result<Vec<u8>, Number>
 }
 
 /// "Integers: optional sign, one or more digits, range of 32 bits, nothing trimmed."
-pub fn integer(text: &[u8]) -> Result<i32, Number> {
+pub fn integer(text: &[u8]) -> Result<i32, Refused> {
     let (negative, digits) = match text {
         [b'-', digits @ ..] => (true, digits),
         [b'+', digits @ ..] => (false, digits),
         digits => (false, digits),
     };
     if digits.is_empty() || !digits.iter().all(u8::is_ascii_digit) {
-        return Err(12);
+        return Err(12.into());
     }
     let value = digits.iter().fold(0i64, |value, digit| {
         (value * 10 + i64::from(digit - b'0')).min(1 << 40)
     });
-    i32::try_from(if negative { -value } else { value }).map_err(|_| 12)
+    i32::try_from(if negative { -value } else { value }).map_err(|_| 12.into())
 }
 
-pub fn boolean(text: &[u8]) -> Result<bool, Number> {
+pub fn boolean(text: &[u8]) -> Result<bool, Refused> {
     match text {
         b"true" => Ok(true),
         b"false" => Ok(false),
-        _ => Err(11),
+        _ => Err(11.into()),
     }
 }
 
 /// Start and length of the part, or 1 or 13.
-pub fn find(lent: Lent<'_>, name: &[u8]) -> Result<(usize, usize), Number> {
+pub fn find(lent: Lent<'_>, name: &[u8]) -> Result<(usize, usize), Refused> {
     if rules::answer(lent).number == 1 {
-        return Err(1);
+        return Err(1.into());
     }
     let mut document = Document::new(lent, false);
     let mut root = Scope::new(next_start(&mut document, |document| document.next()).ok_or(13u32)?);
@@ -609,14 +643,14 @@ pub fn find(lent: Lent<'_>, name: &[u8]) -> Result<(usize, usize), Number> {
         }
         child.drop(&mut document);
     }
-    Err(13)
+    Err(13.into())
 }
 
 /// 01, "Whole text", room apart.
-pub fn whole_text(lent: Lent<'_>) -> Result<Vec<u8>, Number> {
+pub fn whole_text(lent: Lent<'_>) -> Result<Vec<u8>, Refused> {
     match rules::answer(lent).number {
         0 => {}
-        number => return Err(number),
+        number => return Err(number.into()),
     }
     let document = Document::new(lent, false);
     let kinds = |kind| {
@@ -627,9 +661,9 @@ pub fn whole_text(lent: Lent<'_>) -> Result<Vec<u8>, Number> {
             .count()
     };
     match kinds(1) {
-        0 => return Err(4),
+        0 => return Err(4.into()),
         1 => {}
-        _ => return Err(6),
+        _ => return Err(6.into()),
     }
     let texts = (0..document.rows.len()).filter(|row| document.rows[*row][0] == 6);
     Ok(texts

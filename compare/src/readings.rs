@@ -1,8 +1,11 @@
 //! The check of one question to a reading: the static library beside the model
-//! (src/reader.rs), always, and beside the Rust, where it can be asked.
+//! (src/reader.rs), always, and beside the Rust, where it can be asked. The places, of a
+//! 7 and of an entry of kind 4 whose number is 7, are left out beside the Rust, which
+//! knows none.
 
-use crate::calls::{self, Caller};
-use crate::reader::{self, Asked, Kind, Room, Told};
+use crate::calls::{self, Answer, Caller};
+use crate::model;
+use crate::reader::{self, Asked, Kind, Refused, Room, Told};
 use crate::rules::{self, Lent};
 use crate::sheets::Structure;
 use oracle::hex::hex;
@@ -28,6 +31,8 @@ pub struct Compared {
     /// 0, or why it is refused.
     pub number: u32,
     pub entries: usize,
+    /// Entries of kind 4 whose number is 7.
+    pub bad_references: usize,
     /// The Rust was asked, not the model alone.
     pub rust: bool,
     pub strict: bool,
@@ -37,9 +42,6 @@ pub struct Compared {
 
 /// What differs is told in words.
 pub type Outcome = Result<Compared, String>;
-
-/// The library's answer to a call that gives one value; `Err` for what it must not do.
-type Answer<T> = Result<Result<T, u32>, String>;
 
 #[derive(Default)]
 pub struct Asker {
@@ -60,6 +62,7 @@ impl Asker {
         let compared = Compared {
             number: told.number,
             entries: told.entries.len(),
+            bad_references: bad_references(&told),
             strict: is_strict(asked.flags, asked.depth),
             ..Compared::default()
         };
@@ -98,6 +101,7 @@ impl Asker {
                 })?;
             compared.number = told.number;
             compared.entries = told.entries.len();
+            compared.bad_references = bad_references(&told);
         }
         Ok(compared)
     }
@@ -114,6 +118,9 @@ impl Asker {
         if told != expected {
             return Err(format!("is {told:?}, the model says {expected:?}"));
         }
+        if !places_may_be_told(lent.body, &told) {
+            return Err(format!("tells a place of no `&`, or of no 7: {told:?}"));
+        }
         Ok(told)
     }
 
@@ -128,25 +135,27 @@ impl Asker {
         let text = reader::scalar(lent, flags, depth);
         let asked = |word| {
             let question = format!("{word} {} {} {depth} 128", hex(lent.body), flags & 7);
-            (tokens && text != Err(1)).then_some(question)
+            (tokens && text != Err(1.into())).then_some(question)
         };
         let text = &text;
-        let read = |read: fn(&[u8]) -> _| text.as_deref().map_err(|number| *number).and_then(read);
-        let value = |read: fn(&[u8]) -> _| text.as_deref().map_err(|number| *number).and_then(read);
+        let value = text.as_deref().map_err(|refused| *refused);
         let outcomes = [
             one(
+                lent.body,
                 calls::boolean(lent, flags, depth),
-                read(reader::boolean),
+                value.and_then(reader::boolean),
                 asked("bool"),
                 bool::to_string,
             ),
             one(
+                lent.body,
                 calls::integer(lent, flags, depth),
-                value(reader::integer),
+                value.and_then(reader::integer),
                 asked("int"),
                 i32::to_string,
             ),
             one(
+                lent.body,
                 in_two_rooms(text, |room| self.caller.string(lent, flags, depth, room)),
                 text.clone(),
                 asked("string"),
@@ -166,18 +175,21 @@ impl Asker {
         let whole = Ok(text.to_vec());
         [
             one(
+                text,
                 calls::text_boolean(text),
                 reader::boolean(text),
                 asked("textbool"),
                 bool::to_string,
             ),
             one(
+                text,
                 calls::text_integer(text),
                 reader::integer(text),
                 asked("textint"),
                 i32::to_string,
             ),
             one(
+                text,
                 in_two_rooms(&whole, |room| self.caller.text_string(text, room)),
                 whole.clone(),
                 asked("textstring"),
@@ -188,8 +200,9 @@ impl Asker {
 
     pub fn find(&mut self, lent: Lent<'_>, name: &[u8], tokens: bool) -> Outcome {
         let expected = reader::find(lent, name);
-        let asked = tokens && expected != Err(1) && std::str::from_utf8(name).is_ok();
+        let asked = tokens && expected != Err(1.into()) && std::str::from_utf8(name).is_ok();
         one(
+            lent.body,
             calls::find(lent, name),
             expected,
             asked.then(|| format!("find {} {}", hex(lent.body), hex(name))),
@@ -201,27 +214,28 @@ impl Asker {
     pub fn whole_text(&mut self, lent: Lent<'_>) -> Outcome {
         let expected = reader::whole_text(lent);
         let got = in_two_rooms(&expected, |room| self.caller.whole_text(lent, room));
-        one(got, expected, None, |text| hex(text))
+        one(lent.body, got, expected, None, |text| hex(text))
     }
 }
 
 /// The answer in room for what is expected; in one byte less it has to be 10.
 fn in_two_rooms(
-    expected: &Result<Vec<u8>, u32>,
+    expected: &Result<Vec<u8>, Refused>,
     mut call: impl FnMut(usize) -> Answer<Vec<u8>>,
 ) -> Answer<Vec<u8>> {
     let room = expected.as_ref().map_or(0, Vec::len);
-    if room > 0 && call(room - 1)? != Err(10) {
+    if room > 0 && call(room - 1)? != Err(10.into()) {
         return Err("no 10 in room that is too short".to_string());
     }
     call(room)
 }
 
-/// A call that gives one value, beside the model's, and beside the Rust's answer to
-/// `question`, in which a value is `written`.
+/// A call about a body or a text that gives one value, beside the model's, and beside the
+/// Rust's answer to `question`, in which a value is `written`.
 fn one<T: PartialEq + Debug>(
+    about: &[u8],
     got: Answer<T>,
-    expected: Result<T, u32>,
+    expected: Result<T, Refused>,
     question: Option<String>,
     written: impl FnOnce(&T) -> String,
 ) -> Outcome {
@@ -231,7 +245,10 @@ fn one<T: PartialEq + Debug>(
     }
     let (number, ours) = match &got {
         Ok(value) => (0, format!("ok {}", written(value))),
-        Err(number) => (*number, format!("refuse {number}")),
+        Err(Refused { number, place }) if model::may_be_told(about, *number == 7, *place) => {
+            (*number, format!("refuse {number}"))
+        }
+        Err(refused) => return Err(format!("tells a place of no `&`, or of no 7: {refused:?}")),
     };
     if let Some(question) = &question {
         let rust = oracle::answer(question);
@@ -286,6 +303,22 @@ fn beside_rust(
         });
     }
     Err(format!("is {ours}, the Rust {rust}"))
+}
+
+fn is_bad_reference(entry: &[u32; 6]) -> bool {
+    entry[0] == 4 && entry[4] == 7
+}
+
+fn bad_references(told: &Told) -> usize {
+    let entries = told.entries.iter();
+    entries.filter(|entry| is_bad_reference(entry)).count()
+}
+
+/// The place beside the number, and the length field of each entry of kind 4.
+fn places_may_be_told(body: &[u8], told: &Told) -> bool {
+    let mut failed = told.entries.iter().filter(|entry| entry[0] == 4);
+    failed.all(|entry| model::may_be_told(body, is_bad_reference(entry), entry[5] as usize))
+        && model::may_be_told(body, told.number == 7, told.place)
 }
 
 /// An answer as the oracle writes it.

@@ -69,6 +69,7 @@ fn told(kind: Kind, answer: &str) -> (u32, Vec<u32>, Vec<u8>) {
                 texts.extend(text);
             }
             2 => numbers.extend([field(3), field(4)]),
+            // a failed text, whose place the Rust does not tell
             _ => numbers.extend([field(3), 0]),
         }
     }

@@ -1,6 +1,7 @@
 //! Document 01 on token tables and on the drain, written from 01's text alone:
 //! neither from the Rust nor from Falzheod. It says which rules a table breaks, each
-//! by its name, and walks a table that breaks none.
+//! by its name, and walks a table that breaks none. The place of a bad reference, which
+//! the Rust does not tell, is change request 1's.
 
 use crate::model;
 use std::collections::{BTreeSet, HashSet};
@@ -44,7 +45,14 @@ impl Answer {
             cause,
         }
     }
+
+    pub fn is_reference(self) -> bool {
+        self.cause == REFERENCE
+    }
 }
+
+/// The cause "reference".
+const REFERENCE: u32 = 5;
 
 /// The rules of 01's section on the token table, in its order.
 #[derive(Clone, Copy, Debug, PartialEq, Eq, PartialOrd, Ord)]
@@ -166,6 +174,18 @@ pub fn answer(lent: Lent<'_>) -> Answer {
     } else {
         Answer::TABLE
     }
+}
+
+/// Where the failing `&` stands in the body: that of validation, behind the start of the
+/// failing row's value. 0 where no reference is the cause.
+pub fn place(lent: Lent<'_>, answer: Answer) -> usize {
+    if !answer.is_reference() {
+        return 0;
+    }
+    let (start, length) = Row::of(&lent.numbers[8 * answer.row..][..8]).value;
+    let value = &lent.body[start as usize..][..length as usize];
+    let at = model::places(value).validate;
+    start as usize + at.expect("a reference that fails")
 }
 
 /// The rules that a table breaks, all of them.
@@ -295,7 +315,7 @@ fn walk(lent: Lent<'_>) -> Answer {
             8 => Some(1),
             4 => (open.pop() != Some(name)).then_some(2),
             2 if !attributes.insert(name) => Some(4),
-            2 | 6 => (!model::validate(text(row.value))).then_some(5),
+            2 | 6 => (!model::validate(text(row.value))).then_some(REFERENCE),
             _ => None,
         };
         if let Some(cause) = cause {

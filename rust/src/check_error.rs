@@ -1,7 +1,7 @@
 //! Why a body is no upload, with the place of the fault.
 
 use crate::row::{kind, open_after};
-use crate::{validate_references, Cause, Limit, Place, Refusal, Row};
+use crate::{Cause, Limit, Place, Refusal, Row};
 use std::fmt;
 
 /// Why a body is no upload, and where.
@@ -127,7 +127,7 @@ impl CheckError {
             CheckError::Mismatched { .. } => Some(Cause::Mismatched),
             CheckError::Unclosed { .. } => Some(Cause::Unclosed),
             CheckError::Repeated { .. } => Some(Cause::Repeated),
-            CheckError::Reference { .. } => Some(Cause::Reference),
+            CheckError::Reference { at, .. } => Some(Cause::Reference { at: at.byte }),
             _ => None,
         }
     }
@@ -173,11 +173,10 @@ fn ill_formed(body: &[u8], rows: &[Row], row: usize, cause: Cause) -> CheckError
             name: fails.name(body),
             first: place(alike(body, before, &fails).name_start()),
         },
-        Cause::Reference => {
-            let (start, reference) = bad_reference(fails.value(body));
-            let at = place(fails.value_start as usize + start);
-            CheckError::Reference { at, reference }
-        }
+        Cause::Reference { at } => CheckError::Reference {
+            at: place(at),
+            reference: shown(&fails.value(body)[at - fails.value_start as usize..]),
+        },
     }
 }
 
@@ -211,26 +210,11 @@ fn alike<'a>(body: &[u8], before: &'a [Row], row: &'a Row) -> &'a Row {
 /// The most characters of a reference that are shown.
 const SHOWN: usize = 32;
 
-/// Where the first bad reference of a value begins, and what is shown of it. Each `&` is
-/// tested with what stands before the next, as the drain tests the whole value.
-fn bad_reference(value: &[u8]) -> (usize, String) {
-    let places = (0..value.len()).filter(|at| value[*at] == b'&');
-    for start in places {
-        let rest = &value[start + 1..];
-        let next = rest.iter().position(|byte| *byte == b'&');
-        let section = &value[start..next.map_or(value.len(), |next| start + 1 + next)];
-        if validate_references(section).is_err() {
-            return (start, shown(section));
-        }
-    }
-    (0, shown(value))
-}
-
-/// Up to its `;` or to white space.
-fn shown(section: &[u8]) -> String {
-    let text = String::from_utf8_lossy(section);
-    let is_end = |c: char| c == ';' || c.is_whitespace();
-    let end = text.find(is_end).unwrap_or(text.len());
+/// The reference at the front of a text: up to its `;`, to white space or to the next `&`.
+fn shown(text: &[u8]) -> String {
+    let text = String::from_utf8_lossy(text);
+    let is_end = |c: char| matches!(c, ';' | '&') || c.is_whitespace();
+    let end = text[1..].find(is_end).map_or(text.len(), |end| 1 + end);
     let end = end + usize::from(text[end..].starts_with(';'));
     text[..end].chars().take(SHOWN).collect()
 }

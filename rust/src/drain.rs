@@ -9,18 +9,20 @@ use std::fmt;
 /// assert_eq!(falzheod::Cause::Unclosed.to_string(), "an element is not closed");
 /// ```
 #[derive(Clone, Copy, Debug, PartialEq, Eq, Hash)]
-#[repr(u32)]
 pub enum Cause {
     /// The tokenizer could not go on.
-    Token = 1,
+    Token,
     /// An end tag whose name is not that of the innermost open element.
-    Mismatched = 2,
+    Mismatched,
     /// An element is still open where the rows end.
-    Unclosed = 3,
+    Unclosed,
     /// An attribute of the same name as an earlier one of its tag.
-    Repeated = 4,
+    Repeated,
     /// A reference that [`validate_references`](crate::validate_references) refuses.
-    Reference = 5,
+    Reference {
+        /// Where its `&` stands in the body, from 0.
+        at: usize,
+    },
 }
 
 impl Cause {
@@ -30,17 +32,24 @@ impl Cause {
     /// assert_eq!(falzheod::Cause::Repeated.number(), 4);
     /// ```
     pub fn number(self) -> u32 {
-        self as u32
+        match self {
+            Cause::Token => 1,
+            Cause::Mismatched => 2,
+            Cause::Unclosed => 3,
+            Cause::Repeated => 4,
+            Cause::Reference { .. } => 5,
+        }
     }
 
-    /// The library's number as a cause. Its contract leaves no other number.
-    fn of(number: u32) -> Self {
+    /// The library's number as a cause; `at` is the place of a 5. Its contract leaves no
+    /// other number.
+    fn of(number: u32, at: usize) -> Self {
         match number {
             1 => Cause::Token,
             2 => Cause::Mismatched,
             3 => Cause::Unclosed,
             4 => Cause::Repeated,
-            5 => Cause::Reference,
+            5 => Cause::Reference { at },
             other => unreachable!("falzheod told the cause {other}"),
         }
     }
@@ -49,11 +58,11 @@ impl Cause {
 impl fmt::Display for Cause {
     fn fmt(&self, f: &mut fmt::Formatter<'_>) -> fmt::Result {
         f.write_str(match self {
+            Cause::Reference { at } => return write!(f, "the reference at byte {at} is bad"),
             Cause::Token => "a token error",
             Cause::Mismatched => "an end tag that does not match the open element",
             Cause::Unclosed => "an element is not closed",
             Cause::Repeated => "an attribute is repeated in its tag",
-            Cause::Reference => "a reference is bad",
         })
     }
 }
@@ -94,13 +103,13 @@ pub fn drain(body: &[u8], rows: &[Row], end: u32) -> Result<(), Refusal> {
 /// assert_eq!(falzheod::drain_numbers(b"<a/>", &numbers[..9], 4), Err(falzheod::Refusal::Table));
 /// ```
 pub fn drain_numbers(body: &[u8], rows: &[u32], end: u32) -> Result<(), Refusal> {
-    let (number, row, cause) = sys::drain(body, rows, end);
+    let (number, row, cause, place) = sys::drain(body, rows, end);
     match number {
         0 => Ok(()),
         1 => Err(Refusal::Table),
         9 => Err(Refusal::IllFormed {
             row,
-            cause: Cause::of(cause),
+            cause: Cause::of(cause, place),
         }),
         other => unreachable!("falzheod answered {other}"),
     }

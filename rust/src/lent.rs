@@ -72,7 +72,8 @@ pub struct Entry {
     pub key_len: u32,
     /// Where it starts: kinds 1 and 3 in the texts, 2 in the body; in kind 4 the number.
     pub start: u32,
-    /// How many bytes it has; 0 in kind 4.
+    /// How many bytes it has. In kind 4 it is where the failing `&` stands in the body, if
+    /// the number is 7, and else 0.
     pub len: u32,
 }
 
@@ -135,13 +136,13 @@ impl fmt::Display for Refused {
 
 impl std::error::Error for Refused {}
 
-/// What came of a number. Where an operation is refused with 9 the drain tells the row
-/// and the cause.
-fn finished<T>(number: u32, lent: Lent<'_>, value: T) -> Result<T, Refusal> {
+/// What came of a number, with the place of a 7. Where an operation is refused with 9 the
+/// drain tells the row and the cause.
+fn finished<T>(number: u32, place: usize, lent: Lent<'_>, value: T) -> Result<T, Refusal> {
     if number == 0 {
         return Ok(value);
     }
-    Err(Refusal::of(number, || {
+    Err(Refusal::of(number, place, || {
         match drain_numbers(lent.body, lent.rows, lent.end) {
             Err(ill_formed) => ill_formed,
             Ok(()) => unreachable!("falzheod refused with 9 what the drain passes"),
@@ -158,8 +159,8 @@ pub(crate) fn read(
     entries: &mut [Entry],
     texts: &mut [u8],
 ) -> Result<Written, Refused> {
-    let (number, written) = sys::read(shape, lent, sheet, settings, depth, entries, texts);
-    finished(number, lent, written).map_err(|refusal| Refused { refusal, written })
+    let (number, place, written) = sys::read(shape, lent, sheet, settings, depth, entries, texts);
+    finished(number, place, lent, written).map_err(|refusal| Refused { refusal, written })
 }
 
 /// Reads a structure by its sheet: attribute members in sheet order, children in body
@@ -270,8 +271,8 @@ pub fn read_string_list(
 /// assert_eq!(read_boolean(lent, Default::default(), 0), Ok(true));
 /// ```
 pub fn read_boolean(lent: Lent<'_>, settings: Settings, depth: u32) -> Result<bool, Refusal> {
-    let (number, value) = sys::read_boolean(lent, settings, depth);
-    finished(number, lent, value)
+    let (number, place, value) = sys::read_boolean(lent, settings, depth);
+    finished(number, place, lent, value)
 }
 
 /// Reads the first text of the root as an integer of 32 bits: an optional sign and
@@ -288,8 +289,8 @@ pub fn read_boolean(lent: Lent<'_>, settings: Settings, depth: u32) -> Result<bo
 /// assert_eq!(read_integer(lent, Default::default(), 0), Ok(1480));
 /// ```
 pub fn read_integer(lent: Lent<'_>, settings: Settings, depth: u32) -> Result<i32, Refusal> {
-    let (number, value) = sys::read_integer(lent, settings, depth);
-    finished(number, lent, value)
+    let (number, place, value) = sys::read_integer(lent, settings, depth);
+    finished(number, place, lent, value)
 }
 
 /// Reads the first text of the root, unescaped, into the front of `out`, and gives
@@ -306,6 +307,10 @@ pub fn read_integer(lent: Lent<'_>, settings: Settings, depth: u32) -> Result<i3
 /// let mut out = [0; 4];
 /// assert_eq!(read_string(lent, Default::default(), 0, &mut out), Ok(1));
 /// assert_eq!(out[0], b'<');
+///
+/// let lent = Lent { body: b"<s>a&b;</s>", ..lent };
+/// let bad = falzheod::Refusal::Reference { at: 4 };
+/// assert_eq!(read_string(lent, Default::default(), 0, &mut out), Err(bad));
 /// ```
 pub fn read_string(
     lent: Lent<'_>,
@@ -313,8 +318,8 @@ pub fn read_string(
     depth: u32,
     out: &mut [u8],
 ) -> Result<usize, Refusal> {
-    let (number, length) = sys::read_string(lent, settings, depth, out);
-    finished(number, lent, length)
+    let (number, place, length) = sys::read_string(lent, settings, depth, out);
+    finished(number, place, lent, length)
 }
 
 /// Joins all texts that stand directly in the root, unescaped, into the front of
@@ -329,7 +334,7 @@ pub fn read_string(
 /// ```
 pub fn whole_text(lent: Lent<'_>, out: &mut [u8]) -> Result<usize, Refusal> {
     let (number, length) = sys::whole_text(lent, out);
-    finished(number, lent, length)
+    finished(number, 0, lent, length)
 }
 
 /// The part of the body that has this local name: the whole body if the root has it,
@@ -345,6 +350,6 @@ pub fn whole_text(lent: Lent<'_>, out: &mut [u8]) -> Result<usize, Refusal> {
 /// ```
 pub fn find<'a>(lent: Lent<'a>, name: &[u8]) -> Result<&'a [u8], Refusal> {
     let (number, start, length) = sys::find(lent, name);
-    finished(number, lent, ())?;
+    finished(number, 0, lent, ())?;
     Ok(&lent.body[start..start + length])
 }

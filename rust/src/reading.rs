@@ -108,7 +108,9 @@ impl Reading<'_> {
             }
             kind::FAILED => Entry::Failed {
                 member,
-                refusal: Refusal::of(raw.start, || unreachable!("a text of what passed gave 9")),
+                refusal: Refusal::of(raw.start, raw.len as usize, || {
+                    unreachable!("a text of what passed gave 9")
+                }),
             },
             other => unreachable!("falzheod wrote an entry of kind {other}"),
         }

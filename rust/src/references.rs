@@ -2,12 +2,12 @@
 
 use crate::{sys, Refusal};
 
-/// The number of an operation on references as a result. Their contracts leave no
-/// other number.
-fn finished(number: u32) -> Result<(), Refusal> {
+/// The number of an operation on references, with the place of a 7, as a result. Their
+/// contracts leave no other number.
+fn finished(number: u32, at: usize) -> Result<(), Refusal> {
     match number {
         0 => Ok(()),
-        7 => Err(Refusal::Reference),
+        7 => Err(Refusal::Reference { at }),
         10 => Err(Refusal::NoRoom),
         other => unreachable!("falzheod answered {other}"),
     }
@@ -26,13 +26,13 @@ fn finished(number: u32) -> Result<(), Refusal> {
 /// let mut out = *b".....";
 /// assert_eq!(falzheod::unescape(b"&#x41;&lt;", &mut out), Ok(2));
 /// assert_eq!(&out, b"A<...");
-/// assert_eq!(falzheod::unescape(b"a&b", &mut out), Err(falzheod::Refusal::Reference));
+/// assert_eq!(falzheod::unescape(b"a&b", &mut out), Err(falzheod::Refusal::Reference { at: 1 }));
 /// assert_eq!(falzheod::unescape(b"sapwood", &mut out), Err(falzheod::Refusal::NoRoom));
 /// assert_eq!(&out, b"A<...");
 /// ```
 pub fn unescape(text: &[u8], out: &mut [u8]) -> Result<usize, Refusal> {
-    let (number, length) = sys::unescape(text, out);
-    finished(number).map(|()| length)
+    let (number, place, length) = sys::unescape(text, out);
+    finished(number, place).map(|()| length)
 }
 
 /// Replaces the references in `text` in a new vector.
@@ -42,7 +42,7 @@ pub fn unescape(text: &[u8], out: &mut [u8]) -> Result<usize, Refusal> {
 ///
 /// ```
 /// assert_eq!(falzheod::unescape_to_vec(b"bark &amp; pith").unwrap(), b"bark & pith");
-/// assert_eq!(falzheod::unescape_to_vec(b"&zz;"), Err(falzheod::Refusal::Reference));
+/// assert_eq!(falzheod::unescape_to_vec(b"&zz;"), Err(falzheod::Refusal::Reference { at: 0 }));
 /// ```
 pub fn unescape_to_vec(text: &[u8]) -> Result<Vec<u8>, Refusal> {
     let mut out = vec![0; text.len()];
@@ -55,14 +55,17 @@ pub fn unescape_to_vec(text: &[u8]) -> Result<Vec<u8>, Refusal> {
 /// digits without a sign whose value is a character of XML 1.0, 2.2.
 ///
 /// This is stricter than [`unescape`]: what it takes, `unescape` takes. Its only
-/// refusal is [`Refusal::Reference`].
+/// refusal is [`Refusal::Reference`]. So the two may name different places of a text:
+/// `&#+65;&zz;` fails here at 0 and in `unescape` at 6.
 ///
 /// ```
 /// assert_eq!(falzheod::validate_references(b"&#65;&quot;"), Ok(()));
-/// assert_eq!(falzheod::validate_references(b"&#+65;"), Err(falzheod::Refusal::Reference));
+/// let bad = falzheod::Refusal::Reference { at: 0 };
+/// assert_eq!(falzheod::validate_references(b"&#+65;&zz;"), Err(bad));
 /// ```
 pub fn validate_references(text: &[u8]) -> Result<(), Refusal> {
-    finished(sys::validate_references(text))
+    let (number, place) = sys::validate_references(text);
+    finished(number, place)
 }
 
 /// Tells whether `text` is well-formed UTF-8 (Unicode, table 3-7).

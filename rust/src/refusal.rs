@@ -31,7 +31,13 @@ pub enum Refusal {
     ElementInText,
     /// A reference is bad: not ended, of an unknown name, or with a number that
     /// is not taken.
-    Reference,
+    Reference {
+        /// Where its `&` stands, from 0: in the text of
+        /// [`unescape`](crate::unescape()) and
+        /// [`validate_references`](crate::validate_references), in the body of a reading.
+        /// A strict reading tells what the drain tells, any other what fails to unescape.
+        at: usize,
+    },
     /// The tokenizer could not go on where text is wanted.
     Token,
     /// The table keeps the rules, but the document is ill-formed.
@@ -56,7 +62,7 @@ impl Refusal {
     /// The number of this refusal in `include/falzheod.h`.
     ///
     /// ```
-    /// assert_eq!(falzheod::Refusal::Reference.number(), 7);
+    /// assert_eq!(falzheod::Refusal::Reference { at: 40 }.number(), 7);
     /// assert_eq!(falzheod::Refusal::NoRoom.number(), 10);
     /// ```
     pub fn number(self) -> u32 {
@@ -67,7 +73,7 @@ impl Refusal {
             Refusal::NoRoot => 4,
             Refusal::RootName => 5,
             Refusal::ElementInText => 6,
-            Refusal::Reference => 7,
+            Refusal::Reference { .. } => 7,
             Refusal::Token => 8,
             Refusal::IllFormed { .. } => 9,
             Refusal::NoRoom => 10,
@@ -77,9 +83,9 @@ impl Refusal {
         }
     }
 
-    /// The refusal of a number; `ill_formed` tells the row and the cause of a 9. The
-    /// library's contracts leave no other number.
-    pub(crate) fn of(number: u32, ill_formed: impl FnOnce() -> Refusal) -> Refusal {
+    /// The refusal of a number; `at` is the place of a 7, and `ill_formed` tells the row
+    /// and the cause of a 9. The library's contracts leave no other number.
+    pub(crate) fn of(number: u32, at: usize, ill_formed: impl FnOnce() -> Refusal) -> Refusal {
         match number {
             1 => Refusal::Table,
             2 => Refusal::Sheet,
@@ -87,7 +93,7 @@ impl Refusal {
             4 => Refusal::NoRoot,
             5 => Refusal::RootName,
             6 => Refusal::ElementInText,
-            7 => Refusal::Reference,
+            7 => Refusal::Reference { at },
             8 => Refusal::Token,
             9 => ill_formed(),
             10 => Refusal::NoRoom,
@@ -108,7 +114,7 @@ impl fmt::Display for Refusal {
             Refusal::NoRoot => "there is no root element",
             Refusal::RootName => "the root has another name than the sheet says",
             Refusal::ElementInText => "an element stands where text is wanted",
-            Refusal::Reference => "a reference is bad",
+            Refusal::Reference { at } => return write!(f, "the reference at byte {at} is bad"),
             Refusal::Token => "a token error where text is wanted",
             Refusal::IllFormed { row, cause } => {
                 return write!(f, "ill-formed at row {row}: {cause}")

@@ -8,10 +8,12 @@
 //! length is 0; what a function writes overlaps nothing else that is lent to it.
 //!
 //! ```
-//! let text = b"&lt;";
-//! // SAFETY: the pointer is that of a live slice, with its length.
-//! let number = unsafe { falzheod::sys::falzheod_validate_references(text.as_ptr(), text.len()) };
-//! assert_eq!(number, 0);
+//! let (text, mut place) = (b"&lt;&zz;", 0);
+//! // SAFETY: the pointers are those of a live slice, with its length, and of a variable.
+//! let number = unsafe {
+//!     falzheod::sys::falzheod_validate_references(text.as_ptr(), text.len(), &mut place)
+//! };
+//! assert_eq!((number, place), (7, 4));
 //! ```
 #![allow(unsafe_code)]
 
@@ -19,19 +21,21 @@ use crate::lent::{self, Entry, Lent};
 use crate::{row, Row, Settings};
 
 extern "C" {
-    /// Replaces references. Answers 0, 7 or 10 and sets `length`.
+    /// Replaces references. Answers 0, 7 or 10 and sets `length` and `place`.
     pub fn falzheod_unescape(
         text: *const u8,
         text_len: usize,
         out: *mut u8,
         out_len: usize,
         length: *mut usize,
+        place: *mut usize,
     ) -> u32;
-    /// Tests references. Answers 0 or 7.
-    pub fn falzheod_validate_references(text: *const u8, text_len: usize) -> u32;
+    /// Tests references. Answers 0 or 7 and sets `place`.
+    pub fn falzheod_validate_references(text: *const u8, text_len: usize, place: *mut usize)
+        -> u32;
     /// Tests UTF-8. Answers 1 or 0.
     pub fn falzheod_is_utf8(text: *const u8, text_len: usize) -> u32;
-    /// Tests a token table. Answers 0, 1 or 9 and sets `row` and `cause`.
+    /// Tests a token table. Answers 0, 1 or 9 and sets `row`, `cause` and `place`.
     pub fn falzheod_drain(
         body: *const u8,
         body_len: usize,
@@ -40,6 +44,7 @@ extern "C" {
         end: u32,
         row: *mut usize,
         cause: *mut u32,
+        place: *mut usize,
     ) -> u32;
     /// Reads a structure by its sheet.
     /// Answers a number and sets `count` and `length`.
@@ -82,7 +87,7 @@ extern "C" {
         length: *mut usize,
     ) -> u32;
     /// Reads a map.
-    /// Answers a number and sets `count` and `length`.
+    /// Answers a number and sets `count`, `length` and `place`.
     pub fn falzheod_read_map(
         body: *const u8,
         body_len: usize,
@@ -100,9 +105,10 @@ extern "C" {
         texts_len: usize,
         count: *mut usize,
         length: *mut usize,
+        place: *mut usize,
     ) -> u32;
     /// Reads a list of strings.
-    /// Answers a number and sets `count` and `length`.
+    /// Answers a number and sets `count`, `length` and `place`.
     pub fn falzheod_read_string_list(
         body: *const u8,
         body_len: usize,
@@ -120,8 +126,10 @@ extern "C" {
         texts_len: usize,
         count: *mut usize,
         length: *mut usize,
+        place: *mut usize,
     ) -> u32;
-    /// Reads a body as a boolean. Answers a number; sets `value` where it is 0.
+    /// Reads a body as a boolean. Answers a number and sets `place`; sets
+    /// `value` where it is 0.
     pub fn falzheod_read_boolean(
         body: *const u8,
         body_len: usize,
@@ -131,8 +139,10 @@ extern "C" {
         flags: u32,
         depth: u32,
         value: *mut u32,
+        place: *mut usize,
     ) -> u32;
-    /// Reads a body as an integer. Answers a number; sets `value` where it is 0.
+    /// Reads a body as an integer. Answers a number and sets `place`; sets
+    /// `value` where it is 0.
     pub fn falzheod_read_integer(
         body: *const u8,
         body_len: usize,
@@ -142,8 +152,9 @@ extern "C" {
         flags: u32,
         depth: u32,
         value: *mut i32,
+        place: *mut usize,
     ) -> u32;
-    /// Reads a body as a string. Answers a number and sets `length`.
+    /// Reads a body as a string. Answers a number and sets `length` and `place`.
     pub fn falzheod_read_string(
         body: *const u8,
         body_len: usize,
@@ -155,6 +166,7 @@ extern "C" {
         out: *mut u8,
         out_len: usize,
         length: *mut usize,
+        place: *mut usize,
     ) -> u32;
     /// Reads a text as a boolean. Answers 0 or 11; sets `value` where it is 0.
     pub fn falzheod_text_boolean(text: *const u8, text_len: usize, value: *mut u32) -> u32;
@@ -203,9 +215,9 @@ pub(crate) fn numbers(rows: &[Row]) -> &[u32] {
     unsafe { std::slice::from_raw_parts(rows.as_ptr().cast(), rows.len() * row::NUMBERS) }
 }
 
-/// The number and the length.
-pub(crate) fn unescape(text: &[u8], out: &mut [u8]) -> (u32, usize) {
-    let mut length = 0;
+/// The number, the place and the length.
+pub(crate) fn unescape(text: &[u8], out: &mut [u8]) -> (u32, usize, usize) {
+    let (mut length, mut place) = (0, 0);
     // SAFETY: as said above.
     let number = unsafe {
         falzheod_unescape(
@@ -214,14 +226,18 @@ pub(crate) fn unescape(text: &[u8], out: &mut [u8]) -> (u32, usize) {
             out.as_mut_ptr(),
             out.len(),
             &mut length,
+            &mut place,
         )
     };
-    (number, length)
+    (number, place, length)
 }
 
-pub(crate) fn validate_references(text: &[u8]) -> u32 {
+/// The number and the place.
+pub(crate) fn validate_references(text: &[u8]) -> (u32, usize) {
+    let mut place = 0;
     // SAFETY: as said above.
-    unsafe { falzheod_validate_references(text.as_ptr(), text.len()) }
+    let number = unsafe { falzheod_validate_references(text.as_ptr(), text.len(), &mut place) };
+    (number, place)
 }
 
 pub(crate) fn is_utf8(text: &[u8]) -> bool {
@@ -229,9 +245,9 @@ pub(crate) fn is_utf8(text: &[u8]) -> bool {
     unsafe { falzheod_is_utf8(text.as_ptr(), text.len()) == 1 }
 }
 
-/// The number, the row and the cause.
-pub(crate) fn drain(body: &[u8], rows: &[u32], end: u32) -> (u32, usize, u32) {
-    let (mut row, mut cause) = (0, 0);
+/// The number, the row, the cause and the place.
+pub(crate) fn drain(body: &[u8], rows: &[u32], end: u32) -> (u32, usize, u32, usize) {
+    let (mut row, mut cause, mut place) = (0, 0, 0);
     // SAFETY: as said above.
     let number = unsafe {
         falzheod_drain(
@@ -242,9 +258,10 @@ pub(crate) fn drain(body: &[u8], rows: &[u32], end: u32) -> (u32, usize, u32) {
             end,
             &mut row,
             &mut cause,
+            &mut place,
         )
     };
-    (number, row, cause)
+    (number, row, cause, place)
 }
 
 /// The four readings by a sheet.
@@ -256,7 +273,7 @@ pub(crate) enum Shape {
     StringList,
 }
 
-/// The number, and how many entries and text bytes were written.
+/// The number, the place, and how many entries and text bytes were written.
 pub(crate) fn read(
     shape: Shape,
     lent: Lent<'_>,
@@ -265,42 +282,38 @@ pub(crate) fn read(
     depth: u32,
     entries: &mut [Entry],
     texts: &mut [u8],
-) -> (u32, lent::Written) {
-    let call = match shape {
-        Shape::Struct => falzheod_read_struct,
-        Shape::List => falzheod_read_list,
-        Shape::Map => falzheod_read_map,
-        Shape::StringList => falzheod_read_string_list,
+) -> (u32, usize, lent::Written) {
+    let (mut written, mut place) = (lent::Written::default(), 0);
+    // what all four are lent, and then what only some are
+    macro_rules! call {
+        ($function:ident $(, $more:expr)?) => {
+            // SAFETY: as said above; an entry is `lent::NUMBERS` numbers without padding
+            // (`repr(C)`, and its size is asserted beside it).
+            unsafe {
+                $function(
+                    lent.body.as_ptr(), lent.body.len(),
+                    lent.rows.as_ptr(), lent.rows.len(), lent.end,
+                    sheet.as_ptr(), sheet.len(),
+                    settings.flags(), settings.max_depth, depth,
+                    entries.as_mut_ptr().cast(), entries.len() * lent::NUMBERS,
+                    texts.as_mut_ptr(), texts.len(),
+                    &mut written.count, &mut written.length, $($more)?
+                )
+            }
+        };
+    }
+    let number = match shape {
+        Shape::Struct => call!(falzheod_read_struct),
+        Shape::List => call!(falzheod_read_list),
+        Shape::Map => call!(falzheod_read_map, &mut place),
+        Shape::StringList => call!(falzheod_read_string_list, &mut place),
     };
-    let mut written = lent::Written::default();
-    // SAFETY: as said above; an entry is `lent::NUMBERS` numbers without padding
-    // (`repr(C)`, and its size is asserted beside it).
-    let number = unsafe {
-        call(
-            lent.body.as_ptr(),
-            lent.body.len(),
-            lent.rows.as_ptr(),
-            lent.rows.len(),
-            lent.end,
-            sheet.as_ptr(),
-            sheet.len(),
-            settings.flags(),
-            settings.max_depth,
-            depth,
-            entries.as_mut_ptr().cast(),
-            entries.len() * lent::NUMBERS,
-            texts.as_mut_ptr(),
-            texts.len(),
-            &mut written.count,
-            &mut written.length,
-        )
-    };
-    (number, written)
+    (number, place, written)
 }
 
-/// The number, and the value where it is 0.
-pub(crate) fn read_boolean(lent: Lent<'_>, settings: Settings, depth: u32) -> (u32, bool) {
-    let mut value = 0;
+/// The number, the place, and the value where the number is 0.
+pub(crate) fn read_boolean(lent: Lent<'_>, settings: Settings, depth: u32) -> (u32, usize, bool) {
+    let (mut value, mut place) = (0, 0);
     // SAFETY: as said above.
     let number = unsafe {
         falzheod_read_boolean(
@@ -312,14 +325,15 @@ pub(crate) fn read_boolean(lent: Lent<'_>, settings: Settings, depth: u32) -> (u
             settings.flags(),
             depth,
             &mut value,
+            &mut place,
         )
     };
-    (number, value == 1)
+    (number, place, value == 1)
 }
 
-/// The number, and the value where it is 0.
-pub(crate) fn read_integer(lent: Lent<'_>, settings: Settings, depth: u32) -> (u32, i32) {
-    let mut value = 0;
+/// The number, the place, and the value where the number is 0.
+pub(crate) fn read_integer(lent: Lent<'_>, settings: Settings, depth: u32) -> (u32, usize, i32) {
+    let (mut value, mut place) = (0, 0);
     // SAFETY: as said above.
     let number = unsafe {
         falzheod_read_integer(
@@ -331,19 +345,20 @@ pub(crate) fn read_integer(lent: Lent<'_>, settings: Settings, depth: u32) -> (u
             settings.flags(),
             depth,
             &mut value,
+            &mut place,
         )
     };
-    (number, value)
+    (number, place, value)
 }
 
-/// The number and the length.
+/// The number, the place and the length.
 pub(crate) fn read_string(
     lent: Lent<'_>,
     settings: Settings,
     depth: u32,
     out: &mut [u8],
-) -> (u32, usize) {
-    let mut length = 0;
+) -> (u32, usize, usize) {
+    let (mut length, mut place) = (0, 0);
     // SAFETY: as said above.
     let number = unsafe {
         falzheod_read_string(
@@ -357,9 +372,10 @@ pub(crate) fn read_string(
             out.as_mut_ptr(),
             out.len(),
             &mut length,
+            &mut place,
         )
     };
-    (number, length)
+    (number, place, length)
 }
 
 /// The number and the length.

@@ -4,7 +4,7 @@
 mod common;
 
 use common::{body, Random};
-use falzheod::{check, drain, table, CheckError, Limit, Place, Refusal};
+use falzheod::{check, drain, table, Cause, CheckError, Limit, Place, Refusal};
 
 fn says(body: impl AsRef<[u8]>) -> String {
     check(body.as_ref()).unwrap_err().to_string()
@@ -206,6 +206,8 @@ fn references_at_their_place() {
         ("<a>&&lt;</a>", 3, "&"),
         ("<a>&amp&lt;</a>", 3, "&amp"),
         ("<a>a&b &lt;</a>", 4, "&b"),
+        ("<a>&#+65;&zz;</a>", 3, "&#+65;"),
+        ("<a>µ\n &quot;\n &</a>", 15, "&"),
     ] {
         let error = check(body.as_bytes()).unwrap_err();
         let expected = CheckError::Reference {
@@ -213,6 +215,7 @@ fn references_at_their_place() {
             reference: reference.to_string(),
         };
         assert_eq!(error, expected, "{body}");
+        assert_eq!(error.cause(), Some(Cause::Reference { at }));
     }
     let long = format!("<a>&{};</a>", "n".repeat(500));
     let CheckError::Reference { reference, .. } = check(long.as_bytes()).unwrap_err() else {

@@ -69,9 +69,28 @@ fn repeated_comes_before_reference() {
     ];
     assert_eq!(drain(body, &rows, 16), ill_formed(2, Cause::Repeated));
     let other = br#"<r x="1" y="&"/>"#;
-    assert_eq!(drain(other, &rows, 16), ill_formed(2, Cause::Reference));
+    let reference = Cause::Reference { at: 12 };
+    assert_eq!(drain(other, &rows, 16), ill_formed(2, reference));
     let good = br#"<r x="1" y="2"/>"#;
     assert_eq!(drain(good, &rows, 16), Ok(()));
+}
+
+/// The first `&` that validation refuses, counted in the body: unescaping takes `&#+65;`.
+#[test]
+fn a_reference_has_its_place_in_the_body() {
+    let bad = |row, at| ill_formed(row, Cause::Reference { at });
+    let body = br#"<r x="&lt;&#+65;&zz;"/>"#;
+    let rows = [named(1, 1, 1, 2), attribute(3, 6, 21), plain(5, 23)];
+    assert_eq!(drain(body, &rows, 23), bad(1, 10));
+    let text = Row {
+        value_start: 3,
+        value_len: 8,
+        ..plain(6, 11)
+    };
+    let rows = [named(1, 1, 1, 2), plain(3, 3), text, named(4, 13, 1, 15)];
+    assert_eq!(drain(b"<r>&gt;1& &</r>", &rows, 15), bad(2, 8));
+    assert_eq!(drain(b"<r>&gt;abc&</r>", &rows, 15), bad(2, 10));
+    assert_eq!(drain(b"<r>&gt;abcd</r>", &rows, 15), Ok(()));
 }
 
 #[test]
@@ -99,7 +118,7 @@ fn refusals_speak() {
         Cause::Mismatched,
         Cause::Unclosed,
         Cause::Repeated,
-        Cause::Reference,
+        Cause::Reference { at: 40 },
     ];
     for (number, cause) in (1..).zip(causes) {
         assert_eq!(cause.number(), number);
@@ -107,6 +126,8 @@ fn refusals_speak() {
         assert_eq!(refusal.number(), 9);
         assert_eq!(refusal.to_string(), format!("ill-formed at row 7: {cause}"));
     }
+    let bad = Cause::Reference { at: 40 };
+    assert_eq!(bad.to_string(), "the reference at byte 40 is bad");
     assert_eq!(Refusal::Table.number(), 1);
     assert_eq!(Refusal::Table.to_string(), "the token table breaks a rule");
 }

@@ -15,14 +15,16 @@ const EDGES: [(&str, bool, Option<&[u8]>); 8] = [
     ("a&b", false, None),
 ];
 
+/// The refusal of a text whose first `&` fails.
+fn first(text: &str) -> Refusal {
+    let at = text.find('&').unwrap();
+    Refusal::Reference { at }
+}
+
 #[test]
 fn edges_of_validate() {
     for (text, valid, _) in EDGES {
-        let expected = if valid {
-            Ok(())
-        } else {
-            Err(Refusal::Reference)
-        };
+        let expected = if valid { Ok(()) } else { Err(first(text)) };
         assert_eq!(validate_references(text.as_bytes()), expected, "{text}");
     }
 }
@@ -30,7 +32,7 @@ fn edges_of_validate() {
 #[test]
 fn edges_of_unescape() {
     for (text, _, result) in EDGES {
-        let expected = result.map(<[u8]>::to_vec).ok_or(Refusal::Reference);
+        let expected = result.map(<[u8]>::to_vec).ok_or(first(text));
         assert_eq!(unescape_to_vec(text.as_bytes()), expected, "{text}");
     }
 }
@@ -42,25 +44,43 @@ fn five_names_and_no_other() {
     for bad in [
         "&LT;", "&;", "&nbsp;", "&lt", "& lt;", "&amp&lt;", "&#;", "&#x;", "&#X41;",
     ] {
-        assert_eq!(
-            unescape_to_vec(bad.as_bytes()),
-            Err(Refusal::Reference),
-            "{bad}"
-        );
-        assert_eq!(
-            validate_references(bad.as_bytes()),
-            Err(Refusal::Reference),
-            "{bad}"
-        );
+        let text = bad.as_bytes();
+        assert_eq!(unescape_to_vec(text), Err(first(bad)), "{bad}");
+        assert_eq!(validate_references(text), Err(first(bad)), "{bad}");
+    }
+}
+
+/// Where a text fails validation and where unescaping, which takes more: in bytes.
+#[test]
+fn places_of_both() {
+    for (text, invalid, refused) in [
+        ("&#+65;&zz;", 0, 6),
+        ("&#0; &#xD800;", 0, 5),
+        ("a &lt; b &zz; c &yy;", 9, 9),
+        ("µm & µm", 4, 4),
+        ("forty\nlines\n&lt;\n&amp &lt;", 17, 17),
+        ("&amp;&amp;&", 10, 10),
+    ] {
+        let bytes = text.as_bytes();
+        let at = |at| Refusal::Reference { at };
+        assert_eq!(validate_references(bytes), Err(at(invalid)), "{text}");
+        assert_eq!(unescape_to_vec(bytes), Err(at(refused)), "{text}");
+    }
+}
+
+#[test]
+fn places_behind_long_texts() {
+    for at in (0..200).chain([65_535, 70_000]) {
+        let text = "x".repeat(at) + "&";
+        assert_eq!(validate_references(text.as_bytes()), Err(first(&text)));
+        assert_eq!(unescape(text.as_bytes(), &mut []), Err(first(&text)));
     }
 }
 
 #[test]
 fn the_bad_reference_comes_before_room() {
-    assert_eq!(
-        unescape(b"long enough &zz;", &mut []),
-        Err(Refusal::Reference)
-    );
+    let bad = Refusal::Reference { at: 12 };
+    assert_eq!(unescape(b"long enough &zz;", &mut []), Err(bad));
     assert_eq!(unescape(b"long enough &lt;", &mut []), Err(Refusal::NoRoom));
 }
 
@@ -115,11 +135,9 @@ fn utf8_is_what_std_says() {
 
 #[test]
 fn refusals_speak() {
-    assert_eq!(Refusal::Reference.to_string(), "a reference is bad");
-    assert_eq!(
-        (Refusal::Reference.number(), Refusal::NoRoom.number()),
-        (7, 10)
-    );
+    let bad = Refusal::Reference { at: 40 };
+    assert_eq!(bad.to_string(), "the reference at byte 40 is bad");
+    assert_eq!((bad.number(), Refusal::NoRoom.number()), (7, 10));
     let error: Box<dyn std::error::Error> = Box::new(Refusal::NoRoom);
     assert_eq!(
         error.to_string(),

@@ -62,7 +62,7 @@ fn same_as_lent(upload: &Upload<'_>, sheet: Sheet<'_>, settings: Settings) -> Op
             Entry::Piece { .. } => (2, part(upload.body(), raw.start, raw.len)),
             Entry::Group { .. } => (3, part(&texts, raw.start, raw.len)),
             Entry::Failed { refusal, .. } => {
-                assert_eq!(refusal.number(), raw.start);
+                assert_eq!((refusal.number(), 0), (raw.start, raw.len));
                 (4, Vec::new())
             }
         };

@@ -74,7 +74,16 @@ fn uploads_whole_and_cut() {
 fn what_is_ill_formed() {
     assert_eq!(drained(b"<a><b></a></b>"), ill_formed(4, Cause::Mismatched));
     assert_eq!(drained(b"<a>"), ill_formed(2, Cause::Unclosed));
-    assert_eq!(drained(b"<a>&zz;</a>"), ill_formed(2, Cause::Reference));
+    let reference = |at| Cause::Reference { at };
+    assert_eq!(drained(b"<a>&zz;</a>"), ill_formed(2, reference(3)));
+    assert_eq!(
+        drained(b"<a>&lt;\xC2\xB5&</a>"),
+        ill_formed(2, reference(9))
+    );
+    assert_eq!(
+        drained(b"<a x='1' y='&#+5;'/>"),
+        ill_formed(2, reference(12))
+    );
     assert_eq!(drained(b"<a x='' x=''/>"), ill_formed(2, Cause::Repeated));
     assert_eq!(drained(b"<a/><b/>"), ill_formed(2, Cause::Token));
 }

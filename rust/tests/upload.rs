@@ -43,6 +43,23 @@ fn an_upload_is_read() {
     assert_eq!(upload.lent().rows.len(), 40);
 }
 
+/// Its place is the drain's, and no more of it is shown than stands in the text.
+#[test]
+fn a_bad_reference() {
+    let body = b"<a>&lt;1&</a>";
+    let text = Row {
+        value_start: 3,
+        value_len: 6,
+        ..plain(6, 9)
+    };
+    let rows = [named(1, 1, 2), plain(3, 3), text, named(4, 11, 13)];
+    let reference = CheckError::Reference {
+        at: Place::of(body, 8),
+        reference: "&".to_string(),
+    };
+    assert_eq!(Upload::of_table(body, &rows[..], 13), Err(reference));
+}
+
 #[test]
 fn what_is_no_upload() {
     let refused = |body: &[u8], rows: &[Row], end: u32| {

@@ -1,12 +1,15 @@
 //! Asks the static library and the Rust the same questions and compares every
-//! answer: numbers, lengths, bytes written and bytes left alone.
+//! answer: numbers, lengths, bytes written and bytes left alone. The place of a 7, which
+//! the Rust does not tell, stands beside the model's, of every text.
 //!
 //!     compare [--texts N] [--length L] [--seed S]
 //!
-//! N random texts (500000) and every text of up to L bytes (6). The last line is
-//! `N passed, M failed`, counted in groups; the status is 1 where one failed.
+//! N random texts (500000) and every text of up to L bytes (6). At the end stand the
+//! counts of places; too few are a group that failed. The last line is `N passed, M
+//! failed`, counted in groups; the status is 1 where one failed.
 
-use compare::check::Checker;
+use compare::check::{Checker, Counts};
+use compare::model::{places, Places};
 use compare::random::Random;
 use compare::tally::{finish, Tally};
 use compare::texts::{self, BAD, GOOD, LAX, NOT_UTF8, PLAIN};
@@ -89,20 +92,83 @@ impl Group {
         self.tally.count(problem, || hex(text));
     }
 
-    /// Says what was found, and whether all were alike.
-    fn end(self) -> bool {
-        match (self.checker.taken, self.checker.valid) {
-            (0, 0) => self.tally.end(""),
-            (taken, valid) => {
-                let remark = format!("unescape takes {taken}, validate {valid}");
-                self.tally.end(&remark)
-            }
+    /// Says what was found.
+    fn end(self) -> Ended {
+        let counts = self.checker.counts;
+        let remark = match counts.texts {
+            0 => String::new(),
+            _ => format!(
+                "unescape takes {}, validate {}; {} fail both at two places",
+                counts.taken, counts.valid, counts.apart
+            ),
+        };
+        Ended {
+            alike: self.tally.end(&remark),
+            counts,
         }
     }
 }
 
+/// A group that has ended: whether all was alike, and what was counted.
+struct Ended {
+    alike: bool,
+    counts: Counts,
+}
+
+/// The least texts with a place, and of each sort of them.
+const LEAST: u64 = 1_000_000;
+const LEAST_OF_A_SORT: u64 = 50_000;
+
+/// Says how many places were compared, and whether they are enough.
+fn sizes(ended: &[Ended]) -> bool {
+    let mut sum = Counts::default();
+    ended.iter().for_each(|group| sum.merge(&group.counts));
+    let (unescape, validate) = (sum.texts - sum.taken, sum.texts - sum.valid);
+    // what validate takes unescape takes too
+    let alone = sum.taken - sum.valid;
+    println!(
+        "places: {} texts, {unescape} with a place of unescape, {validate} of validate; \
+         {} at two places, {alone} of validate alone",
+        sum.texts, sum.apart
+    );
+    let enough = unescape >= LEAST && sum.apart.min(alone) >= LEAST_OF_A_SORT;
+    if !enough {
+        println!("TOO FEW: places: {LEAST} are wanted, and {LEAST_OF_A_SORT} of each sort");
+    }
+    enough
+}
+
+/// Texts and their places, of unescape and of validate, as a person reads them from
+/// change request 1: the model is held to these.
+const BY_HAND: [(&str, Option<usize>, Option<usize>); 12] = [
+    ("", None, None),
+    ("&lt;&#65;", None, None),
+    ("a&b", Some(1), Some(1)),
+    ("&#+65;&zz;", Some(6), Some(0)),
+    ("&zz;&#+65;", Some(0), Some(0)),
+    ("&lt;&#0;", None, Some(4)),
+    ("&lt;&amp&gt;&", Some(4), Some(4)),
+    ("&&lt;", Some(0), Some(0)),
+    ("é;&#xD800;&", Some(3), Some(3)),
+    ("&#xFFFE;&#x+41;&#x110000;&lt", Some(15), Some(0)),
+    ("&amp;zz; &amp;#x+;&apos", Some(18), Some(18)),
+    ("7 < 8 & 9", Some(6), Some(6)),
+];
+
+fn by_hand() -> Ended {
+    let mut group = Group::new("places by hand");
+    for (text, unescape, validate) in BY_HAND {
+        group.both(text.as_bytes());
+        let wanted = Places { unescape, validate };
+        let model = places(text.as_bytes());
+        let problem = (model != wanted).then(|| format!("the model says {model:?}"));
+        group.count(text.as_bytes(), problem);
+    }
+    group.end()
+}
+
 /// Every text of up to `bytes` bytes over `SYMBOLS`.
-fn every_text(bytes: usize) -> bool {
+fn every_text(bytes: usize) -> Ended {
     fn longer(group: &mut Group, text: &mut String, left: usize) {
         group.rust(text);
         for symbol in SYMBOLS {
@@ -122,7 +188,7 @@ fn every_text(bytes: usize) -> bool {
 }
 
 /// Every text of up to `count` pieces.
-fn every_row_of_pieces(count: usize) -> bool {
+fn every_row_of_pieces(count: usize) -> Ended {
     fn longer(group: &mut Group, text: &mut String, left: usize) {
         group.rust(text);
         for piece in PIECES.iter().filter(|_| left > 0) {
@@ -139,8 +205,30 @@ fn every_row_of_pieces(count: usize) -> bool {
     group.end()
 }
 
+/// Every text of up to `count` references, good, lax and bad, alone and parted.
+fn every_row_of_references(count: usize) -> Ended {
+    fn longer(group: &mut Group, text: &mut String, parted: &str, left: usize) {
+        group.rust(text);
+        for reference in texts::references().filter(|_| left > 0) {
+            let length = text.len();
+            text.push_str(parted);
+            text.push_str(reference);
+            longer(group, text, parted, left - 1);
+            text.truncate(length);
+        }
+    }
+    let mut group = Group::new(format!(
+        "every text of up to {count} of {} references",
+        texts::references().count()
+    ));
+    for parted in ["", "7µ;"] {
+        longer(&mut group, &mut String::new(), parted, count);
+    }
+    group.end()
+}
+
 /// Every code from 0 to past the last, in each spelling.
-fn every_code() -> bool {
+fn every_code() -> Ended {
     let mut group = Group::new("every code, decimal and hexadecimal");
     for code in 0..=0x1100FF {
         group.rust(&texts::coded(code, 0, ""));
@@ -150,7 +238,7 @@ fn every_code() -> bool {
 }
 
 /// Every byte in the place of each byte of each reference, and before it.
-fn every_byte() -> bool {
+fn every_byte() -> Ended {
     let mut group = Group::new("every byte at every place of a reference");
     for reference in texts::references() {
         for at in 0..reference.len() {
@@ -169,7 +257,7 @@ fn every_byte() -> bool {
 
 /// One reference behind 0 to 200 bytes and before some, so that it stands at
 /// every place of a block of 16 or 64 bytes and across its edge.
-fn every_offset() -> bool {
+fn every_offset() -> Ended {
     let mut group = Group::new("one reference at every offset to 200");
     let behind = [0, 1, 2, 15, 16, 17, 63, 64, 65, 130];
     for plain in PLAIN {
@@ -185,7 +273,7 @@ fn every_offset() -> bool {
 }
 
 /// Two references with 0 to 200 bytes between them, the second of any kind.
-fn every_distance() -> bool {
+fn every_distance() -> Ended {
     let mut group = Group::new("two references at every distance to 200");
     for plain in PLAIN {
         let run = plain.repeat(200);
@@ -200,7 +288,7 @@ fn every_distance() -> bool {
 }
 
 /// Random and damaged texts, `count` of them UTF-8 and so put to the Rust.
-fn random_texts(count: u64, seed: u64) -> bool {
+fn random_texts(count: u64, seed: u64) -> Ended {
     let mut group = Group::new("random and damaged texts");
     let mut random = Random::new(seed);
     let mut asked = 0;
@@ -214,7 +302,7 @@ fn random_texts(count: u64, seed: u64) -> bool {
 }
 
 /// Random texts that are not UTF-8, beside the model.
-fn random_bytes(count: u64, seed: u64) -> bool {
+fn random_bytes(count: u64, seed: u64) -> Ended {
     let mut group = Group::new("random texts that are not UTF-8, beside the model");
     let mut random = Random::new(seed ^ 0xFF);
     for _ in 0..count {
@@ -225,7 +313,7 @@ fn random_bytes(count: u64, seed: u64) -> bool {
 
 /// is_utf8 on every sequence of up to three bytes, and on those of four bytes that
 /// are on either side of a bound of table 3-7.
-fn short_utf8() -> bool {
+fn short_utf8() -> Ended {
     let mut group =
         Group::new("is_utf8 on every sequence of up to 3 bytes, and of 4 at the bounds");
     group.utf8(b"");
@@ -253,7 +341,7 @@ fn short_utf8() -> bool {
 }
 
 /// is_utf8 on long texts with one character, whole or damaged, at each offset.
-fn long_utf8() -> bool {
+fn long_utf8() -> Ended {
     let mut group = Group::new("is_utf8 on long texts with one character at every offset to 200");
     let whole = [
         "\x7F",
@@ -316,9 +404,11 @@ fn main() {
         LAX.len(),
         BAD.len()
     );
-    finish(&[
+    let ended = [
+        by_hand(),
         every_text(length),
         every_row_of_pieces(length.saturating_sub(1)),
+        every_row_of_references(3),
         every_code(),
         every_byte(),
         every_offset(),
@@ -327,5 +417,8 @@ fn main() {
         random_bytes(count / 4, seed),
         short_utf8(),
         long_utf8(),
-    ]);
+    ];
+    let mut groups: Vec<bool> = ended.iter().map(|group| group.alike).collect();
+    groups.push(sizes(&ended));
+    finish(&groups);
 }

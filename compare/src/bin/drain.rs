@@ -1,19 +1,24 @@
 //! Asks the static library, the Rust and document 01's rules about token tables and
-//! compares every answer of the drain: number, row and cause.
+//! compares every answer of the drain: number, row and cause. The place of a bad
+//! reference, which the Rust does not tell, stands beside the rules', of every table.
 //!
 //!     drain [--full] [--seed S]
 //!
 //! First tables of bodies, beside the Rust; then tables that no tokenizer made,
-//! beside the rules (src/rules.rs). The last line is `N passed, M failed`, counted
-//! in groups; the status is 1 where one failed.
+//! beside the rules (src/rules.rs). At the end stand the counts of places; too few are a
+//! group that failed. The last line is `N passed, M failed`, counted in groups; the
+//! status is 1 where one failed.
 
 use compare::bodies::{self, nested, start_tag};
-use compare::drains::{shown, Drainer};
+use compare::drains::{shown, Counts, Drainer};
 use compare::lent::{self, Made};
 use compare::named;
 use compare::random::Random;
-use compare::rules::{Lent, Rule, RULES};
+use compare::reader::Kind;
+use compare::rules::{self, Lent, Rule, RULES};
+use compare::shaped;
 use compare::tally::{finish, Tally};
+use compare::texts;
 use oracle::hex::hex;
 
 /// Bodies in rows of these: tags that match and do not, tags cut short, text with
@@ -89,13 +94,23 @@ const LONG: usize = 400;
 struct Group {
     tally: Tally,
     drainer: Drainer,
+    of_bodies: bool,
 }
 
 impl Group {
-    fn new(name: impl Into<String>, things: &'static str) -> Self {
+    fn of_bodies(name: impl Into<String>) -> Self {
         Group {
-            tally: Tally::new(name, things),
+            tally: Tally::new(name, "bodies"),
             drainer: Drainer::default(),
+            of_bodies: true,
+        }
+    }
+
+    fn of_tables(name: impl Into<String>) -> Self {
+        Group {
+            tally: Tally::new(name, "tables"),
+            drainer: Drainer::default(),
+            of_bodies: false,
         }
     }
 
@@ -109,13 +124,68 @@ impl Group {
         self.tally.count(problem, || shown(lent));
     }
 
-    fn end(self) -> bool {
-        self.tally.end(&self.drainer.answers())
+    fn end(self) -> Ended {
+        let counts = self.drainer.counts;
+        Ended {
+            alike: self.tally.end(&counts.shown()),
+            of_bodies: self.of_bodies,
+            counts,
+        }
     }
 }
 
-fn random_bodies(count: u64, seed: u64) -> bool {
-    let mut group = Group::new("random and damaged bodies", "bodies");
+/// A group that has ended: whether all was alike, and what was counted.
+struct Ended {
+    alike: bool,
+    of_bodies: bool,
+    counts: Counts,
+}
+
+/// The least places of bodies, and of each sort of them.
+const LEAST: u64 = 200_000;
+const LEAST_OF_A_SORT: u64 = 50_000;
+
+/// Says how many places were compared, and whether they are enough.
+fn sizes(ended: &[Ended]) -> bool {
+    let mut sum = Counts::default();
+    for group in ended.iter().filter(|group| group.of_bodies) {
+        sum.merge(&group.counts);
+    }
+    println!("places: {} bodies; {}", sum.all(), sum.shown());
+    let least_sort = sum.in_attributes.min(sum.in_texts).min(sum.behind);
+    let enough = sum.in_attributes + sum.in_texts >= LEAST && least_sort >= LEAST_OF_A_SORT;
+    if !enough {
+        println!("TOO FEW: places: {LEAST} are wanted, and {LEAST_OF_A_SORT} of each sort");
+    }
+    enough
+}
+
+/// Bodies and their places, as a person reads them from change request 1: the rules are
+/// held to these.
+const BY_HAND: [(&str, usize); 7] = [
+    ("<a>&#+65;&zz;</a>", 3),
+    ("<a>&lt;&#+65;&zz;</a>", 7),
+    ("<a x='1' y='&amp;&'/>", 17),
+    ("<a><!--&--><![CDATA[&]]>é&</a>", 26),
+    ("<a>&zz;&</b>", 3),
+    ("<a></b>&zz;", 0),
+    ("<a x='' x='&'/>", 0),
+];
+
+fn by_hand() -> Ended {
+    let mut group = Group::of_bodies("places by hand");
+    for (body, wanted) in BY_HAND {
+        group.body(body.as_bytes());
+        let made = Made::of(body.as_bytes());
+        let place = rules::place(made.lent(), rules::answer(made.lent()));
+        let problem = (place != wanted).then(|| format!("the rules say {place}, not {wanted}"));
+        group.tally.count(problem, || body.to_string());
+    }
+    group.end()
+}
+
+fn random_bodies(count: u64, seed: u64) -> Ended {
+    let mut group = Group::of_bodies("random and damaged bodies");
     let mut random = Random::new(seed);
     for _ in 0..count {
         group.body(&bodies::random(&mut random));
@@ -123,8 +193,41 @@ fn random_bodies(count: u64, seed: u64) -> bool {
     group.end()
 }
 
+/// Bodies with many references, for any reading.
+fn referring_bodies(count: u64, seed: u64) -> Ended {
+    let mut group = Group::of_bodies("bodies with references good, lax and bad");
+    let mut random = Random::new(seed ^ 0x26);
+    for _ in 0..count {
+        group.body(&a_referring_body(&mut random));
+    }
+    group.end()
+}
+
+fn a_referring_body(random: &mut Random) -> Vec<u8> {
+    let kinds = Kind::ALL.map(Some).into_iter().chain([None]);
+    let kind = kinds.cycle().nth(random.below(5)).flatten();
+    shaped::referring(kind, random)
+}
+
+/// Every three references in one element: one in an attribute, and two in a text behind
+/// what looks like bad ones and is no text.
+fn every_three_references() -> Ended {
+    let name = "every three references, one in an attribute and two in a text";
+    let mut group = Group::of_bodies(name);
+    for first in texts::references() {
+        for second in texts::references() {
+            for third in texts::references() {
+                let start = format!("<a x=\"&gt;{first}\" y='&lt;'>");
+                let text = format!("&#65;<![CDATA[&zz;]]><!--&-->µ{second}{third}");
+                group.body(format!("{start}{text}</a>").as_bytes());
+            }
+        }
+    }
+    group.end()
+}
+
 /// Every body of `before` and up to `count` of the snippets.
-fn every_body(before: &str, snippets: &[&str], count: usize) -> bool {
+fn every_body(before: &str, snippets: &[&str], count: usize) -> Ended {
     fn longer(group: &mut Group, body: &mut String, snippets: &[&str], left: usize) {
         group.body(body.as_bytes());
         for snippet in snippets.iter().filter(|_| left > 0) {
@@ -137,14 +240,14 @@ fn every_body(before: &str, snippets: &[&str], count: usize) -> bool {
         "every body of up to {count} of {} snippets behind `{before}`",
         snippets.len()
     );
-    let mut group = Group::new(name, "bodies");
+    let mut group = Group::of_bodies(name);
     longer(&mut group, &mut before.to_string(), snippets, count);
     group.end()
 }
 
 /// Bodies at each limit, one before it and one past it.
-fn limits_of_bodies() -> bool {
-    let mut group = Group::new("bodies at each limit and beside it", "bodies");
+fn limits_of_bodies() -> Ended {
+    let mut group = Group::of_bodies("bodies at each limit and beside it");
     for levels in 254..=258 {
         for inside in ["", "<b/>", "<b></b>", "t", "&"] {
             for closed in [levels, levels - 1, 0] {
@@ -179,8 +282,8 @@ fn limits_of_bodies() -> bool {
 }
 
 /// For each rule tables that break it alone, by name, and tables at a limit.
-fn named_tables() -> bool {
-    let mut group = Group::new("named tables, each breaking one rule or none", "tables");
+fn named_tables() -> Ended {
+    let mut group = Group::of_tables("named tables, each breaking one rule or none");
     let mut seen: Vec<Rule> = Vec::new();
     for (name, rule, made) in named::named() {
         let problem = group.drainer.breaking(made.lent(), rule);
@@ -199,7 +302,7 @@ fn named_tables() -> bool {
 }
 
 /// Every single change of the tables of some bodies, and of `count` random ones.
-fn every_change(count: usize, seed: u64) -> bool {
+fn every_change(count: usize, seed: u64) -> Ended {
     const BODIES: [&str; 12] = [
         "",
         "<a/>",
@@ -214,7 +317,7 @@ fn every_change(count: usize, seed: u64) -> bool {
         "<a x='1'",
         "<a>]]></a>",
     ];
-    let mut group = Group::new("every change of one thing in a table", "tables");
+    let mut group = Group::of_tables("every change of one thing in a table");
     let mut random = Random::new(seed ^ 0xC4);
     let short = std::iter::from_fn(|| Some(bodies::random(&mut random)))
         .filter(|body| body.len() <= SHORT)
@@ -226,15 +329,16 @@ fn every_change(count: usize, seed: u64) -> bool {
     group.end()
 }
 
-fn random_changes(count: u64, seed: u64) -> bool {
-    let mut group = Group::new(
-        "tables of random bodies with one to three changes",
-        "tables",
-    );
+fn random_changes(count: u64, seed: u64) -> Ended {
+    let mut group = Group::of_tables("tables of random bodies with one to three changes");
     let mut random = Random::new(seed ^ 0x1E);
     let mut asked = 0;
     while asked < count {
-        let body = bodies::random(&mut random);
+        let body = if random.chance(30) {
+            a_referring_body(&mut random)
+        } else {
+            bodies::random(&mut random)
+        };
         // the longest would take most of the time
         if body.len() > LONG {
             continue;
@@ -248,8 +352,8 @@ fn random_changes(count: u64, seed: u64) -> bool {
     group.end()
 }
 
-fn grown_tables(count: u64, seed: u64) -> bool {
-    let mut group = Group::new("tables grown over bytes that are no document", "tables");
+fn grown_tables(count: u64, seed: u64) -> Ended {
+    let mut group = Group::of_tables("tables grown over bytes that are no document");
     let mut random = Random::new(seed ^ 0x6E);
     for _ in 0..count {
         let made = lent::grown(&mut random);
@@ -279,8 +383,11 @@ fn main() {
         std::process::exit(2);
     };
     println!("seed {seed}, {} rules", RULES.len());
-    finish(&[
+    let ended = [
+        by_hand(),
         random_bodies(size.bodies, seed),
+        referring_bodies(size.bodies / 3, seed),
+        every_three_references(),
         every_body("", &SNIPPETS, size.snippets),
         every_body("<a>", &SNIPPETS, size.snippets),
         every_body("<a", &ATTRIBUTES, size.attributes),
@@ -289,5 +396,8 @@ fn main() {
         every_change(size.changed, seed),
         random_changes(size.lent, seed),
         grown_tables(size.lent, seed),
-    ]);
+    ];
+    let mut groups: Vec<bool> = ended.iter().map(|group| group.alike).collect();
+    groups.push(sizes(&ended));
+    finish(&groups);
 }

@@ -1,14 +1,14 @@
 //! Asks the static library, the Rust and a model of document 01 (src/reader.rs) for
 //! readings, and compares number, count, every entry and every text byte, and that
-//! nothing else is written.
+//! nothing else is written. Places, which the Rust does not tell, stand beside the model's.
 //!
 //!     readings [--full] [--seed S]
 //!
-//! Tables of bodies beside the Rust and the model: random and damaged bodies, bodies
-//! cut at every byte, and every row of some snippets. Then less room, tables that no
-//! tokenizer made and the whole text beside the model. At the end stand the counts of
-//! each operation; one that is too low is a group that failed. The last line is `N
-//! passed, M failed`, counted in groups; the status is 1 where one failed.
+//! Tables of bodies beside the Rust and the model: random and damaged bodies, bodies with
+//! many references, bodies cut at every byte, and every row of some snippets. Then less
+//! room, tables that no tokenizer made and the whole text beside the model. At the end
+//! stand the counts of each operation; one that is too low is a group that failed. The
+//! last line is `N passed, M failed`, counted in groups; the status is 1 where one failed.
 
 use compare::bodies;
 use compare::counts::{Counts, Floor, Operation, Source, SCALARS};
@@ -16,8 +16,8 @@ use compare::derived;
 use compare::drains::shown;
 use compare::lent::{self, Made};
 use compare::random::Random;
-use compare::reader::{Asked, Kind};
-use compare::readings::{Asker, Outcome};
+use compare::reader::{self, Asked, Kind};
+use compare::readings::{enough, Asker, Outcome};
 use compare::shaped;
 use compare::sheets::{self, maybe_broken, names_in};
 use compare::tally::{finish, Tally};
@@ -31,6 +31,8 @@ struct Size {
     snippets: usize,
     /// Bodies that are cut at every byte.
     cut: usize,
+    /// Bodies with many references, for each reading by a sheet that tells places.
+    referring: u64,
 }
 
 const SHORTER: Size = Size {
@@ -39,9 +41,11 @@ const SHORTER: Size = Size {
         scalars: 50_000,
         rooms: 30_000,
         lent: 50_000,
+        places: 3_000,
     },
     snippets: 3,
     cut: 100,
+    referring: 40_000,
 };
 
 const FULL: Size = Size {
@@ -50,9 +54,11 @@ const FULL: Size = Size {
         scalars: 300_000,
         rooms: 300_000,
         lent: 500_000,
+        places: 30_000,
     },
     snippets: 4,
     cut: 2_000,
+    referring: 400_000,
 };
 
 /// Children of a root in rows of these, with faults of each kind.
@@ -120,6 +126,16 @@ impl Question {
             max_depth: 128,
             depth: question.depth % 2,
             ..question
+        }
+    }
+
+    fn plain(sheet: &[u8], flags: u32) -> Self {
+        Question {
+            sheet: sheet.to_vec(),
+            derived: false,
+            flags,
+            max_depth: 128,
+            depth: 0,
         }
     }
 
@@ -214,6 +230,20 @@ impl Group {
         self.count(Operation::WholeText, outcome, false, || shown(lent));
     }
 
+    /// The reading by a sheet, or where there is none the others.
+    fn of_kind(
+        &mut self,
+        kind: Option<Kind>,
+        made: &Made,
+        question: &Question,
+        random: &mut Random,
+    ) {
+        match kind {
+            Some(kind) => self.reading(kind, made, question, true),
+            None => self.others(made, question, random, true),
+        }
+    }
+
     /// Every operation once.
     fn all(&mut self, body: &[u8], random: &mut Random) {
         let made = Made::of(body);
@@ -280,6 +310,15 @@ fn a_body(kind: Kind, random: &mut Random) -> Vec<u8> {
         0..=49 if kind == Kind::Map => shaped::pairs(random),
         0..=64 => shaped::random(kind, random),
         _ => bodies::random(random),
+    }
+}
+
+/// The same, or one with many references.
+fn any_body(kind: Kind, random: &mut Random) -> Vec<u8> {
+    if random.chance(30) {
+        shaped::referring(Some(kind), random)
+    } else {
+        a_body(kind, random)
     }
 }
 
@@ -364,6 +403,90 @@ fn scalars_and_find(count: u64, seed: u64, ended: &mut Ended) {
     );
 }
 
+/// A reading by a sheet or the scalars, a body, and its places, lenient and strict, as a
+/// person reads them from change request 1. A structure's is in its first entry.
+struct ByHand {
+    kind: Option<Kind>,
+    sheet: &'static [u8],
+    body: &'static str,
+    places: [usize; 2],
+}
+
+/// The model is held to these.
+const BY_HAND: [ByHand; 4] = [
+    ByHand {
+        kind: Some(Kind::Struct),
+        sheet: b"\0\x01r\x02\x02\x01a\x02\x01b",
+        body: "<r><a>&lt;&#0;&</a><b><c/></b></r>",
+        places: [14, 10],
+    },
+    ByHand {
+        kind: Some(Kind::Map),
+        sheet: b"\x04",
+        body: "<m><entry><key>k</key><value>&amp;&#+65;&zz;</value></entry></m>",
+        places: [40, 34],
+    },
+    ByHand {
+        kind: Some(Kind::Strings),
+        sheet: b"\0",
+        body: "<l><i>&lt;</i><i>&#+65;&zz;</i></l>",
+        places: [23, 17],
+    },
+    ByHand {
+        kind: None,
+        sheet: b"",
+        body: "<s>é&#x+41;&zz</s>",
+        places: [12, 5],
+    },
+];
+
+fn by_hand(seed: u64, ended: &mut Ended) {
+    let mut group = Group::new("places by hand", Source::Referring);
+    let mut random = Random::new(seed);
+    for case in BY_HAND {
+        let made = Made::of(case.body.as_bytes());
+        for (flags, wanted) in (0..).zip(case.places) {
+            let question = Question::plain(case.sheet, flags);
+            group.of_kind(case.kind, &made, &question, &mut random);
+            let place = place_by_model(case.kind, &made, &question);
+            let problem = (place != wanted).then(|| format!("the model says {place}"));
+            group.tally.count(problem, || question.shown(&made));
+        }
+    }
+    group.end(ended);
+}
+
+fn place_by_model(kind: Option<Kind>, made: &Made, question: &Question) -> usize {
+    let lent = made.lent();
+    let Some(kind) = kind else {
+        let text = reader::scalar(lent, question.flags, question.depth);
+        return text.err().unwrap_or_default().place;
+    };
+    let told = reader::read(kind, lent, question.asked(), enough(lent));
+    match kind {
+        Kind::Struct => told.entries[0][5] as usize,
+        _ => told.place,
+    }
+}
+
+/// Bodies with many references, each read strictly and not: for a reading by a sheet that
+/// tells places, or for the others.
+fn referring_bodies(kind: Option<Kind>, count: u64, seed: u64, ended: &mut Ended) {
+    let name = kind.map_or("the others".to_string(), |kind| format!("{kind:?}"));
+    let mut group = Group::new(format!("{name}: bodies with references"), Source::Referring);
+    let mut random = Random::new(seed ^ 0x26 ^ (kind.map_or(4, |kind| kind as u64) << 8));
+    for _ in 0..count {
+        let made = Made::of(&shaped::referring(kind, &mut random));
+        let mut question = Question::entered(kind.unwrap_or(Kind::List), &made, &mut random);
+        question.depth = 0;
+        for strict in [0, 1] {
+            question.flags = question.flags & !1 | strict;
+            group.of_kind(kind, &made, &question, &mut random);
+        }
+    }
+    group.end(ended);
+}
+
 /// Every row of up to `count` snippets in a root.
 fn every_body(count: usize, seed: u64, ended: &mut Ended) {
     fn longer(group: &mut Group, body: &mut String, random: &mut Random, left: usize) {
@@ -426,7 +549,7 @@ fn less_room(kind: Kind, count: u64, seed: u64, ended: &mut Ended) {
     let mut group = Group::new(format!("{kind:?}: less room"), Source::LessRoom);
     let mut random = Random::new(seed ^ 0x20 ^ kind as u64);
     for _ in 0..count {
-        let made = Made::of(&a_body(kind, &mut random));
+        let made = Made::of(&any_body(kind, &mut random));
         let question = Question::entered(kind, &made, &mut random);
         let share = random.below(1 << 20);
         let outcome = group
@@ -459,7 +582,7 @@ fn a_lent_table(random: &mut Random) -> Made {
         return lent::grown(random);
     }
     loop {
-        let body = a_body(Kind::ALL[random.below(4)], random);
+        let body = any_body(Kind::ALL[random.below(4)], random);
         if body.len() <= LONG {
             return lent::changed(&Made::of(&body), random);
         }
@@ -544,12 +667,18 @@ fn main() {
         floor,
         snippets,
         cut,
+        referring,
     } = size;
     let mut ended = Ended::default();
+    by_hand(seed, &mut ended);
     for kind in Kind::ALL {
         random_bodies(kind, floor.bodies, seed, &mut ended);
     }
     scalars_and_find(floor.scalars, seed, &mut ended);
+    for kind in [Kind::Struct, Kind::Map, Kind::Strings] {
+        referring_bodies(Some(kind), referring, seed, &mut ended);
+    }
+    referring_bodies(None, referring / 3, seed, &mut ended);
     every_body(snippets, seed, &mut ended);
     every_cut(cut, seed, &mut ended);
     for kind in Kind::ALL {

@@ -14,7 +14,8 @@
 //!
 //! TEXT, RESULT, BODY, SHEET, NAME and TEXTS in hexadecimal, `-` for none. ROWS are all
 //! numbers of the table's rows in decimal, parted by commas, `-` for none; ENTRIES are
-//! those of the entries, groups by rising member index. The same every time.
+//! those of the entries, groups by rising member index, with 0 for a place, which the Rust
+//! does not tell. The same every time.
 
 use compare::bodies::{self, nested, start_tag};
 use compare::drains::of_rust;

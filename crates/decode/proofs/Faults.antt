@@ -96,7 +96,7 @@ module _ (v : List ℕ) {x : List ℕ} {r : Validated} (p : x ≡ v) (e : r ≡ 
   pub value-good : r ≡ Validated.Valid → true ≡ valuePasses v
   value-good q = rw (← p, ← e, q)
 
-  pub value-bad : r ≡ Validated.BadReference → false ≡ valuePasses v
+  pub value-bad : {at : ℕ} → r ≡ Validated.BadReference at → false ≡ valuePasses v
   value-bad q = rw (← p, ← e, q)
 
 pub ruleset reference-laws = (needs, value-span, value-good, value-bad)
@@ -122,7 +122,7 @@ module _ (body t : List ℕ) (k : ℕ) where
     where
       go : (r : Validated) → faultIf (isValid r) ≡ asFault r
       go Validated.Valid = refl
-      go Validated.BadReference = refl
+      go (Validated.BadReference at) = refl
 
 -- ---- the start row of the innermost open element
 pub top-none : (starts : List ℕ) (depth : ℕ) → depth ≡ 0 → 0 ≡ topOf starts depth

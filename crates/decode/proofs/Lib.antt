@@ -3,6 +3,7 @@ pub mod Faults
 pub mod Walking
 pub mod ByKind
 pub mod Seen
+pub mod Causes
 pub mod Views
 pub mod Places
 pub mod Skipping

@@ -32,7 +32,7 @@ use Rattle.decode.proofs.Places.{toks-next, toks-none, tok-is, tags-nex
 -- a text that is measured has a length
 abbrev isLength : Unescaped → Bool
 isLength (Unescaped.Length m) = true
-isLength Unescaped.BadReference = false
+isLength (Unescaped.BadReference at) = false
 isLength Unescaped.NoRoom = false
 
 pub unescapes : (v : List ℕ) {x : List ℕ} {r u : Unescaped} {b : Bool} → x ≡ v → r ≡ sizeOf (unescaped x) → r ≡ u → b ≡ isLength u

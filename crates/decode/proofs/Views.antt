@@ -15,20 +15,27 @@ use Rattle.table.specs.Flat.{rowsFrom}
 use Rattle.table.proofs.Flat.{length-rows, rows-whole}
 use Rattle.xml.specs.declared.Cause.{Cause}
 use Rattle.xml.specs.declared.Drained.{Drained}
-use Rattle.xml.specs.Drain.{walked}
+use Rattle.xml.specs.Drain.{walked, causePlace}
 use Rattle.xml.specs.Passed.{FirstFault, at-row, at-end}
 use Rattle.xml.proofs.First.{walk-ill-formed-is}
 use Rattle.document.specs.View.{positionAt, failureOf, isError, errorAt, view}
 use Rattle.document.specs.View as doc
 use Rattle.decode.specs.declared.view.Failure.{Failure}
 use Rattle.decode.specs.declared.view.View.{View}
-use Rattle.decode.specs.Rows.{InTable, tokAt}
+use Rattle.decode.specs.Rows.{tokAt}
 use Rattle.decode.specs.Drain.{Walkable}
 use Rattle.decode.specs.View.{wholeAt, Viewed, ViewIs}
 use Rattle.decode.proofs.ByKind.{other}
 use Rattle.decode.proofs.Walking.{walkable, length-toks}
+use Rattle.decode.proofs.Causes.{row-in, cause-fits}
 use Rattle.decode.proofs.Seen.{take-rows, position-row, position-past, is-error, rules-at, error-at, error-none, all-rows, sees}
 use Rattle.decode.proofs.Seen.{outside}
+
+-- what a text meets where the drain stopped at a reference
+pub failure-reference : (at : ℕ) (c : Cause) → c ≡ Cause.BadReference → Refusal.BadReference at ≡ failureOf at c
+failure-reference at c e = rw e
+
+pub ruleset failure-laws = (needs, failure-reference)
 
 -- the position of a row, or the final one
 module _ {body t : List ℕ} (w : Walkable body t) (final k : ℕ) where
@@ -46,9 +53,6 @@ module _ {body t : List ℕ} (w : Walkable body t) (final k : ℕ) where
           let h = ltb-true k (length t / 8) q in rw (← position-in h refl)
           (w .readable .each k (omega (arith, rows-whole t (w .whole))) .position)
       go false q = rw (← position-out (ltb-false k (length t / 8) q)) l
-
-pub row-in : {body t : List ℕ} {k : ℕ} → Walkable body t → k < length t / 8 → InTable t k
-row-in {body} {t} w h = record { row = omega (arith, rows-whole t (w .whole)) }
 
 pub ruleset position-laws = (needs, position-in, position-out, row-in)
 
@@ -86,14 +90,15 @@ module _ {body t : List ℕ} {final : ℕ} (o : TableRules body t final) where
         go (at-row a x b s l f g) = omega (arith, size, ap length s, length-append a (x ∷ b))
         go (at-end l d f g) = omega (arith, size)
 
-    pub view-ill : {k : ℕ} {c : Cause} {f : Refusal} {p : ℕ} → r ≡ Drained.IllFormed k c → f ≡ failureOf c
+    pub view-ill : {k : ℕ} {c : Cause} {x : ℕ} {f : Refusal} {p : ℕ} → r ≡ Drained.IllFormed k c → x ≡ causePlace body (rowsOf t) k c
+        → f ≡ failureOf x c
         → p ≡ positionAt final (rowsOf t) k
         → ViewIs body t (record { count = k; failure = Failure.Is f; «ill_formed» = true; ends = p }) (view true body (rowsOf t) final)
     unfolding view
-    view-ill {k} {c} {f} {p} q i j =
+    view-ill {k} {c} {x} {f} {p} q a i j =
         let l = first-in q in
         record {
-          same = rw (← e, q, i, ← j, all-rows w, take-rows t 0 k (length t / 8) l);
+          same = rw (← e, q, i, a, ← j, all-rows w, take-rows t 0 k (length t / 8) l);
           viewed = viewed l (rw j (position-low w final k (o .rules .within)));
           fresh = outside w k l;
         }
@@ -151,4 +156,4 @@ module _ {body t : List ℕ} {v : View} (strict : Bool) (rows : List Row) (final
 
 pub ruleset either-laws = (needs, view-strict, view-lenient)
 
-pub ruleset view-laws = (needs, walkable, row-in, view-passes, view-table, view-ill, lenient-none, lenient-error, lenient-whole)
+pub ruleset view-laws = (needs, walkable, row-in, cause-fits, view-passes, view-table, view-ill, lenient-none, lenient-error, lenient-whole)

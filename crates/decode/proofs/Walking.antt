@@ -76,7 +76,7 @@ told-value v k st = go (validated v)
   where
     go : (r : Validated) → withValue r k st ≡ told (asFault r) k st
     go Validated.Valid = refl
-    go Validated.BadReference = refl
+    go (Validated.BadReference at) = refl
 
 told-attribute : (u : Bool) (v : List ℕ) (k : ℕ) (st : State)
     → withAttribute u k (withValue (validated v) k st) ≡ told (pick u (Fault.Is Cause.RepeatedAttribute) (valueFault v)) k st

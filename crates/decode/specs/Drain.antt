@@ -7,13 +7,14 @@ use lib.Dec.{eqb}
 use lib.ListN.{length, getD, set}
 use Rattle.lists.specs.Tests.{pick}
 use Rattle.reference.specs.Text.{validated}
+use Rattle.reference.specs.Place.{failingAt}
 use Rattle.reference.specs.declared.Validated.{Validated}
 use Rattle.table.specs.Row.{Name, Tok, start, attr, gt, close, slash, matter, referencesIn, bad, rowsOf}
 use Rattle.table.specs.Rules.{mostOpen, mostKind, openCount, atFirst, EachRow}
 use Rattle.xml.specs.Drain.{sameName, hasName}
 use Rattle.xml.specs.declared.Cause.{Cause}
 use Rattle.decode.specs.declared.drain.Fault.{Fault}
-use Rattle.decode.specs.Rows.{InTable, Readable, nameAt, tokAt}
+use Rattle.decode.specs.Rows.{InTable, Readable, nameAt, valueAt, tokAt}
 
 -- ---- names: of the m rows before row k, the nearest first; and of those back to the row after row `tag`
 abbrev pub back : List ℕ → List ℕ → ℕ → ℕ → List Name
@@ -26,14 +27,14 @@ namesBack body t tag k = back body t k (k - (tag + 1))
 -- ---- values: the fault where a reference is not right; whether each is, and the fault by that
 abbrev pub asFault : Validated → Fault
 asFault Validated.Valid = Fault.Nothing
-asFault Validated.BadReference = Fault.Is Cause.BadReference
+asFault (Validated.BadReference at) = Fault.Is Cause.BadReference
 
 abbrev pub valueFault : List ℕ → Fault
 valueFault v = asFault (validated v)
 
 abbrev pub isValid : Validated → Bool
 isValid Validated.Valid = true
-isValid Validated.BadReference = false
+isValid (Validated.BadReference at) = false
 
 abbrev pub valuePasses : List ℕ → Bool
 valuePasses v = isValid (validated v)
@@ -41,6 +42,10 @@ valuePasses v = isValid (validated v)
 abbrev pub faultIf : Bool → Fault
 faultIf true = Fault.Nothing
 faultIf false = Fault.Is Cause.BadReference
+
+-- where validating the value of row k fails, "as a body offset" (change request 1); the value's start where it is valid
+abbrev pub failingIn : List ℕ → List ℕ → ℕ → ℕ
+failingIn body t k = getD t (k * 8 + 5) 0 + failingAt (validated (valueAt body t k))
 
 -- where a test says so, the value of row k lies between two places
 pub record LiesIn (t : List ℕ) (k low high : ℕ) (r : Bool) : Type 0 where

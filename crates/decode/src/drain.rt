@@ -3,12 +3,12 @@ ghost use Prim.Native.Nat.{_+_, _*_, _<_, _≤_};
 ghost use mathlib.Core.Path.{_≡_};
 ghost use Rattle.decode.specs.Rows.{InTable, Readable, nameAt, valueAt};
 ghost use Rattle.decode.specs.Drain.{Entered, FaultIs, MayEnter, LiesIn, WellPlaced};
-ghost use Rattle.decode.specs.Drain.{Walkable, faultIf, namesBack, topOf, valuePasses};
+ghost use Rattle.decode.specs.Drain.{Walkable, failingIn, faultIf, namesBack, topOf, valuePasses};
 ghost use lib.ListN.{getD};
 ghost use Rattle.lists.specs.Characters.{ampersand};
 ghost use Rattle.lists.specs.Find.{Clear};
 ghost use Rattle.table.specs.Row.{rowsOf, toksOf};
-ghost use Rattle.xml.specs.Drain.{drained, hasName, walked};
+ghost use Rattle.xml.specs.Drain.{causePlace, drained, hasName, referencePlace, walked};
 use crate::name::same_name;
 use crate::name::span;
 use reference::Validated;
@@ -95,7 +95,7 @@ fn references_pass(body: &[u8], rows: &[u32], k: usize) -> bool
 {
     match unescape::validate_references(span(body, rows, k, VALUE)) {
         Validated::Valid => true,
-        Validated::BadReference => false,
+        Validated::BadReference { at: _ } => false,
     }
 }
 
@@ -215,4 +215,43 @@ pub fn drain(body: &[u8], rows: &[u32], end: u32) -> Drained
         return walk(body, rows);
     }
     Drained::Table
+}
+
+// Where validating the value of row k fails, as an offset in the body: the start of the value where it is valid.
+fn value_place(body: &[u8], rows: &[u32], k: usize) -> usize
+    requires { ⌜ Readable (now body) (now rows) ⌝ }
+    requires { ⌜ InTable (now rows) k ⌝ }
+    ensures { λ r. ⌜ r ≡ failingIn (now (body .entry)) (now (rows .entry)) k ⌝ }
+{
+    let from = field(rows, k, VALUE);
+    match unescape::validate_references(span(body, rows, k, VALUE)) {
+        Validated::Valid => from,
+        Validated::BadReference { at } => from + at,
+    }
+}
+
+// The place of the failing `&` in row k, or 0 where there is no such row.
+fn reference_place(body: &[u8], rows: &[u32], k: usize) -> usize
+    requires { ⌜ Walkable (now body) (now rows) ⌝ }
+    ensures { λ r. ⌜ r ≡ referencePlace (now (body .entry)) (rowsOf (now (rows .entry))) k ⌝ }
+{
+    if k < rows.len() / 8 {
+        return value_place(body, rows, k);
+    }
+    0
+}
+
+// The place of a cause that the drain answers with row k, as an offset in the body: only a reference has one, that of the failing `&`.
+// The value is validated once more, so that the walk need not keep the place.
+pub fn cause_place(body: &[u8], rows: &[u32], k: usize, cause: Cause) -> usize
+    requires { ⌜ Walkable (now body) (now rows) ⌝ }
+    ensures { λ r. ⌜ r ≡ causePlace (now (body .entry)) (rowsOf (now (rows .entry))) k cause ⌝ }
+{
+    match cause {
+        Cause::TokenError => 0,
+        Cause::MismatchedEnd => 0,
+        Cause::UnclosedElement => 0,
+        Cause::RepeatedAttribute => 0,
+        Cause::BadReference => reference_place(body, rows, k),
+    }
 }

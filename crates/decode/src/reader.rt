@@ -196,7 +196,7 @@ fn unescapes(body: &[u8], rows: &[u32], k: usize) -> bool
 {
     match unescape::measure(span(body, rows, k, VALUE)) {
         Unescaped::Length(_) => true,
-        Unescaped::BadReference => false,
+        Unescaped::BadReference { at: _ } => false,
         // `measure` never answers this: it has no room to run out of.
         Unescaped::NoRoom => false,
     }

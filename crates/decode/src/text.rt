@@ -3,7 +3,7 @@ ghost use mathlib.Core.Path.{_≡_};
 ghost use Rattle.document.specs.Reader.{depth};
 ghost use Rattle.document.specs.Text.{textOf};
 ghost use Rattle.decode.specs.Reader.{HasRow, Sees, StartIn, childAt};
-ghost use Rattle.decode.specs.View.{failureAt};
+ghost use Rattle.decode.specs.View.{viewAt};
 ghost use Rattle.decode.specs.Text.{TextIs, endText, firstFrom};
 use crate::reader::Cursor;
 use crate::reader::ScopeRow;
@@ -11,6 +11,7 @@ use crate::reader::StartRow;
 use crate::reader::depth_after;
 use crate::reader::ends_here;
 use crate::view::Failure;
+use crate::view::View;
 use refusal::Refusal;
 use table::field;
 use table::kind::START;
@@ -69,23 +70,17 @@ fn text_from(
 }
 
 // The first text of an element: one that ended in `/>` has the empty text.
-pub fn try_data(
-    body: &[u8],
-    rows: &[u32],
-    n: usize,
-    failure: Failure,
-    start: StartRow,
-    at: Cursor,
-) -> Text
-    requires { ⌜ Sees (now body) (now rows) n ⌝ }
-    requires { ⌜ StartIn (now body) (now rows) n start ⌝ }
+pub fn try_data(body: &[u8], rows: &[u32], view: View, start: StartRow, at: Cursor) -> Text
+    requires { ⌜ Sees (now body) (now rows) (view .count) ⌝ }
+    requires { ⌜ StartIn (now body) (now rows) (view .count) start ⌝ }
     ensures { λ r. ⌜ TextIs (now (body .entry)) (now (rows .entry)) r
-        (textOf (failureAt failure) (childAt (now (body .entry)) (now (rows .entry)) n start at)) ⌝ }
+        (textOf (viewAt (now (rows .entry)) view) (childAt (now (body .entry)) (now (rows .entry)) (view .count) start at)) ⌝ }
 {
     if start.closed {
         return Text::Empty;
     }
     let own = start.depth;
     let scope = ScopeRow::Element(own, start.row);
-    text_from(body, rows, n, failure, scope, at.row, at.depth.0)
+    let failure = view.failure;
+    text_from(body, rows, view.count, failure, scope, at.row, at.depth.0)
 }

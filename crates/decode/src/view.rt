@@ -6,6 +6,7 @@ ghost use Rattle.table.specs.Rules.{TableRules};
 ghost use Rattle.document.specs.View.{failureOf, positionAt, view};
 ghost use Rattle.decode.specs.Drain.{Walkable};
 ghost use Rattle.decode.specs.View.{ViewIs, wholeAt};
+use crate::drain::cause_place;
 use crate::drain::walk;
 use refusal::Refusal;
 use table::field;
@@ -30,16 +31,16 @@ pub struct View {
     pub ends: usize,
 }
 
-// What a text meets after a row that fails the drain.
-fn failure_of(cause: Cause) -> Refusal
-    ensures { λ r. ⌜ r ≡ failureOf cause ⌝ }
+// What a text meets after a row that fails the drain; a reference has the place of the drain's cause.
+fn failure_of(at: u32, cause: Cause) -> Refusal
+    ensures { λ r. ⌜ r ≡ failureOf at cause ⌝ }
 {
     match cause {
         Cause::TokenError => Refusal::TokenError,
         Cause::MismatchedEnd => Refusal::IllFormed,
         Cause::UnclosedElement => Refusal::IllFormed,
         Cause::RepeatedAttribute => Refusal::IllFormed,
-        Cause::BadReference => Refusal::BadReference,
+        Cause::BadReference => Refusal::BadReference { at },
     }
 }
 
@@ -73,7 +74,8 @@ fn strict_view(body: &[u8], rows: &[u32], end: usize) -> View
 {
     match walk(body, rows) {
         Drained::IllFormed { row, cause } => {
-            let failure = failure_of(cause);
+            let at = cause_place(body, rows, row, cause);
+            let failure = failure_of(at as u32, cause);
             let ends = position_at(body, rows, row, end);
             View {
                 count: row,

@@ -1,12 +1,12 @@
 -- What each way through a reading gives, below the depth guard.
 use Prim.Native.Nat.{ℕ, _≤_, _<_}
-use mathlib.Core.Path.{_≡_, refl, ap}
+use mathlib.Core.Path.{_≡_, refl, sym, _∙_, ap}
 use mathlib.Core.Bool.{Bool, true, false, not}
 use mathlib.Core.List.{List, [], _∷_}
 use native.Mathlib.Omega.{arith}
 use borrow.Author.Needs.{needs}
 use lib.ListN.{length, getD, set}
-use Rattle.refusal.specs.Numbers.{number}
+use Rattle.refusal.specs.Numbers.{number, place}
 use borrow.Author.Tests.{eq-eqb, ne-eqb}
 use Rattle.refusal.specs.declared.Refusal.{Refusal}
 use Rattle.sheet.specs.declared.ShapeDepth.{ShapeDepth}
@@ -19,7 +19,7 @@ use Rattle.codec.specs.declared.collection.ListSheet.{ListSheet}
 use Rattle.codec.specs.declared.collection.MapSheet.{MapSheet}
 use Rattle.codec.specs.Settings.{settingsOf}
 use Rattle.codec.specs.Collection.{listSaid, ListSaid, ListRead, mapSaid, MapSaid, MapRead}
-use Rattle.readings.specs.Call.{uploaded, calling}
+use Rattle.readings.specs.Call.{Upload, Call, uploaded, calling}
 use Rattle.readings.specs.Output.{Room, nothing, Reading}
 use Rattle.readings.specs.Plan.{Plan, perform, performed}
 use Rattle.readings.specs.Collection.{itemsPlan, listPlan, listReading, stringsPlan, stringListPlan, stringListReading, mapPlan, mapReading}
@@ -29,9 +29,9 @@ use Rattle.decode.specs.declared.view.View.{View}
 use Rattle.output.specs.declared.Written.{Written}
 use Rattle.output.specs.declared.Step.{Step}
 use Rattle.output.specs.Held.{roomOf, writtenOf, Ends}
-use Rattle.output.specs.Call.{ReadingCall}
+use Rattle.output.specs.Call.{ReadingCall, ReadingPlace}
 use Rattle.output.proofs.Then.{ends-as}
-use Rattle.output.proofs.Called.{holds-nothing, call-early, call-done, call-refused}
+use Rattle.output.proofs.Called.{holds-nothing, ends-early, call-done, call-refused, place-done, place-refused}
 use Rattle.opening.specs.declared.Opening.{Opening}
 use Rattle.opening.specs.Opening.{AskedIs, openedAt}
 use Rattle.opening.proofs.Asked.{asked-ok, asked-root, asked-early, asked-found}
@@ -40,14 +40,16 @@ use Rattle.list.specs.List.{WholeIs}
 use Rattle.list.specs.StringList.{StringsWholeIs}
 use Rattle.codec.specs.Structure.{saidBy, StructureSaid, StructureRead}
 use Rattle.readings.specs.Opening.{asked}
-use Rattle.readings.specs.Structure.{structureReading}
+use Rattle.readings.specs.Structure.{OrderFor, structureReading}
 use Rattle.readings.proofs.Laws.Order.{orderIn, an-order}
+use Rattle.readings.proofs.Laws.Place.{structure-tells-none, list-tells-none}
 use Rattle.structure.specs.Structure.{StructureIs}
 use Rattle.structure.proofs.Called.{structure-early, structure-is}
 use Rattle.map.specs.Map.{MapIs}
 use Rattle.map.proofs.Entries.{map-found}
 use Rattle.deserializer.specs.declared.Shape.{Shape}
-use Rattle.deserializer.specs.Call.{numberOf, EnteredRead, EnteredCall, SetBy, Tells, ToldCall, SheetCall, settingsBy, shapeOf}
+use Rattle.deserializer.specs.Call.{numberOf, placeOf, EnteredRead, EnteredCall, SetBy, Tells, ToldCall, SheetCall, SheetPlace}
+use Rattle.deserializer.specs.Call.{SheetRead, settingsBy, shapeOf}
 use Rattle.deserializer.specs.Demand.{Demanded}
 use Rattle.deserializer.proofs.Demand.{demanded}
 
@@ -56,11 +58,42 @@ not-entered : {entered : Bool} (b : Bool) → entered ≡ not b → not entered 
 not-entered true e = ap not e
 not-entered false e = ap not e
 
--- what is left in the buffers, told as a call
+-- ---- what is left in the buffers, told as a call
 told : (reading : Room → Reading) {e t e′ t′ : List ℕ} (r : Step) → Ends (reading (roomOf e t)) e t e′ t′ r
     → ReadingCall reading e t e′ t′ (writtenOf r .count) (writtenOf r .used) (numberOf r)
 told reading (Step.Done w) y = call-done reading y refl
 told reading (Step.Refused why w) y = call-refused reading y refl refl
+
+told-place : (reading : Room → Reading) {e t e′ t′ : List ℕ} (r : Step) → Ends (reading (roomOf e t)) e t e′ t′ r
+    → ReadingPlace reading e t (placeOf r)
+told-place reading (Step.Done w) y = place-done reading y refl
+told-place reading (Step.Refused why w) y = place-refused reading y refl
+
+module _ (u : Upload) (call : Call) {e t e′ t′ : List ℕ} {r : Step} where
+  struct-told : {order : List ℕ} → OrderFor u call order → Ends (structureReading u call order (roomOf e t)) e t e′ t′ r
+      → SheetRead Shape.Struct u call e t e′ t′ r
+  struct-told {order} o y =
+      record {
+        reads = record { is = record { order = order; ordered = o; reads = told (structureReading u call order) r y } };
+        place = record { is = told-place (structureReading u call order) r y .place ∙ structure-tells-none u call (roomOf e t) order };
+      }
+
+  list-told : Ends (listReading u call (roomOf e t)) e t e′ t′ r → SheetRead Shape.List u call e t e′ t′ r
+  list-told y =
+      record {
+        reads = record { is = told (listReading u call) r y };
+        place = record { is = told-place (listReading u call) r y .place ∙ list-tells-none u call (roomOf e t) };
+      }
+
+  map-told : Ends (mapReading u call (roomOf e t)) e t e′ t′ r → SheetRead Shape.Map u call e t e′ t′ r
+  map-told y = record { reads = record { is = told (mapReading u call) r y }; place = record { is = told-place (mapReading u call) r y } }
+
+  strings-told : Ends (stringListReading u call (roomOf e t)) e t e′ t′ r → SheetRead Shape.StringList u call e t e′ t′ r
+  strings-told y =
+      record {
+        reads = record { is = told (stringListReading u call) r y };
+        place = record { is = told-place (stringListReading u call) r y };
+      }
 
 -- ---- lists and string lists
 pub list-said : {body t : List ℕ} {final : ℕ} {sheet : List ℕ} {said : ListSheet} {deep strict : Bool} {r : Opening} {v : View}
@@ -79,12 +112,8 @@ module _ (body t : List ℕ) (final : ℕ) (sheet : List ℕ) {said : ListSheet}
   unfolding listReading listPlan perform
   list-refused e tx {why} q =
       record {
-        read = λ g. record {
-          reads = record {
-            is = call-early (listReading (uploaded body t final) (calling sheet settings depth)) {why = why}
-                (rw (asked-early a settings depth (too-deep g) i (λ o. p .there o .said) (p .broken) q)) refl;
-          };
-        };
+        read = λ g. list-told (uploaded body t final) (calling sheet settings depth) (ends-early e tx {why = why}
+            (rw (asked-early a settings depth (too-deep g) i (λ o. p .there o .said) (p .broken) q)));
       }
 
   pub list-found : {v : View} {s : StartRow} {c : Cursor} {e e′ : List ℕ} (tx : List ℕ) {got : Step} → r ≡ Opening.Found v s c
@@ -93,12 +122,8 @@ module _ (body t : List ℕ) (final : ℕ) (sheet : List ℕ) {said : ListSheet}
   unfolding listReading listPlan itemsPlan collected
   list-found {e = e} tx {got} q x =
       record {
-        read = λ g. record {
-          reads = record {
-            is = told (listReading (uploaded body t final) (calling sheet settings depth)) got
-                (rw (asked-found a settings depth (too-deep g) i (λ o. p .there o .said) q) (x .enters .is tx .is (holds-nothing e tx)));
-          };
-        };
+        read = λ g. list-told (uploaded body t final) (calling sheet settings depth)
+            (rw (asked-found a settings depth (too-deep g) i (λ o. p .there o .said) q) (x .enters .is tx .is (holds-nothing e tx)));
       }
 
   pub strings-refused : (e tx : List ℕ) {why : Refusal} → r ≡ Opening.Refused why
@@ -107,12 +132,8 @@ module _ (body t : List ℕ) (final : ℕ) (sheet : List ℕ) {said : ListSheet}
   unfolding stringListReading stringListPlan perform
   strings-refused e tx {why} q =
       record {
-        read = λ g. record {
-          reads = record {
-            is = call-early (stringListReading (uploaded body t final) (calling sheet settings depth)) {why = why}
-                (rw (asked-early a settings depth (too-deep g) i (λ o. p .there o .said) (p .broken) q)) refl;
-          };
-        };
+        read = λ g. strings-told (uploaded body t final) (calling sheet settings depth) (ends-early e tx {why = why}
+            (rw (asked-early a settings depth (too-deep g) i (λ o. p .there o .said) (p .broken) q)));
       }
 
   pub strings-found : {v : View} {s : StartRow} {c : Cursor} {e tx e′ tx′ : List ℕ} {got : Step} → r ≡ Opening.Found v s c
@@ -121,12 +142,8 @@ module _ (body t : List ℕ) (final : ℕ) (sheet : List ℕ) {said : ListSheet}
   unfolding stringListReading stringListPlan stringsPlan collected
   strings-found {e = e} {tx = tx} {got = got} q x =
       record {
-        read = λ g. record {
-          reads = record {
-            is = told (stringListReading (uploaded body t final) (calling sheet settings depth)) got
-                (rw (asked-found a settings depth (too-deep g) i (λ o. p .there o .said) q) (x .does .is (holds-nothing e tx)));
-          };
-        };
+        read = λ g. strings-told (uploaded body t final) (calling sheet settings depth)
+            (rw (asked-found a settings depth (too-deep g) i (λ o. p .there o .said) q) (x .does .is (holds-nothing e tx)));
       }
 
 -- ---- structures
@@ -150,17 +167,10 @@ module _ (body t : List ℕ) (final : ℕ) (sheet : List ℕ) {parsed : Structur
   unfolding structureReading performed perform
   struct-refused e tx {why} q =
       record {
-        read = λ g. record {
-          reads = record {
-            is = record {
-              order = rising;
-              ordered = an-order (uploaded body t final) (calling sheet settings depth);
-              reads = call-early (structureReading (uploaded body t final) (calling sheet settings depth) rising) {why = why}
-                  (ap (performed (roomOf e tx)) (structure-early body t final sheet settings depth rising
-                  (asked-early a settings depth (deep-struct g) i (λ o. p .there o .said) (p .broken) q))) refl;
-            };
-          };
-        };
+        read = λ g. struct-told (uploaded body t final) (calling sheet settings depth)
+            (an-order (uploaded body t final) (calling sheet settings depth))
+            (ends-early e tx {why = why} (ap (performed (roomOf e tx)) (structure-early body t final sheet settings depth rising
+            (asked-early a settings depth (deep-struct g) i (λ o. p .there o .said) (p .broken) q))));
       }
 
   pub struct-read : {v : View} {s : StartRow} {c : Cursor} {e tx e′ tx′ : List ℕ} {tests : Bool} {got : Step} → r ≡ Opening.Found v s c
@@ -169,19 +179,12 @@ module _ (body t : List ℕ) (final : ℕ) (sheet : List ℕ) {parsed : Structur
   unfolding structureReading performed
   struct-read {v} {s} {c} {e} {tx} {tests = tests} {got} q x k =
       record {
-        read = λ g. record {
-          reads = record {
-            is = record {
-              order = rising;
-              ordered = an-order (uploaded body t final) (calling sheet settings depth);
-              reads = told (structureReading (uploaded body t final) (calling sheet settings depth) rising) got
-                  (ends-as (ap (performed (roomOf e tx))
-                  (structure-is body t final sheet settings depth (saidBy sheet) (openedAt body t v s c)
-                  (asked-found a settings depth (deep-struct g) i (λ o. p .there o .said) q)))
-                  (rw k at (x .does) .is (holds-nothing e tx)));
-            };
-          };
-        };
+        read = λ g. struct-told (uploaded body t final) (calling sheet settings depth)
+            (an-order (uploaded body t final) (calling sheet settings depth))
+            (ends-as (ap (performed (roomOf e tx))
+            (structure-is body t final sheet settings depth (saidBy sheet) (openedAt body t v s c)
+            (asked-found a settings depth (deep-struct g) i (λ o. p .there o .said) q)))
+            (rw k at (x .does) .is (holds-nothing e tx)));
       }
 
 pub ruleset struct-laws = (needs, asked-root, struct-said, struct-refused, struct-read)
@@ -204,12 +207,8 @@ module _ (body t : List ℕ) (final : ℕ) (sheet : List ℕ) {said : MapSheet} 
   unfolding mapReading mapPlan perform
   map-refused e tx {why} q =
       record {
-        read = λ g. record {
-          reads = record {
-            is = call-early (mapReading (uploaded body t final) (calling sheet (settingsOf settings) depth)) {why = why}
-                (rw (asked-early a (settingsOf settings) depth (deep-map g) i (λ o. p .there o .said) (p .broken) q)) refl;
-          };
-        };
+        read = λ g. map-told (uploaded body t final) (calling sheet (settingsOf settings) depth) (ends-early e tx {why = why}
+            (rw (asked-early a (settingsOf settings) depth (deep-map g) i (λ o. p .there o .said) (p .broken) q)));
       }
 
   pub map-read : {v : View} {s : StartRow} {c : Cursor} {e tx e′ tx′ : List ℕ} {got : Step} → r ≡ Opening.Found v s c
@@ -218,13 +217,9 @@ module _ (body t : List ℕ) (final : ℕ) (sheet : List ℕ) {said : MapSheet} 
   unfolding mapReading
   map-read {e = e} {tx = tx} {got = got} q x =
       record {
-        read = λ g. record {
-          reads = record {
-            is = told (mapReading (uploaded body t final) (calling sheet (settingsOf settings) depth)) got
-                (ends-as (ap (λ (z : Plan). perform (roomOf e tx) z nothing) (map-found settings depth p a (deep-map g) i q))
-                (x .does .is (holds-nothing e tx)));
-          };
-        };
+        read = λ g. map-told (uploaded body t final) (calling sheet (settingsOf settings) depth)
+            (ends-as (ap (λ (z : Plan). perform (roomOf e tx) z nothing) (map-found settings depth p a (deep-map g) i q))
+            (x .does .is (holds-nothing e tx)));
       }
 
 pub ruleset map-laws = (needs, asked-root, map-said, map-refused, map-read)
@@ -234,72 +229,100 @@ pub ruleset list-laws = (needs, asked-root, list-said, list-refused, list-found)
 pub ruleset string-list-laws = (needs, asked-root, list-said, strings-refused, strings-found)
 
 -- ---- told in numbers
-two-stored : (two : List ℕ) (a b : ℕ) → 2 ≤ length two → (getD (set (set two 0 a) 1 b) 0 0 ≡ a) × (getD (set (set two 0 a) 1 b) 1 0 ≡ b)
-two-stored [] a b h = absurd (omega arith)
-two-stored (x ∷ []) a b h = absurd (omega arith)
-two-stored (x ∷ y ∷ l) a b h = (refl, refl)
+-- three numbers, each stored in its place
+pub record Stored (l : List ℕ) (a b c : ℕ) : Type 0 where
+  pub first : getD l 0 0 ≡ a
+  pub second : getD l 1 0 ≡ b
+  pub third : getD l 2 0 ≡ c
 
-module _ {step : Step} {two : List ℕ} where
-  pub tells-none : (r : ℕ) → length two < 2 → Tells step two two r
-  tells-none r h = record { count = λ g. absurd (omega arith); bytes = λ g. absurd (omega arith); number = λ g. absurd (omega arith) }
+stored : (l : List ℕ) (a b c : ℕ) → 3 ≤ length l → Stored (set (set (set l 0 a) 1 b) 2 c) a b c
+stored [] a b c h = absurd (omega arith)
+stored (x ∷ []) a b c h = absurd (omega arith)
+stored (x ∷ y ∷ []) a b c h = absurd (omega arith)
+stored (x ∷ y ∷ z ∷ l) a b c h = record { first = refl; second = refl; third = refl }
 
-  pub tells-done : {w : Written} → step ≡ Step.Done w → Tells step two (set (set two 0 (w .count)) 1 (w .used)) 0
-  tells-done {w} q =
-      rw q (record {
-        count = λ h. two-stored two (w .count) (w .used) h .0;
-        bytes = λ h. two-stored two (w .count) (w .used) h .1;
-        number = λ h. refl;
-      })
+-- the second is there
+pub second-there : (l : List ℕ) (a : ℕ) → 3 ≤ length l → 1 < length (set l 0 a)
+second-there [] a h = absurd (omega arith)
+second-there (x ∷ l) a h = omega (arith, h)
 
-  pub tells-refused : {why : Refusal} {w : Written} {r : ℕ} → step ≡ Step.Refused why w → r ≡ number why
-      → Tells step two (set (set two 0 (w .count)) 1 (w .used)) r
-  tells-refused {why} {w} q e =
-      rw q (record {
-        count = λ h. two-stored two (w .count) (w .used) h .0;
-        bytes = λ h. two-stored two (w .count) (w .used) h .1;
+module _ {step : Step} {lent : List ℕ} where
+  pub tells-none : (r : ℕ) → length lent < 3 → Tells step lent lent r
+  tells-none r h =
+      record {
+        count = λ g. absurd (omega arith);
+        bytes = λ g. absurd (omega arith);
+        place = λ g. absurd (omega arith);
+        number = λ g. absurd (omega arith);
+      }
+
+  -- what is stored, where a step's number is r and its place c
+  tells-stored : (w : Written) {c r : ℕ} → writtenOf step ≡ w → placeOf step ≡ c → r ≡ numberOf step
+      → Tells step lent (set (set (set lent 0 (w .count)) 1 (w .used)) 2 c) r
+  tells-stored w {c} q p e =
+      record {
+        count = λ h. rw q (stored lent (w .count) (w .used) c h .first);
+        bytes = λ h. rw q (stored lent (w .count) (w .used) c h .second);
+        place = λ h. rw p (stored lent (w .count) (w .used) c h .third);
         number = λ h. e;
-      })
+      }
 
-pub ruleset tells-laws = (needs, tells-none, tells-done, tells-refused)
+  pub tells-done : {w : Written} → step ≡ Step.Done w → Tells step lent (set (set (set lent 0 (w .count)) 1 (w .used)) 2 0) 0
+  tells-done {w} q = tells-stored w (ap writtenOf q) (ap placeOf q) (sym (ap numberOf q))
+
+  pub tells-refused : {why : Refusal} {w : Written} {c r : ℕ} → step ≡ Step.Refused why w → c ≡ place why → r ≡ number why
+      → Tells step lent (set (set (set lent 0 (w .count)) 1 (w .used)) 2 c) r
+  tells-refused {w = w} q p e = tells-stored w (ap writtenOf q) (ap placeOf q ∙ sym p) (e ∙ sym (ap numberOf q))
+
+pub ruleset tells-laws = (needs, second-there, tells-none, tells-done, tells-refused)
 
 module _ {body table : List ℕ} {final : ℕ} {sheet : List ℕ} {flags max : ℕ} {s : codec.Settings} (b : SetBy flags max s)
     {depth : ShapeDepth} {entered : Bool} {e t e′ t′ : List ℕ} {step : Step}
-    {two two′ : List ℕ} {r : ℕ} (x : Tells step two two′ r) where
+    {lent lent′ : List ℕ} {r : ℕ} (x : Tells step lent lent′ r) where
   told-call : {shape : Shape} → EnteredRead shape (uploaded body table final) (calling sheet (settingsOf s) depth) entered e t e′ t′ step
-      → EnteredCall shape (uploaded body table final) (calling sheet (settingsBy flags max) depth) entered e t e′ t′ two two′ r
-  told-call y = rw (← b .is) (record { told = λ g. record { reads = λ h. rw (x .count h, x .bytes h, x .number h) (y .read g .reads) } })
+      → EnteredCall shape (uploaded body table final) (calling sheet (settingsBy flags max) depth) entered e t e′ t′ lent lent′ r
+  told-call y =
+      rw (← b .is) (record {
+        told = λ g. record {
+          reads = λ h. rw (x .count h, x .bytes h, x .number h) (y .read g .reads);
+          place = λ h. rw (x .place h) (y .read g .place);
+        };
+      })
 
   module _ (kind : ℕ) where
     pub told-struct : kind ≡ 1 → EnteredRead Shape.Struct (uploaded body table final)
         (calling sheet (settingsOf s) depth) entered e t e′ t′ step
-        → EnteredCall (shapeOf kind) (uploaded body table final) (calling sheet (settingsBy flags max) depth) entered e t e′ t′ two two′ r
+        → EnteredCall (shapeOf kind) (uploaded body table final) (calling sheet (settingsBy flags max) depth) entered e t e′ t′ lent lent′ r
     told-struct q y = rw (eq-eqb kind 1 q) (told-call y)
 
     pub told-list : (kind ≡ 1 → ⊥) → kind ≡ 2
         → EnteredRead Shape.List (uploaded body table final) (calling sheet (settingsOf s) depth) entered e t e′ t′ step
-        → EnteredCall (shapeOf kind) (uploaded body table final) (calling sheet (settingsBy flags max) depth) entered e t e′ t′ two two′ r
+        → EnteredCall (shapeOf kind) (uploaded body table final) (calling sheet (settingsBy flags max) depth) entered e t e′ t′ lent lent′ r
     told-list o q y = rw (ne-eqb kind 1 o, eq-eqb kind 2 q) (told-call y)
 
     pub told-map : (kind ≡ 1 → ⊥) → (kind ≡ 2 → ⊥) → kind ≡ 3
         → EnteredRead Shape.Map (uploaded body table final) (calling sheet (settingsOf s) depth) entered e t e′ t′ step
-        → EnteredCall (shapeOf kind) (uploaded body table final) (calling sheet (settingsBy flags max) depth) entered e t e′ t′ two two′ r
+        → EnteredCall (shapeOf kind) (uploaded body table final) (calling sheet (settingsBy flags max) depth) entered e t e′ t′ lent lent′ r
     told-map o p q y = rw (ne-eqb kind 1 o, ne-eqb kind 2 p, eq-eqb kind 3 q) (told-call y)
 
     pub told-strings : (kind ≡ 1 → ⊥) → (kind ≡ 2 → ⊥) → (kind ≡ 3 → ⊥)
         → EnteredRead Shape.StringList (uploaded body table final) (calling sheet (settingsOf s) depth) entered e t e′ t′ step
-        → EnteredCall (shapeOf kind) (uploaded body table final) (calling sheet (settingsBy flags max) depth) entered e t e′ t′ two two′ r
+        → EnteredCall (shapeOf kind) (uploaded body table final) (calling sheet (settingsBy flags max) depth) entered e t e′ t′ lent lent′ r
     told-strings o p q y = rw (ne-eqb kind 1 o, ne-eqb kind 2 p, ne-eqb kind 3 q) (told-call y)
 
 pub ruleset told-laws = (needs, told-struct, told-list, told-map, told-strings)
 
--- ---- two numbers of one's own are lent
+-- ---- three numbers of one's own are lent
 module _ {shape : Shape} {body table : List ℕ} {final : ℕ} {sheet : List ℕ} {settings : Settings} {depth : ShapeDepth}
-    {e t e′ t′ two two′ : List ℕ} {r : ℕ}
-    (x : ToldCall shape (uploaded body table final) (calling sheet settings depth) e t e′ t′ two two′ r) (h : 2 ≤ length two) where
-  pub call-two : SheetCall shape (uploaded body table final) (calling sheet settings depth) e t e′ t′ (getD two′ 0 0) (getD two′ 1 0) r
-  call-two = x .reads h
+    {e t e′ t′ lent lent′ : List ℕ} {r : ℕ}
+    (x : ToldCall shape (uploaded body table final) (calling sheet settings depth) e t e′ t′ lent lent′ r) (h : 3 ≤ length lent) where
+  pub call-lent : SheetCall shape (uploaded body table final) (calling sheet settings depth) e t e′ t′ (getD lent′ 0 0) (getD lent′ 1 0) r
+  call-lent = x .reads h
 
-  pub demand-two : Demanded shape (uploaded body table final) (calling sheet settings depth) e t e′ (getD two′ 0 0) r
-  demand-two = demanded call-two
+  pub place-lent : SheetPlace shape (uploaded body table final) (calling sheet settings depth) e t (getD lent′ 2 0)
+  place-lent = x .place h
 
-pub ruleset two-laws = (needs, call-two, demand-two)
+  pub demand-lent : Demanded shape (uploaded body table final) (calling sheet settings depth) e t e′ (getD lent′ 0 0) r
+  demand-lent = demanded call-lent
+
+pub ruleset lent-laws = (needs, call-lent, place-lent, demand-lent)

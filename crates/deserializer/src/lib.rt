@@ -1,8 +1,8 @@
 // The port of src/codec/deserializer.rs: the readings by a sheet, from what is asked first to 9 at the end. What each answers is defined in
 // `readings`.
 ghost use Rattle.codec.specs.Settings.{settingsOf};
-ghost use Rattle.deserializer.specs.Call.{EnteredRead, SetBy, Tells, EnteredCall, ToldCall, SheetCall, settingsBy, shapeDepth};
-ghost use Rattle.deserializer.specs.Call.{shapeOf};
+ghost use Rattle.deserializer.specs.Call.{EnteredRead, SetBy, Tells, EnteredCall, ToldCall, SheetCall, SheetPlace, settingsBy};
+ghost use Rattle.deserializer.specs.Call.{shapeDepth, shapeOf};
 ghost use Rattle.deserializer.specs.Demand.{Demanded};
 ghost use Rattle.readings.specs.Call.{uploaded, calling};
 use codec::guard::Guard;
@@ -183,22 +183,25 @@ pub fn settings_by(flags: u32, max_depth: u32) -> Settings
     }
 }
 
-// The number of a step; how many entries and text bytes are written goes to two numbers that are lent for it.
+// The number of a step; how many entries and text bytes are written, and the place beside the number, go to three numbers that are lent
+// for it.
 fn tell(step: Step, told: &mut [usize]) -> u32
     ensures { λ r. ⌜ Tells step (now (told .entry)) (now (told .exit)) r ⌝ }
 {
-    if told.len() < 2 {
+    if told.len() < 3 {
         return 0;
     }
     match step {
         Step::Done(w) => {
             told[0] = w.count;
             told[1] = w.used;
+            told[2] = 0;
             0
         }
         Step::Refused(why, w) => {
             told[0] = w.count;
             told[1] = w.used;
+            told[2] = refusal::place_of(why) as usize;
             refusal::number_of(why)
         }
     }
@@ -324,7 +327,54 @@ fn read_sheet(
     number
 }
 
-// A reading by its shape's number, with how many entries and text bytes are written. A caller of this needs no proof by hand.
+// A reading by its shape's number, with how many entries and text bytes are written, and the place of the failing `&` where the number is
+// 7. A caller of this needs no proof by hand.
+pub fn read_with_place(
+    kind: u32,
+    body: &[u8],
+    rows: &[u32],
+    end: u32,
+    sheet: &[u8],
+    flags: u32,
+    max_depth: u32,
+    depth: u32,
+    entries: &mut [u32],
+    texts: &mut [u8],
+    count: &mut usize,
+    length: &mut usize,
+    place: &mut usize,
+) -> u32
+    ensures reading { λ r. ⌜ SheetCall (shapeOf kind) (uploaded (now (body .entry)) (now (rows .entry)) end)
+        (calling (now (sheet .entry)) (settingsBy flags «max_depth») (shapeDepth depth))
+        (now (entries .entry)) (now (texts .entry)) (now (entries .exit)) (now (texts .exit)) (now (count .exit)) (now (length .exit)) r ⌝ }
+    ensures place { λ r. ⌜ SheetPlace (shapeOf kind) (uploaded (now (body .entry)) (now (rows .entry)) end)
+        (calling (now (sheet .entry)) (settingsBy flags «max_depth») (shapeDepth depth))
+        (now (entries .entry)) (now (texts .entry)) (now (place .exit)) ⌝ }
+    ensures demand { λ r. ⌜ Demanded (shapeOf kind) (uploaded (now (body .entry)) (now (rows .entry)) end)
+        (calling (now (sheet .entry)) (settingsBy flags «max_depth») (shapeDepth depth))
+        (now (entries .entry)) (now (texts .entry)) (now (entries .exit)) (now (count .exit)) r ⌝ }
+{
+    let mut told = [0usize; 3];
+    let number = read_sheet(
+        kind,
+        body,
+        rows,
+        end,
+        sheet,
+        flags,
+        max_depth,
+        depth,
+        entries,
+        texts,
+        &mut told,
+    );
+    *count = told[0];
+    *length = told[1];
+    *place = told[2];
+    number
+}
+
+// The same without the place, which only a map and a string list have to tell.
 pub fn read(
     kind: u32,
     body: &[u8],
@@ -346,8 +396,8 @@ pub fn read(
         (calling (now (sheet .entry)) (settingsBy flags «max_depth») (shapeDepth depth))
         (now (entries .entry)) (now (texts .entry)) (now (entries .exit)) (now (count .exit)) r ⌝ }
 {
-    let mut told = [0usize; 2];
-    let number = read_sheet(
+    let mut place = 0;
+    read_with_place(
         kind,
         body,
         rows,
@@ -358,9 +408,8 @@ pub fn read(
         depth,
         entries,
         texts,
-        &mut told,
-    );
-    *count = told[0];
-    *length = told[1];
-    number
+        count,
+        length,
+        &mut place,
+    )
 }

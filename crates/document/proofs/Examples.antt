@@ -2,13 +2,14 @@
 use Prim.Native.Nat.{ℕ}
 use Prim.Native.String.{String}
 use mathlib.Core.Path.{_≡_, refl}
+use mathlib.Core.Bool.{true}
 use mathlib.Core.List.{List, [], _∷_, map}
 use mathlib.Core.Option.{Option, none, some}
 use Rattle.lists.specs.Bytes.{ascii}
 use Rattle.refusal.specs.declared.Refusal.{Refusal}
 use Rattle.refusal.specs.Answer.{Answer, gives, refuses}
 use Rattle.reference.proofs.All as reference
-use Rattle.table.specs.Row.{Name, Tok, start, attr, gt, close, slash, text, misc, matter}
+use Rattle.table.specs.Row.{Row, Name, Tok, start, attr, gt, close, slash, text, misc, matter}
 use Rattle.xml.specs.Drain.{sameName}
 use Rattle.document.specs.Reader.{skip, next}
 use Rattle.document.specs.Scope.{Child, level, children, childrenOf, rootOf}
@@ -54,13 +55,29 @@ pub scopes :
 unfolding reference.computed sameName skip next level children childrenOf rootOf
 scopes = refl
 
--- the root's first text, where the rows run out with 9
+-- a row of which only the start of its value counts
+abbrev valued : ℕ → Row
+valued from =
+    record {
+      kind = 0;
+      prefixStart = 0;
+      prefixLen = 0;
+      localStart = 0;
+      localLen = 0;
+      valueStart = from;
+      valueLen = 0;
+      position = 0;
+    }
+
+-- the root's first text, where the value of the third row begins at 3 and the rows run out with 9
 abbrev root-text : List Tok → Option (Answer (List ℕ))
 root-text toks = go (rootOf toks)
   where
     go : Option Child → Option (Answer (List ℕ))
     go none = none
-    go (some c) = some (textOf (some Refusal.IllFormed) c)
+    go (some c) =
+        let rows = valued 0 ∷ valued 0 ∷ valued 3 ∷ [] in
+        some (textOf (record { rows = rows; failure = some Refusal.IllFormed; illFormed = true; ends = 0 }) c)
 
 pub texts :
     map root-text (
@@ -68,8 +85,9 @@ pub texts :
     (start (plain "r") ∷ gt ∷ matter misc ∷ matter (text (ascii "x&lt;")) ∷ start (plain "b") ∷ slash ∷ close (plain "r") ∷ [])
     -- <r><b/>x</r>
     ∷ (start (plain "r") ∷ gt ∷ start (plain "b") ∷ slash ∷ matter (text (ascii "x")) ∷ close (plain "r") ∷ [])
-    -- <r>&zz;</r>
+    -- <r>&zz;</r> and <r>ab&zz;</r>: 7, with the offset of the `&` in the body
     ∷ (start (plain "r") ∷ gt ∷ matter (text (ascii "&zz;")) ∷ close (plain "r") ∷ [])
+    ∷ (start (plain "r") ∷ gt ∷ matter (text (ascii "ab&zz;")) ∷ close (plain "r") ∷ [])
     -- <r></r> and <r/>
     ∷ (start (plain "r") ∷ gt ∷ close (plain "r") ∷ [])
     ∷ (start (plain "r") ∷ slash ∷ [])
@@ -78,7 +96,8 @@ pub texts :
     ∷ [])
     ≡ some (gives (ascii "x<"))
     ∷ some (refuses Refusal.ElementInText)
-    ∷ some (refuses Refusal.BadReference)
+    ∷ some (refuses (Refusal.BadReference 3))
+    ∷ some (refuses (Refusal.BadReference 5))
     ∷ some (gives [])
     ∷ some (gives [])
     ∷ some (refuses Refusal.IllFormed)

@@ -7,3 +7,4 @@ pub mod Tags
 pub mod Placed
 pub mod Inside
 pub mod Short
+pub mod Place

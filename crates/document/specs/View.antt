@@ -8,7 +8,7 @@ use Rattle.refusal.specs.declared.Refusal.{Refusal}
 use Rattle.table.specs.Row.{Row, Tok, start, attr, gt, close, slash, matter, bad, toksOf}
 use Rattle.xml.specs.declared.Cause.{Cause}
 use Rattle.xml.specs.declared.Drained.{Drained}
-use Rattle.xml.specs.Drain.{walked}
+use Rattle.xml.specs.Drain.{walked, causePlace, referencePlace}
 
 -- the rows that a reader takes one by one; what it meets when they run out, if anything; whether it is refused with 9 at its end; and the
 -- stream position at the end of the rows, where a piece ends whose own rows run out
@@ -29,20 +29,25 @@ positionAt final (r ∷ rest) zero = r .position
 positionAt final (r ∷ rest) (suc k) = positionAt final rest k
 
 -- what a text meets: "In a text under strict reading a mismatched or unclosed tag gives 9". (A text never meets a repeated attribute: the
--- start row before it gives 6.)
-abbrev pub failureOf : Cause → Refusal
-failureOf Cause.TokenError = Refusal.TokenError
-failureOf Cause.MismatchedEnd = Refusal.IllFormed
-failureOf Cause.UnclosedElement = Refusal.IllFormed
-failureOf Cause.RepeatedAttribute = Refusal.IllFormed
-failureOf Cause.BadReference = Refusal.BadReference
+-- start row before it gives 6.) A reference has the place `at` of the drain's cause, that of validation.
+abbrev pub failureOf : ℕ → Cause → Refusal
+failureOf at Cause.TokenError = Refusal.TokenError
+failureOf at Cause.MismatchedEnd = Refusal.IllFormed
+failureOf at Cause.UnclosedElement = Refusal.IllFormed
+failureOf at Cause.RepeatedAttribute = Refusal.IllFormed
+failureOf at Cause.BadReference = Refusal.BadReference at
 
 -- strict: the rows before the one that fails the drain; the tokenizer then stands after that one. (A walk over tokens never says `Table`.)
-abbrev pub strictView : List Row → ℕ → Drained → View
-strictView rows final Drained.Passes = whole rows final
-strictView rows final Drained.Table = whole rows final
-strictView rows final (Drained.IllFormed k cause) =
-    record { rows = take k rows; failure = some (failureOf cause); illFormed = true; ends = positionAt final rows k }
+abbrev pub strictView : List ℕ → List Row → ℕ → Drained → View
+strictView body rows final Drained.Passes = whole rows final
+strictView body rows final Drained.Table = whole rows final
+strictView body rows final (Drained.IllFormed k cause) =
+    record {
+      rows = take k rows;
+      failure = some (failureOf (causePlace body rows k cause) cause);
+      illFormed = true;
+      ends = positionAt final rows k;
+    }
 
 abbrev pub isError : Tok → Bool
 isError (start n) = false
@@ -69,5 +74,6 @@ lenientView rows final none = whole rows final
 lenientView rows final (some k) = record { rows = take k rows; failure = some Refusal.TokenError; illFormed = false; ends = final }
 
 unfoldable pub view : Bool → List ℕ → List Row → ℕ → View
-view true body rows final = strictView rows final (walked (toksOf body rows))
+unfolding referencePlace
+view true body rows final = strictView body rows final (walked (toksOf body rows))
 view false body rows final = lenientView rows final (errorAt (toksOf body rows))

@@ -260,6 +260,48 @@ fn groups_after_nine() {
     struct_edge(b"<r><n>1</n></s>", &rows, 15, &sheet, 1, 0);
 }
 
+// the place of the failing `&` in the body: of a lenient reading that of unescaping, of a strict one that of validation.
+fn place_in_map() {
+    let mut rows = [0u32; 112];
+    put_row(&mut rows, 0, [1, 0, 0, 1, 1, 0, 0, 2]);
+    put_row(&mut rows, 1, [3, 0, 0, 0, 0, 0, 0, 3]);
+    put_row(&mut rows, 2, [1, 0, 0, 4, 5, 0, 0, 9]);
+    put_row(&mut rows, 3, [3, 0, 0, 0, 0, 0, 0, 10]);
+    put_row(&mut rows, 4, [1, 0, 0, 11, 3, 0, 0, 14]);
+    put_row(&mut rows, 5, [3, 0, 0, 0, 0, 0, 0, 15]);
+    put_row(&mut rows, 6, [6, 0, 0, 0, 0, 15, 1, 16]);
+    put_row(&mut rows, 7, [4, 0, 0, 18, 3, 0, 0, 22]);
+    put_row(&mut rows, 8, [1, 0, 0, 23, 5, 0, 0, 28]);
+    put_row(&mut rows, 9, [3, 0, 0, 0, 0, 0, 0, 29]);
+    put_row(&mut rows, 10, [6, 0, 0, 0, 0, 29, 10, 39]);
+    put_row(&mut rows, 11, [4, 0, 0, 41, 5, 0, 0, 47]);
+    put_row(&mut rows, 12, [4, 0, 0, 49, 5, 0, 0, 55]);
+    put_row(&mut rows, 13, [4, 0, 0, 57, 1, 0, 0, 59]);
+    let sheet = [4u8];
+    let body = b"<r><entry><key>k</key><value>&#+65;&zz;</value></entry></r>";
+    map_edge(body, &rows, 59, &sheet, 0, 0);
+    map_edge(body, &rows, 59, &sheet, 1, 0);
+}
+
+// the length of a failed text is the place where its number is 7, and 0 where it is another.
+fn place_in_entry() {
+    let mut rows = [0u32; 96];
+    put_row(&mut rows, 0, [1, 0, 0, 1, 1, 0, 0, 2]);
+    put_row(&mut rows, 1, [3, 0, 0, 0, 0, 0, 0, 3]);
+    put_row(&mut rows, 2, [1, 0, 0, 4, 1, 0, 0, 5]);
+    put_row(&mut rows, 3, [3, 0, 0, 0, 0, 0, 0, 6]);
+    put_row(&mut rows, 4, [6, 0, 0, 0, 0, 6, 5, 11]);
+    put_row(&mut rows, 5, [4, 0, 0, 13, 1, 0, 0, 15]);
+    put_row(&mut rows, 6, [1, 0, 0, 16, 1, 0, 0, 17]);
+    put_row(&mut rows, 7, [3, 0, 0, 0, 0, 0, 0, 18]);
+    put_row(&mut rows, 8, [1, 0, 0, 19, 1, 0, 0, 20]);
+    put_row(&mut rows, 9, [5, 0, 0, 0, 0, 0, 0, 22]);
+    put_row(&mut rows, 10, [4, 0, 0, 24, 1, 0, 0, 26]);
+    put_row(&mut rows, 11, [4, 0, 0, 28, 1, 0, 0, 30]);
+    let sheet = [0u8, 1, 114, 2, 2, 1, 119, 2, 1, 118];
+    struct_edge(b"<r><w>1&zz;</w><v><b/></v></r>", &rows, 30, &sheet, 0, 0);
+}
+
 pub fn readings() {
     no_root();
     piece();
@@ -274,4 +316,6 @@ pub fn readings() {
     last_wins();
     both_is_key();
     groups_after_nine();
+    place_in_map();
+    place_in_entry();
 }

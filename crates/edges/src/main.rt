@@ -1,8 +1,8 @@
 // The bodies at the edges of the scope paper (01, "Bodies at the edges"), run through the proved functions. For each text a line: the text,
-// what `validate_references` answers, and the bytes that `unescape` gives, in hexadecimal; a refusal is its number. For each body with a
-// table a line: the body, and the drain's number, row and cause, the causes counted from 1 in the paper's order; then readings, with their
-// entries and texts, and integers. `stdout` has what the paper expects, written by hand from the paper, and the check compares. It rests on
-// `unescape` and `falzheod`.
+// what `validate_references` answers, and the bytes that `unescape` gives, in hexadecimal; a refusal is its number, and the place of the
+// failing `&`. For each body with a table a line: the body, and the drain's number, row, cause and place, the causes counted from 1 in the
+// paper's order; then readings, with their entries and texts, and integers. `stdout` has what the paper expects, written by hand from the
+// paper and from change request 1, and the check compares. It rests on `unescape` and `falzheod`.
 mod bodies;
 mod show;
 
@@ -27,13 +27,20 @@ fn print_bytes(bytes: &[u8]) {
     }
 }
 
+// The number of a bad reference, and the place of its `&`.
+fn print_bad(at: usize) {
+    io::print_decimal(STDOUT_FILENO, 7);
+    io::write_all(STDOUT_FILENO, b" at ");
+    io::print_decimal(STDOUT_FILENO, at as u64);
+}
+
 fn print_validated(text: &[u8]) {
     match validate_references(text) {
         Validated::Valid => {
             io::write_all(STDOUT_FILENO, b"valid");
         }
-        Validated::BadReference => {
-            io::print_decimal(STDOUT_FILENO, 7);
+        Validated::BadReference { at } => {
+            print_bad(at);
         }
     }
 }
@@ -47,8 +54,8 @@ fn print_unescaped(text: &[u8]) {
                 print_bytes(&out[0..n]);
             }
         }
-        Unescaped::BadReference => {
-            io::print_decimal(STDOUT_FILENO, 7);
+        Unescaped::BadReference { at } => {
+            print_bad(at);
         }
         Unescaped::NoRoom => {
             io::print_decimal(STDOUT_FILENO, 10);
@@ -65,11 +72,12 @@ fn edge(text: &[u8]) {
     io::write_all(STDOUT_FILENO, b"\n");
 }
 
-// `end` is the final position. What the drain is lent for row and cause holds other numbers before.
+// `end` is the final position. What the drain is lent for row, cause and place holds other numbers before.
 fn drain_edge(body: &[u8], rows: &[u32], end: u32) {
     let mut row: usize = 77;
     let mut cause: u32 = 77;
-    let number = falzheod_drain(body, rows, end, &mut row, &mut cause);
+    let mut place: usize = 77;
+    let number = falzheod_drain(body, rows, end, &mut row, &mut cause, &mut place);
     io::write_all(STDOUT_FILENO, body);
     io::write_all(STDOUT_FILENO, b" drain: ");
     io::print_decimal(STDOUT_FILENO, number as u64);
@@ -77,6 +85,8 @@ fn drain_edge(body: &[u8], rows: &[u32], end: u32) {
     io::print_decimal(STDOUT_FILENO, row as u64);
     io::write_all(STDOUT_FILENO, b", cause ");
     io::print_decimal(STDOUT_FILENO, cause as u64);
+    io::write_all(STDOUT_FILENO, b", place ");
+    io::print_decimal(STDOUT_FILENO, place as u64);
     io::write_all(STDOUT_FILENO, b"\n");
 }
 
@@ -124,6 +134,15 @@ fn repeated_edge() {
     drain_edge(b"<r x=\"1\" x=\"2\"/>", &rows, 16);
 }
 
+fn bad_reference_edge() {
+    let mut rows = [0u32; 32];
+    put_row(&mut rows, 0, [1, 0, 0, 1, 1, 0, 0, 2]);
+    put_row(&mut rows, 1, [3, 0, 0, 0, 0, 0, 0, 3]);
+    put_row(&mut rows, 2, [6, 0, 0, 0, 0, 3, 10, 13]);
+    put_row(&mut rows, 3, [4, 0, 0, 15, 1, 0, 0, 17]);
+    drain_edge(b"<a>&#+65;&zz;</a>", &rows, 17);
+}
+
 fn main() {
     edge(b"&#x41;&lt;");
     edge(b"&#+65;");
@@ -133,10 +152,12 @@ fn main() {
     edge(b"&#x10FFFF;");
     edge(b"&#xFFFE;");
     edge(b"a&b");
+    edge(b"&#+65;&zz;");
     mismatched_edge();
     unclosed_edge();
     empty_edge();
     repeated_edge();
+    bad_reference_edge();
     readings();
     integer_edge(b"2147483647", 2147483647);
     integer_edge(b"2147483648", 0);

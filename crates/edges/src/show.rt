@@ -1,5 +1,5 @@
-// Readings of a body at the edges, each a line: the body, the operation, the flags and the depth where they are not 0, the number, and each
-// entry as its six numbers, with the texts behind them.
+// Readings of a body at the edges, each a line: the body, the operation, the flags and the depth where they are not 0, the number, the
+// place beside a 7, and each entry as its six numbers, with the texts behind them.
 use falzheod::aggregates::falzheod_read_list;
 use falzheod::aggregates::falzheod_read_map;
 use falzheod::aggregates::falzheod_read_struct;
@@ -9,6 +9,7 @@ use libc::STDOUT_FILENO;
 // Entries and texts as they were lent, and what came of it.
 struct Read {
     number: u32,
+    place: usize,
     count: usize,
     length: usize,
     entries: [u32; 24],
@@ -65,6 +66,10 @@ fn print_texts(texts: &[u8], n: usize) {
 
 fn print_read(r: Read) {
     io::print_decimal(STDOUT_FILENO, long(r.number));
+    if r.number == 7 {
+        io::write_all(STDOUT_FILENO, b" at ");
+        io::print_decimal(STDOUT_FILENO, r.place as u64);
+    }
     let entries = r.entries;
     print_entries(&entries, r.count);
     let texts = r.texts;
@@ -102,6 +107,7 @@ pub fn struct_edge(body: &[u8], rows: &[u32], end: u32, sheet: &[u8], flags: u32
     print_asked(body, b" structure, flags ", flags, depth);
     print_read(Read {
         number,
+        place: 0,
         count,
         length,
         entries,
@@ -130,6 +136,7 @@ pub fn list_edge(body: &[u8], rows: &[u32], end: u32, sheet: &[u8], flags: u32, 
     print_asked(body, b" list, flags ", flags, depth);
     print_read(Read {
         number,
+        place: 0,
         count,
         length,
         entries,
@@ -142,6 +149,7 @@ pub fn map_edge(body: &[u8], rows: &[u32], end: u32, sheet: &[u8], flags: u32, d
     let mut texts = [0u8; 64];
     let mut count: usize = 77;
     let mut length: usize = 77;
+    let mut place: usize = 77;
     let number = falzheod_read_map(
         body,
         rows,
@@ -154,10 +162,12 @@ pub fn map_edge(body: &[u8], rows: &[u32], end: u32, sheet: &[u8], flags: u32, d
         &mut texts,
         &mut count,
         &mut length,
+        &mut place,
     );
     print_asked(body, b" map, flags ", flags, depth);
     print_read(Read {
         number,
+        place,
         count,
         length,
         entries,

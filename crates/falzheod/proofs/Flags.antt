@@ -14,24 +14,24 @@ use Rattle.readings.specs.Call.{uploaded}
 use Rattle.readings.specs.Scalar.{booleanReading, integerReading, stringReading}
 use Rattle.scalar.specs.declared.Copied.{Copied}
 use Rattle.scalar.specs.Answers.{copiedAs, CopyIs}
-use Rattle.scalar.specs.Calls.{BooleanCall, IntegerCall, LengthCall, StringCall}
-use Rattle.scalar.proofs.Calling.{call-boolean, call-integer, call-string}
+use Rattle.scalar.specs.Calls.{BooleanRead, IntegerRead, LengthRead, StringRead}
+use Rattle.scalar.proofs.Calling.{read-boolean, read-integer, read-string}
 use Rattle.deserializer.specs.Call.{SetBy, settingsBy}
 
 module _ (body table : List ℕ) (final : ℕ) {flags : ℕ} {s : codec.Settings} (b : SetBy flags 0 s) (depth : ShapeDepth) where
-  pub read-boolean : {x : Answer Bool} {old new r : ℕ} → BooleanCall x old new r
+  pub flags-boolean : {x : Answer Bool} {old new p r : ℕ} → BooleanRead x old new p r
       → x ≡ booleanReading (uploaded body table final) (settingsOf s) depth
-      → BooleanCall (booleanReading (uploaded body table final) (settingsBy flags 0) depth) old new r
-  read-boolean c q = rw (← b .is) (call-boolean c q)
+      → BooleanRead (booleanReading (uploaded body table final) (settingsBy flags 0) depth) old new p r
+  flags-boolean c q = rw (← b .is) (read-boolean c q)
 
-  pub read-integer : {x : Answer ℤ} {old new : ℤ} {r : ℕ} → IntegerCall x old new r
+  pub flags-integer : {x : Answer ℤ} {old new : ℤ} {p r : ℕ} → IntegerRead x old new p r
       → x ≡ integerReading (uploaded body table final) (settingsOf s) depth
-      → IntegerCall (integerReading (uploaded body table final) (settingsBy flags 0) depth) old new r
-  read-integer c q = rw (← b .is) (call-integer c q)
+      → IntegerRead (integerReading (uploaded body table final) (settingsBy flags 0) depth) old new p r
+  flags-integer c q = rw (← b .is) (read-integer c q)
 
-  pub read-string : {x : Copied} {old new : List ℕ} {n r : ℕ}
-      → CopyIs (stringReading (uploaded body table final) (settingsOf s) depth (length old)) old new x → LengthCall (copiedAs x) n r
-      → StringCall (stringReading (uploaded body table final) (settingsBy flags 0) depth (length old)) old new n r
-  read-string q c = rw (← b .is) (call-string q c)
+  pub flags-string : {x : Copied} {old new : List ℕ} {n p r : ℕ}
+      → CopyIs (stringReading (uploaded body table final) (settingsOf s) depth (length old)) old new x → LengthRead (copiedAs x) n p r
+      → StringRead (stringReading (uploaded body table final) (settingsBy flags 0) depth (length old)) old new n p r
+  flags-string q c = rw (← b .is) (read-string q c)
 
-pub ruleset flag-laws = (needs, read-boolean, read-integer, read-string)
+pub ruleset flag-laws = (needs, flags-boolean, flags-integer, flags-string)

@@ -12,25 +12,26 @@ use Rattle.reference.specs.declared.Validated.{Validated}
 use Rattle.reference.specs.declared.Unescaped.{Unescaped}
 use Rattle.xml.specs.declared.Cause.{Cause}
 use Rattle.xml.specs.declared.Drained.{Drained}
-use Rattle.falzheod.specs.Numbers.{finished, validatedNumber, UnescapeCall, causeNumber, DrainCall}
+use Rattle.falzheod.specs.Numbers.{finished, ValidateCall, UnescapeCall, causeNumber, DrainCall}
 
 -- ---- each case, from what the call ensures of its answer and what the match found
 module _ {x : Validated} (y : Validated) (q : x ≡ y) where
-  pub call-valid : x ≡ Validated.Valid → finished ≡ validatedNumber y
-  call-valid e = rw (← q, e)
+  pub call-valid : x ≡ Validated.Valid → ValidateCall y 0 finished
+  call-valid e = record { number = rw (← q, e); place = rw (← q, e) }
 
-  pub call-invalid : x ≡ Validated.BadReference → number Refusal.BadReference ≡ validatedNumber y
-  call-invalid e = rw (← q, e)
+  pub call-invalid : {at : ℕ} → x ≡ Validated.BadReference at → ValidateCall y at (number (Refusal.BadReference at))
+  call-invalid e = record { number = rw (← q, e); place = rw (← q, e) }
 
 module _ {text old new : List ℕ} {x : Unescaped} (u : Unescape text old new x) where
-  pub call-length : {n : ℕ} → x ≡ Unescaped.Length n → UnescapeCall text old new n finished
-  call-length e = record { number = rw (← u .number, e); written = rw (← u .number, e); buffer = u .buffer }
+  pub call-length : {n : ℕ} → x ≡ Unescaped.Length n → UnescapeCall text old new n 0 finished
+  call-length e =
+      record { number = rw (← u .number, e); written = rw (← u .number, e); place = rw (← u .number, e); buffer = u .buffer }
 
-  pub call-bad : x ≡ Unescaped.BadReference → UnescapeCall text old new 0 (number Refusal.BadReference)
-  call-bad e = record { number = rw (← u .number, e); written = rw (← u .number, e); buffer = u .buffer }
+  pub call-bad : {at : ℕ} → x ≡ Unescaped.BadReference at → UnescapeCall text old new 0 at (number (Refusal.BadReference at))
+  call-bad e = record { number = rw (← u .number, e); written = rw (← u .number, e); place = rw (← u .number, e); buffer = u .buffer }
 
-  pub call-none : x ≡ Unescaped.NoRoom → UnescapeCall text old new 0 (number Refusal.NoRoom)
-  call-none e = record { number = rw (← u .number, e); written = rw (← u .number, e); buffer = u .buffer }
+  pub call-none : x ≡ Unescaped.NoRoom → UnescapeCall text old new 0 0 (number Refusal.NoRoom)
+  call-none e = record { number = rw (← u .number, e); written = rw (← u .number, e); place = rw (← u .number, e); buffer = u .buffer }
 
 module _ (d : Drained) {x : Drained} (q : x ≡ d) where
   pub call-passes : x ≡ Drained.Passes → DrainCall d 0 0 finished

@@ -1,4 +1,5 @@
--- Each answer as 01's number (refusal/specs/Numbers.antt) and values: 0 where the operation finished.
+-- Each answer as 01's number (refusal/specs/Numbers.antt) and values: 0 where the operation finished. The place beside the number 7 is
+-- that of the first failing `&`, "counted from the start of the text they got" (change request 1).
 use Prim.Native.Nat.{ℕ}
 use mathlib.Core.Path.{_≡_}
 use mathlib.Core.List.{List}
@@ -6,6 +7,7 @@ use lib.ListN.{length}
 use Rattle.refusal.specs.declared.Refusal.{Refusal}
 use Rattle.refusal.specs.Numbers.{number}
 use Rattle.reference.specs.Text.{answer, filled, unescaped}
+use Rattle.reference.specs.Place.{failingAt}
 use Rattle.reference.specs.declared.Validated.{Validated}
 use Rattle.reference.specs.declared.Unescaped.{Unescaped}
 use Rattle.xml.specs.declared.Cause.{Cause}
@@ -21,23 +23,34 @@ sizeOf l = length l
 -- "Validate. 7."
 abbrev pub validatedNumber : Validated → ℕ
 validatedNumber Validated.Valid = finished
-validatedNumber Validated.BadReference = number Refusal.BadReference
+validatedNumber (Validated.BadReference at) = number (Refusal.BadReference at)
 
--- "Unescape. 7, then 10": the number, and how many bytes were written
+-- the promise: r is the number and p the place of the answer
+pub record ValidateCall (v : Validated) (p r : ℕ) : Type 0 where
+  pub number : r ≡ validatedNumber v
+  pub place : p ≡ failingAt v
+
+-- "Unescape. 7, then 10": the number, how many bytes were written, and the place
 abbrev pub unescapedNumber : Unescaped → ℕ
 unescapedNumber (Unescaped.Length n) = finished
-unescapedNumber Unescaped.BadReference = number Refusal.BadReference
+unescapedNumber (Unescaped.BadReference at) = number (Refusal.BadReference at)
 unescapedNumber Unescaped.NoRoom = number Refusal.NoRoom
 
 abbrev pub unescapedLength : Unescaped → ℕ
 unescapedLength (Unescaped.Length n) = n
-unescapedLength Unescaped.BadReference = 0
+unescapedLength (Unescaped.BadReference at) = 0
 unescapedLength Unescaped.NoRoom = 0
 
--- the promise: r is the number and n the length of the answer, and the buffer, which held old, now holds new
-pub record UnescapeCall (text old new : List ℕ) (n r : ℕ) : Type 0 where
+abbrev pub unescapedPlace : Unescaped → ℕ
+unescapedPlace (Unescaped.Length n) = 0
+unescapedPlace (Unescaped.BadReference at) = at
+unescapedPlace Unescaped.NoRoom = 0
+
+-- the promise: r is the number, n the length and p the place of the answer, and the buffer, which held old, now holds new
+pub record UnescapeCall (text old new : List ℕ) (n p r : ℕ) : Type 0 where
   pub number : r ≡ unescapedNumber (answer (unescaped text) (length old))
   pub written : n ≡ unescapedLength (answer (unescaped text) (length old))
+  pub place : p ≡ unescapedPlace (answer (unescaped text) (length old))
   pub buffer : new ≡ filled (unescaped text) old
 
 -- the causes in the order of 01, "Drain", from 1

@@ -1,8 +1,9 @@
 // The readings by a sheet. `entries` are six numbers an entry, of any length: there is room for a sixth of it, rounded down. `count` is how
 // many entries are written, and `length` how many text bytes, finished or refused; all else of both buffers stays as it was. flags: 1
-// validate_document, 2 validate_root_name, 4 strict_collection_element_names; other bits are passed over. The second promise of each is
-// demand 3: what holds where the drain passes the body and the table.
-ghost use Rattle.deserializer.specs.Call.{SheetCall, settingsBy, shapeDepth};
+// validate_document, 2 validate_root_name, 4 strict_collection_element_names; other bits are passed over. `place`, of a map and a string
+// list, is where the failing `&` stands in the body, and 0 where the number is not 7; a structure and a list never answer 7. The last
+// promise of each is demand 3: what holds where the drain passes the body and the table.
+ghost use Rattle.deserializer.specs.Call.{SheetCall, SheetPlace, settingsBy, shapeDepth};
 ghost use Rattle.deserializer.specs.Demand.{Demanded};
 ghost use Rattle.deserializer.specs.declared.Shape.{Shape};
 ghost use Rattle.readings.specs.Call.{uploaded, calling};
@@ -101,15 +102,19 @@ pub extern "C" fn falzheod_read_map(
     texts: &mut [u8],
     count: &mut usize,
     length: &mut usize,
+    place: &mut usize,
 ) -> u32
     ensures reading { λ r. ⌜ SheetCall Shape.Map (uploaded (now (body .entry)) (now (rows .entry)) end)
         (calling (now (sheet .entry)) (settingsBy flags «max_depth») (shapeDepth depth))
         (now (entries .entry)) (now (texts .entry)) (now (entries .exit)) (now (texts .exit)) (now (count .exit)) (now (length .exit)) r ⌝ }
+    ensures place { λ r. ⌜ SheetPlace Shape.Map (uploaded (now (body .entry)) (now (rows .entry)) end)
+        (calling (now (sheet .entry)) (settingsBy flags «max_depth») (shapeDepth depth))
+        (now (entries .entry)) (now (texts .entry)) (now (place .exit)) ⌝ }
     ensures demand { λ r. ⌜ Demanded Shape.Map (uploaded (now (body .entry)) (now (rows .entry)) end)
         (calling (now (sheet .entry)) (settingsBy flags «max_depth») (shapeDepth depth))
         (now (entries .entry)) (now (texts .entry)) (now (entries .exit)) (now (count .exit)) r ⌝ }
 {
-    deserializer::read(
+    deserializer::read_with_place(
         MAP,
         body,
         rows,
@@ -122,6 +127,7 @@ pub extern "C" fn falzheod_read_map(
         texts,
         count,
         length,
+        place,
     )
 }
 
@@ -139,15 +145,19 @@ pub extern "C" fn falzheod_read_string_list(
     texts: &mut [u8],
     count: &mut usize,
     length: &mut usize,
+    place: &mut usize,
 ) -> u32
     ensures reading { λ r. ⌜ SheetCall Shape.StringList (uploaded (now (body .entry)) (now (rows .entry)) end)
         (calling (now (sheet .entry)) (settingsBy flags «max_depth») (shapeDepth depth))
         (now (entries .entry)) (now (texts .entry)) (now (entries .exit)) (now (texts .exit)) (now (count .exit)) (now (length .exit)) r ⌝ }
+    ensures place { λ r. ⌜ SheetPlace Shape.StringList (uploaded (now (body .entry)) (now (rows .entry)) end)
+        (calling (now (sheet .entry)) (settingsBy flags «max_depth») (shapeDepth depth))
+        (now (entries .entry)) (now (texts .entry)) (now (place .exit)) ⌝ }
     ensures demand { λ r. ⌜ Demanded Shape.StringList (uploaded (now (body .entry)) (now (rows .entry)) end)
         (calling (now (sheet .entry)) (settingsBy flags «max_depth») (shapeDepth depth))
         (now (entries .entry)) (now (texts .entry)) (now (entries .exit)) (now (count .exit)) r ⌝ }
 {
-    deserializer::read(
+    deserializer::read_with_place(
         STRING_LIST,
         body,
         rows,
@@ -160,5 +170,6 @@ pub extern "C" fn falzheod_read_string_list(
         texts,
         count,
         length,
+        place,
     )
 }

@@ -1,16 +1,19 @@
 // Scalars of a body and of a text, find, and the whole text. `value` is left alone by a refusal; a length says how many bytes were written,
-// 0 where it refused.
+// 0 where it refused; `place` is where the failing `&` stands in the body, and 0 where the number is not 7.
 ghost use Rattle.readings.specs.Call.{uploaded};
 ghost use Rattle.readings.specs.Scalar.{booleanOf, integerOf, stringIn, booleanReading, integerReading, stringReading, wholeText};
 ghost use Rattle.readings.specs.Find as readings;
 ghost use Rattle.deserializer.specs.Call.{settingsBy, shapeDepth};
-ghost use Rattle.scalar.specs.Calls.{BooleanCall, IntegerCall, StringCall, FindCall};
+ghost use Rattle.scalar.specs.Calls.{BooleanCall, IntegerCall, StringCall, FindCall, BooleanRead, IntegerRead, StringRead};
 ghost use Rattle.falzheod.specs.Numbers.{sizeOf};
 use deserializer::settings_by;
 use scalar::calls::give_boolean;
 use scalar::calls::give_integer;
 use scalar::calls::give_length;
 use scalar::calls::give_part;
+use scalar::calls::give_read_boolean;
+use scalar::calls::give_read_integer;
+use scalar::calls::give_read_length;
 use sheet::ShapeDepth;
 
 // The boolean that a text spells: 0 or 11.
@@ -47,14 +50,16 @@ pub extern "C" fn falzheod_read_boolean(
     flags: u32,
     depth: u32,
     value: &mut u32,
+    place: &mut usize,
 ) -> u32
-    ensures reading { λ r. ⌜ BooleanCall (booleanReading (uploaded (now (body .entry)) (now (rows .entry)) end) (settingsBy flags 0)
-        (shapeDepth depth)) (now (value .entry)) (now (value .exit)) r ⌝ }
+    ensures reading { λ r. ⌜ BooleanRead (booleanReading (uploaded (now (body .entry)) (now (rows .entry)) end) (settingsBy flags 0)
+        (shapeDepth depth)) (now (value .entry)) (now (value .exit)) (now (place .exit)) r ⌝ }
 {
     let settings = settings_by(flags, 0);
-    give_boolean(
+    give_read_boolean(
         scalar::read::read_boolean(body, rows, end, settings, ShapeDepth(depth)),
         value,
+        place,
     )
 }
 
@@ -67,14 +72,16 @@ pub extern "C" fn falzheod_read_integer(
     flags: u32,
     depth: u32,
     value: &mut i32,
+    place: &mut usize,
 ) -> u32
-    ensures reading { λ r. ⌜ IntegerCall (integerReading (uploaded (now (body .entry)) (now (rows .entry)) end) (settingsBy flags 0)
-        (shapeDepth depth)) (now (value .entry)) (now (value .exit)) r ⌝ }
+    ensures reading { λ r. ⌜ IntegerRead (integerReading (uploaded (now (body .entry)) (now (rows .entry)) end) (settingsBy flags 0)
+        (shapeDepth depth)) (now (value .entry)) (now (value .exit)) (now (place .exit)) r ⌝ }
 {
     let settings = settings_by(flags, 0);
-    give_integer(
+    give_read_integer(
         scalar::read::read_integer(body, rows, end, settings, ShapeDepth(depth)),
         value,
+        place,
     )
 }
 
@@ -88,14 +95,16 @@ pub extern "C" fn falzheod_read_string(
     depth: u32,
     out: &mut [u8],
     length: &mut usize,
+    place: &mut usize,
 ) -> u32
-    ensures reading { λ r. ⌜ StringCall (stringReading (uploaded (now (body .entry)) (now (rows .entry)) end) (settingsBy flags 0)
-        (shapeDepth depth) (sizeOf (now (out .entry)))) (now (out .entry)) (now (out .exit)) (now (length .exit)) r ⌝ }
+    ensures reading { λ r. ⌜ StringRead (stringReading (uploaded (now (body .entry)) (now (rows .entry)) end) (settingsBy flags 0)
+        (shapeDepth depth) (sizeOf (now (out .entry)))) (now (out .entry)) (now (out .exit)) (now (length .exit)) (now (place .exit)) r ⌝ }
 {
     let settings = settings_by(flags, 0);
-    give_length(
+    give_read_length(
         scalar::read::read_string(body, rows, end, settings, ShapeDepth(depth), out),
         length,
+        place,
     )
 }
 

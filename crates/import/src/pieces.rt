@@ -182,7 +182,8 @@ pub fn import(
 {
     let mut row = 0;
     let mut cause = 0;
-    let drained = falzheod::falzheod_drain(body, rows, end, &mut row, &mut cause);
+    let mut place = 0;
+    let drained = falzheod::falzheod_drain(body, rows, end, &mut row, &mut cause, &mut place);
     if drained != 0 {
         return Imported {
             drained,

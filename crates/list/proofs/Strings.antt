@@ -6,14 +6,15 @@ use mathlib.Core.List.{List, []}
 use mathlib.Core.Option.{Option}
 use native.Mathlib.Omega.{arith}
 use borrow.Author.Needs.{needs}
-use lib.ListN.{length, getD}
+use lib.ListN.{length, getD, drop, length-take}
 use Rattle.lists.specs.Tests.{pick}
 use Rattle.refusal.specs.declared.Refusal.{Refusal}
+use Rattle.refusal.specs.Numbers.{SmallPlace}
 use Rattle.refusal.specs.Answer.{Answer, gives, refuses}
 use Rattle.reference.specs.Text.{decode, unescaped}
 use Rattle.document.specs.Reader.{Reader}
 use Rattle.document.specs.Scope.{Child, childrenOf, dropping}
-use Rattle.document.specs.Text.{unescapedText, textOf}
+use Rattle.document.specs.Text.{unescapedFrom, textOf}
 use Rattle.document.proofs.Laws.Short.{cut-short}
 use Rattle.sheet.specs.Names.{itemName}
 use Rattle.codec.specs.declared.settings.Settings.{Settings}
@@ -27,9 +28,9 @@ use Rattle.decode.specs.declared.reader.Cursor.{Cursor}
 use Rattle.decode.specs.declared.reader.StartRow.{StartRow}
 use Rattle.decode.specs.declared.view.View.{View}
 use Rattle.decode.specs.declared.text.Text.{Text}
-use Rattle.decode.specs.Rows.{nameAt, valueAt}
+use Rattle.decode.specs.Rows.{InTable, nameAt, valueAt}
 use Rattle.decode.specs.Reader.{childAt}
-use Rattle.decode.specs.View.{failureAt, viewAt}
+use Rattle.decode.specs.View.{viewAt}
 use Rattle.decode.specs.Text.{textAt, TextIs}
 use Rattle.decode.proofs.Names.{value-span}
 use Rattle.decode.proofs.Places.{start-scope}
@@ -40,6 +41,7 @@ use Rattle.output.specs.Plans.{textOr, text}
 use Rattle.output.specs.Held.{Does, Ready, Adds}
 use Rattle.output.proofs.Room.{stays}
 use Rattle.output.proofs.Then.{does-as}
+use Rattle.output.proofs.Texts.{placed-short}
 use Rattle.output.proofs.Sound.{text-adds}
 use Rattle.opening.specs.Wanted.{nameIf, wanted}
 use Rattle.opening.specs.Level.{ChildDoes, ElementDoes, lastOf}
@@ -49,12 +51,21 @@ use Rattle.list.specs.StringList.{TextPlace, PutIs, StringsWholeIs}
 use Rattle.list.proofs.Items.{named-is}
 
 -- ---- a first text
+pub row-whole : {t : List ℕ} {k : ℕ} → InTable t k → k * 8 + 8 ≤ length t
+row-whole i = i .row
+
 module _ {body t : List ℕ} {w : Written} (q : TextPlace body t w) where
   value-short : (k : ℕ) {x : List ℕ} → x ≡ valueAt body t k → length x ≤ 65536
   value-short k e = rw e (omega (arith, q .short, cut-short body (getD t (k * 8 + 5) 0) (getD t (k * 8 + 6) 0)))
 
   pub row-ready : (k : ℕ) {x : List ℕ} → x ≡ valueAt body t k → Ready w (length x)
   row-ready k e = record { small = omega (arith, q .small, value-short k e) }
+
+  pub row-placed : (k : ℕ) {from : ℕ} {x : List ℕ} → InTable t k → from ≡ getD t (k * 8 + 5) 0 → x ≡ valueAt body t k
+      → SmallPlace from (length x)
+  row-placed k i f e =
+      let m = length-take (getD t (k * 8 + 6) 0) (drop (getD t (k * 8 + 5) 0) body) in
+      rw (f, e) (placed-short (omega (arith, q .short, m, q .readable .each k (i .row) .value)))
 
   pub empty-ready : Ready w (length {A = ℕ} [])
   empty-ready = record { small = omega (arith, q .small) }
@@ -63,31 +74,35 @@ as-text : (a : Answer (List ℕ)) → textPlan a ≡ textOr 0 a
 as-text (gives l) = refl
 as-text (refuses r) = refl
 
-answered-text : (x : List ℕ) → textPlan (unescapedText (unescaped x)) ≡ text 0 x
+answered-text : (from : ℕ) (x : List ℕ) → textPlan (unescapedFrom from (unescaped x)) ≡ text 0 from x
 unfolding text
-answered-text x = as-text (unescapedText (unescaped x))
+answered-text from x = as-text (unescapedFrom from (unescaped x))
 
-answered-adds : (x : List ℕ) → length x ≤ 65536 → Adds (textPlan (unescapedText (unescaped x))) 65536
-answered-adds x h = rw (answered-text x) (record { most = λ room out. omega (arith, text-adds 0 x .most room out) })
+answered-adds : (from : ℕ) (x : List ℕ) → length x ≤ 65536 → Adds (textPlan (unescapedFrom from (unescaped x))) 65536
+answered-adds from x h = rw (answered-text from x) (record { most = λ room out. omega (arith, text-adds 0 from x .most room out) })
 
 module _ (body t : List ℕ) (txt : Text) {en tx en′ tx′ : List ℕ} {w : Written} {r : Step} (q : TextPlace body t w) where
-  pub put-row : {k : ℕ} {x : List ℕ} → txt ≡ Text.Row k → x ≡ valueAt body t k → Does (text 0 x) en tx w en′ tx′ r
-      → PutIs body t txt en tx w en′ tx′ r
-  put-row {k} {x} e f d =
-      let z = rw f at d in
-      rw e (record { does = does-as (answered-text (valueAt body t k)) z; adds = answered-adds (valueAt body t k) (value-short q k refl) })
+  pub put-row : {k from : ℕ} {x : List ℕ} → txt ≡ Text.Row k → from ≡ getD t (k * 8 + 5) 0 → x ≡ valueAt body t k
+      → Does (text 0 from x) en tx w en′ tx′ r → PutIs body t txt en tx w en′ tx′ r
+  put-row {k} {from} {x} e g f d =
+      let z = rw (g, f) at d in
+      let s = getD t (k * 8 + 5) 0 in
+      let v = valueAt body t k in
+      rw e (record { does = does-as (answered-text s v) z; adds = answered-adds s v (value-short q k refl) })
 
 pub put-empty : (body t : List ℕ) (txt : Text) {en tx en′ tx′ : List ℕ} {w : Written} {r : Step} → txt ≡ Text.Empty
-    → Does (text 0 []) en tx w en′ tx′ r → PutIs body t txt en tx w en′ tx′ r
+    → Does (text 0 0 []) en tx w en′ tx′ r → PutIs body t txt en tx w en′ tx′ r
 unfolding unescaped decode
-put-empty body t txt e d = rw e (record { does = does-as (answered-text []) d; adds = answered-adds [] (omega arith) })
+put-empty body t txt e d = rw e (record { does = does-as (answered-text 0 []) d; adds = answered-adds 0 [] (omega arith) })
 
 pub put-refused : (body t : List ℕ) (txt : Text) (en tx : List ℕ) (w : Written) {why : Refusal} → txt ≡ Text.Refused why
     → PutIs body t txt en tx w en tx (Step.Refused why w)
 unfolding perform
 put-refused body t txt en tx w e = rw e (record { does = record { is = λ h. stays h }; adds = record { most = λ room out. omega arith } })
 
-pub ruleset put-laws = (needs, value-span, row-ready, empty-ready, row-in, put-row, put-empty, put-refused)
+pub ruleset row-laws = (needs, value-span, row-in, row-whole, row-ready, row-placed, empty-ready, placed-short)
+
+pub ruleset put-laws = (row-laws, put-row, put-empty, put-refused)
 
 -- ---- an item
 module _ (body t : List ℕ) (v : View) (nm : Option (List ℕ)) (s : StartRow) (c : Cursor) {u : Bool}
@@ -97,11 +112,11 @@ module _ (body t : List ℕ) (v : View) (nm : Option (List ℕ)) (s : StartRow) 
   unfolding stringPlan
   string-not en tx w q =
       child-not body t v nm (stringPlan (viewAt t v) nm)
-      (textPlan (textOf (failureAt (v .failure)) (childAt body t (v .count) s c))) 65536 s c e
+      (textPlan (textOf (viewAt t v) (childAt body t (v .count) s c))) 65536 s c e
       refl en tx w q
 
   pub string-text : {txt : Text} {en tx en′ tx′ : List ℕ} {w : Written} {r : Step} → u ≡ true
-      → TextIs body t txt (textOf (failureAt (v .failure)) (childAt body t (v .count) s c)) → PutIs body t txt en tx w en′ tx′ r
+      → TextIs body t txt (textOf (viewAt t v) (childAt body t (v .count) s c)) → PutIs body t txt en tx w en′ tx′ r
       → ChildDoes body t v (stringPlan (viewAt t v) nm) 65536 s c en tx w en′ tx′ r
   unfolding stringPlan
   string-text {txt} q x d =

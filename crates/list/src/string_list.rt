@@ -22,9 +22,10 @@ use decode::text::Text;
 use decode::view::View;
 use output::Step;
 use output::Written;
+use table::field;
 use table::number::VALUE;
 
-// Writes what a first text came to.
+// Writes what a first text came to: a row's value begins at `from` in the body, from where a failing `&` is counted.
 fn put_text(
     body: &[u8],
     rows: &[u32],
@@ -39,8 +40,11 @@ fn put_text(
         (now (texts .exit)) r ⌝ }
 {
     match txt {
-        Text::Row(k) => output::write_text(span(body, rows, k, VALUE), 0, entries, texts, w),
-        Text::Empty => output::write_text(b"", 0, entries, texts, w),
+        Text::Row(k) => {
+            let from = field(rows, k, VALUE);
+            output::write_text(span(body, rows, k, VALUE), from, 0, entries, texts, w)
+        }
+        Text::Empty => output::write_text(b"", 0, 0, entries, texts, w),
         Text::Refused(why) => Step::Refused(why, w),
     }
 }
@@ -67,8 +71,7 @@ fn read_string(
 {
     let row = start.row;
     if opening::is_wanted(body, rows, named, name, row) {
-        let failure = view.failure;
-        let txt = decode::text::try_data(body, rows, view.count, failure, start, at);
+        let txt = decode::text::try_data(body, rows, view, start, at);
         return put_text(body, rows, txt, entries, texts, w);
     }
     Step::Done(w)

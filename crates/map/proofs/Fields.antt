@@ -1,5 +1,5 @@
 -- Laws of a child of a map entry: its first text, measured, what it is, and what it makes of the fields.
-use Prim.Native.Nat.{ℕ, _+_, _*_}
+use Prim.Native.Nat.{ℕ, _+_, _*_, _≤_}
 use mathlib.Core.Path.{_≡_, refl, sym, _∙_, ap}
 use mathlib.Core.Bool.{Bool, true, false}
 use mathlib.Core.List.{List}
@@ -10,12 +10,13 @@ use lib.ListN.{length, getD}
 use Rattle.lists.specs.Tests.{pick}
 use Rattle.lists.specs.Bytes.{sameb}
 use Rattle.refusal.specs.declared.Refusal.{Refusal}
+use Rattle.refusal.specs.Numbers.{SmallPlace}
 use Rattle.refusal.specs.Answer.{Answer, gives, onward}
 use Rattle.reference.specs.Text.{Out, bytes, bad, decode, unescaped}
 use Rattle.reference.specs.declared.Unescaped.{Unescaped}
 use Rattle.unescape.specs.Loops.{sizeOf}
 use Rattle.document.specs.Scope as doc
-use Rattle.document.specs.Text.{unescapedText, textOf}
+use Rattle.document.specs.Text.{unescapedFrom, textOf}
 use Rattle.sheet.specs.Sheet.{MapSheet}
 use Rattle.sheet.specs.Names.{keyName, valueName, valueAggregate}
 use Rattle.readings.specs.Collection.{MapValue, text, piece, valueIn, readField}
@@ -29,13 +30,13 @@ use Rattle.decode.specs.declared.view.View.{View}
 use Rattle.decode.specs.declared.piece.Piece.{Piece}
 use Rattle.decode.specs.Rows.{InTable, Readable, nameAt, valueAt}
 use Rattle.decode.specs.Reader.{childAt}
-use Rattle.decode.specs.View.{failureAt, viewAt}
+use Rattle.decode.specs.View.{viewAt}
 use Rattle.decode.specs.Piece.{PieceIs}
 use Rattle.decode.specs.Text.{textAt, TextIs}
-use Rattle.decode.proofs.Texts.{row-in}
+use Rattle.decode.proofs.Texts.{row-in, text-bad, text-within}
 use Rattle.decode.proofs.Names.{local-span, value-span}
 use Rattle.decode.proofs.Places.{start-scope}
-use Rattle.output.proofs.Texts.{comes-measured, comes-empty}
+use Rattle.output.proofs.Texts.{comes-measured, comes-empty, placed-short}
 use Rattle.map.specs.declared.field.Measured.{Measured}
 use Rattle.map.specs.declared.field.FirstText.{FirstText}
 use Rattle.map.specs.declared.field.Key.{Key}
@@ -48,7 +49,7 @@ use Rattle.map.specs.Field.{KeyRead, ValueRead, FieldRead}
 
 -- ---- a first text
 abbrev textIn : List ℕ → List ℕ → ℕ → Answer (List ℕ)
-textIn body t k = unescapedText (unescaped (valueAt body t k))
+textIn body t k = textAt body t (Text.Row k)
 
 module _ {body t : List ℕ} (b : Readable body t) {k : ℕ} (i : InTable t k) {x : List ℕ} {r : Unescaped} (p : x ≡ valueAt body t k)
     (e : r ≡ sizeOf (unescaped x)) where
@@ -59,27 +60,27 @@ module _ {body t : List ℕ} (b : Readable body t) {k : ℕ} (i : InTable t k) {
       → MeasuredIs body (textIn body t k) (FirstText.Read (record { start = start; len = len; size = n }))
   row-length q f g =
       let c = comes-measured (valueAt body t k) size q in
-      rw (f, g) (record { same = sym (ap unescapedText (c .is)); known = record { inside = b .each k (i .row) .value; comes = c } })
+      let z = sym (ap (unescapedFrom (getD t (k * 8 + 5) 0)) (c .is)) in
+      rw (f, g) (record { same = z; known = record { inside = b .each k (i .row) .value; comes = c } })
 
-  -- a text that has no length is refused
-  refused : (o : Out) → unescaped (valueAt body t k) ≡ o → ((l : List ℕ) → o ≡ bytes l → ⊥)
-      → MeasuredIs body (textIn body t k) (FirstText.Refused Refusal.BadReference)
-  refused (bytes l) q h = absurd (h l refl)
-  refused (bad at) q h = rw q (record { same = refl; known = tt })
+  -- a text that has no length is refused, with its place in the body, which is a 32-bit number
+  module _ {start at : ℕ} (f : start ≡ getD t (k * 8 + 5) 0) (q : r ≡ Unescaped.BadReference at) where
+    pub row-placed : length body ≤ 65536 → SmallPlace start at
+    row-placed h = let n = text-within body t k f p e q b i in placed-short (omega (arith, n))
 
-  pub row-bad : r ≡ Unescaped.BadReference → MeasuredIs body (textIn body t k) (FirstText.Refused Refusal.BadReference)
+    pub row-bad : {why : Refusal} → why ≡ Refusal.BadReference (start + at) → MeasuredIs body (textIn body t k) (FirstText.Refused why)
+    row-bad z = rw z (record { same = text-bad body t k f p e q; known = tt })
+
+  -- measuring has no room to run out of
+  pub row-never : {got : FirstText} → r ≡ Unescaped.NoRoom → MeasuredIs body (textIn body t k) got
   unfolding sizeOf
-  row-bad q =
-      refused _ refl (λ l h. let z : Unescaped.BadReference ≡ Unescaped.Length (length l) = sym q ∙ size ∙ ap sizeOf h in
-      let y : _≡_ {A = ℕ} 0 1 = cc in absurd (omega arith))
+  row-never {got} q = go (unescaped x) (sym q ∙ e)
+    where
+      go : (o : Out) → Unescaped.NoRoom ≡ sizeOf o → MeasuredIs body (textIn body t k) got
+      go (bytes l) a = let y : _≡_ {A = ℕ} 0 1 = cc in absurd (omega arith)
+      go (bad at) a = let y : _≡_ {A = ℕ} 0 1 = cc in absurd (omega arith)
 
-  pub row-never : r ≡ Unescaped.NoRoom → MeasuredIs body (textIn body t k) (FirstText.Refused Refusal.BadReference)
-  unfolding sizeOf
-  row-never q =
-      refused _ refl (λ l h. let z : Unescaped.NoRoom ≡ Unescaped.Length (length l) = sym q ∙ size ∙ ap sizeOf h in
-      let y : _≡_ {A = ℕ} 0 1 = cc in absurd (omega arith))
-
-pub ruleset row-laws = (needs, value-span, row-length, row-bad, row-never)
+pub ruleset row-laws = (needs, value-span, row-length, row-placed, row-bad, row-never)
 
 module _ (body t : List ℕ) (text : Text) where
   pub measured-row : {k : ℕ} {r : FirstText} → text ≡ Text.Row k → MeasuredIs body (textIn body t k) r
@@ -120,7 +121,7 @@ abbrev asValue : Answer (List ℕ) → Answer MapValue
 asValue a = onward a (λ (x : List ℕ). gives (text x))
 
 abbrev textHere : List ℕ → List ℕ → View → StartRow → Cursor → Answer (List ℕ)
-textHere body t v s c = textOf (failureAt (v .failure)) (childAt body t (v .count) s c)
+textHere body t v s c = textOf (viewAt t v) (childAt body t (v .count) s c)
 
 module _ {body t : List ℕ} {v : View} {f : Fields} (w : FieldsIn body f) {s : StartRow} {c : Cursor} where
   module _ {m : FirstText} (x : MeasuredIs body (textHere body t v s c) m) where

@@ -19,7 +19,7 @@ use Rattle.decode.specs.declared.reader.Cursor.{Cursor}
 use Rattle.decode.specs.declared.view.View.{View}
 use Rattle.decode.specs.declared.piece.Piece.{Piece}
 use Rattle.decode.specs.Reader.{childAt}
-use Rattle.decode.specs.View.{failureAt, viewAt}
+use Rattle.decode.specs.View.{viewAt}
 use Rattle.decode.specs.Piece.{pieceAt}
 use Rattle.output.specs.Held.{Comes}
 use Rattle.map.specs.declared.field.Measured.{Measured}
@@ -118,7 +118,7 @@ pub record RoleIs (m : MapSheet) (local : List ℕ) (r : Role) : Type 0 where
   pub is : r ≡ roleOf (sameb local (keyName m)) (sameb local (valueName m))
 
 pub record KeyRead (body t : List ℕ) (v : View) (f : Fields) (s : StartRow) (c : Cursor) (r : Field) : Type 0 where
-  pub is : FieldIs body (withKey (fieldsAt body f) (textOf (failureAt (v .failure)) (childAt body t (v .count) s c))) r
+  pub is : FieldIs body (withKey (fieldsAt body f) (textOf (viewAt t v) (childAt body t (v .count) s c))) r
 
 pub record ValueRead (body t : List ℕ) (v : View) (aggregate : Bool) (f : Fields) (s : StartRow) (c : Cursor) (r : Field) : Type 0 where
   pub is : FieldIs body (withValue (fieldsAt body f) (valueIn body (viewAt t v) aggregate (childAt body t (v .count) s c))) r

@@ -1,11 +1,13 @@
 // The fields of a map entry: what a child of the entry makes of them. A text is measured as it is met, so that what is refused in it is
 // refused before room is tested, and unescaped only when the entry is written.
-ghost use Rattle.document.specs.Text.{textOf, unescapedText};
-ghost use Rattle.reference.specs.Text.{unescaped};
+ghost use Prim.Native.Nat.{_≤_};
+ghost use lib.ListN.{length};
+ghost use Rattle.document.specs.Text.{textOf};
 ghost use Rattle.codec.specs.Collection.{mapSaid, MapSaid};
-ghost use Rattle.decode.specs.Rows.{Readable, InTable, nameAt, valueAt};
+ghost use Rattle.decode.specs.Rows.{Readable, InTable, nameAt};
 ghost use Rattle.decode.specs.Reader.{StartIn, DroppedIs, childAt};
-ghost use Rattle.decode.specs.View.{failureAt, Viewed};
+ghost use Rattle.decode.specs.View.{viewAt, Viewed};
+ghost use Rattle.decode.specs.declared.text.Text.{Text};
 ghost use Rattle.decode.specs.Text.{textAt, TextIn};
 ghost use Rattle.map.specs.Field.{MeasuredIs, FieldsIn, RoleIs, KeyRead, ValueRead, FieldRead};
 use codec::collection::MapSheet;
@@ -18,6 +20,7 @@ use decode::text::Text;
 use decode::view::View;
 use reference::Unescaped;
 use refusal::Refusal;
+use refusal::bad_at;
 use table::field;
 use table::number::LOCAL;
 use table::number::VALUE;
@@ -67,21 +70,22 @@ pub enum Role {
     Other,
 }
 
-// The value of row k as a text.
+// The value of row k as a text. What is refused in it has its place in the body: the value's start, and the place in the value.
 fn measure_row(body: &[u8], rows: &[u32], k: usize) -> FirstText
     requires { ⌜ Readable (now body) (now rows) ⌝ }
     requires { ⌜ InTable (now rows) k ⌝ }
-    ensures { λ r. ⌜ MeasuredIs (now (body .entry)) (unescapedText (unescaped (valueAt (now (body .entry)) (now (rows .entry)) k))) r ⌝ }
+    requires { ⌜ length (now body) ≤ 65536 ⌝ }
+    ensures { λ r. ⌜ MeasuredIs (now (body .entry)) (textAt (now (body .entry)) (now (rows .entry)) (Text.Row k)) r ⌝ }
 {
+    let start = field(rows, k, VALUE);
     match unescape::measure(span(body, rows, k, VALUE)) {
         Unescaped::Length(size) => {
-            let start = field(rows, k, VALUE);
             let len = field(rows, k, VALUE_LEN);
             FirstText::Read(Measured { start, len, size })
         }
-        Unescaped::BadReference => FirstText::Refused(Refusal::BadReference),
+        Unescaped::BadReference { at } => FirstText::Refused(bad_at(start, at)),
         // `measure` never answers this: it has no room to run out of.
-        Unescaped::NoRoom => FirstText::Refused(Refusal::BadReference),
+        Unescaped::NoRoom => FirstText::Refused(Refusal::NoRoom),
     }
 }
 
@@ -89,6 +93,7 @@ fn measure_row(body: &[u8], rows: &[u32], k: usize) -> FirstText
 fn measure_text(body: &[u8], rows: &[u32], text: Text) -> FirstText
     requires { ⌜ Readable (now body) (now rows) ⌝ }
     requires { ⌜ TextIn (now rows) text ⌝ }
+    requires { ⌜ length (now body) ≤ 65536 ⌝ }
     ensures { λ r. ⌜ MeasuredIs (now (body .entry)) (textAt (now (body .entry)) (now (rows .entry)) text) r ⌝ }
 {
     match text {
@@ -107,10 +112,9 @@ fn text_of(body: &[u8], rows: &[u32], view: View, start: StartRow, at: Cursor) -
     requires { ⌜ Viewed (now body) (now rows) view ⌝ }
     requires { ⌜ StartIn (now body) (now rows) (view .count) start ⌝ }
     ensures { λ r. ⌜ MeasuredIs (now (body .entry))
-        (textOf (failureAt (view .failure)) (childAt (now (body .entry)) (now (rows .entry)) (view .count) start at)) r ⌝ }
+        (textOf (viewAt (now (rows .entry)) view) (childAt (now (body .entry)) (now (rows .entry)) (view .count) start at)) r ⌝ }
 {
-    let failure = view.failure;
-    let text = decode::text::try_data(body, rows, view.count, failure, start, at);
+    let text = decode::text::try_data(body, rows, view, start, at);
     measure_text(body, rows, text)
 }
 

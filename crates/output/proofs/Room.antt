@@ -16,7 +16,7 @@ use Rattle.lists.specs.Tests.{pick}
 use Rattle.lists.proofs.Tests.{false-true}
 use Rattle.lists.proofs.Overwrite.{overwrite-more}
 use Rattle.refusal.specs.declared.Refusal.{Refusal}
-use Rattle.refusal.specs.Numbers.{number}
+use Rattle.refusal.specs.Numbers.{number, place}
 use Rattle.readings.specs.Output.{Entry, Output, refused, sixNumbers, numbersOf, fits}
 use Rattle.readings.specs.Plan.{perform, one}
 use Rattle.output.specs.declared.Written.{Written}
@@ -207,10 +207,10 @@ module _ (member start len : ℕ) {e : List ℕ} {w : Written} {e′ : List ℕ}
   unfolding entered entryOf piece
   enter-piece x = x
 
-  pub enter-failed : (why : Refusal) → start ≡ number why
-      → Enters (entered (record { kind = 4; member = member; «key_start» = 0; «key_len» = 0; start = start; len = 0 }) []) e w e′ r
+  pub enter-failed : (why : Refusal) → start ≡ number why → len ≡ place why
+      → Enters (entered (record { kind = 4; member = member; «key_start» = 0; «key_len» = 0; start = start; len = len }) []) e w e′ r
       → Enters (failed member why) e w e′ r
   unfolding entered entryOf failed
-  enter-failed why q x = rw q at x
+  enter-failed why q p x = rw (q, p) at x
 
 pub ruleset enter-laws = (needs, entry-room, enter-written, enter-full, enter-piece, enter-failed)

@@ -16,7 +16,7 @@ use Rattle.readings.specs.Output.{Entry, Room, Output, finished, refused, outpu
 use Rattle.readings.specs.Output.{pieceEntry, groupEntry, failedEntry, keyTextEntry, keyPieceEntry}
 use Rattle.readings.specs.Plan.{Plan, perform, one}
 use Rattle.readings.specs.Structure.{scalarPlan}
-use Rattle.document.specs.Text.{unescapedText}
+use Rattle.document.specs.Text.{unescapedFrom}
 use Rattle.output.specs.declared.Written.{Written}
 use Rattle.output.specs.declared.Step.{Step}
 use Rattle.output.specs.Plans.{textOr, text, scalar, piece, keyText, keyPiece, group}
@@ -113,23 +113,23 @@ write-adds room entry x out = go (fits room x out)
     go true = omega (arith, length-append (out .texts) x)
     go false = omega arith
 
-pub text-adds : (member : ℕ) (txt : List ℕ) → Adds (text member txt) (length txt)
+pub text-adds : (member from : ℕ) (txt : List ℕ) → Adds (text member from txt) (length txt)
 unfolding text perform
-text-adds member txt = record { most = go (unescaped txt) refl }
+text-adds member from txt = record { most = go (unescaped txt) refl }
   where
     go : (o : Out) → unescaped txt ≡ o → (room : Room) (out : Output)
-        → length (output (perform room (textOr member (unescapedText o)) out) .texts) ≤ length (out .texts) + length txt
+        → length (output (perform room (textOr member (unescapedFrom from o)) out) .texts) ≤ length (out .texts) + length txt
     go (bytes l) q room out = omega (arith, write-adds room (textEntry member l) l out, unescaped-shorter txt l q)
     go (bad at) q room out = omega arith
 
-pub scalar-adds : (member : ℕ) (txt : List ℕ) → Adds (scalar member txt) (length txt)
+pub scalar-adds : (member from : ℕ) (txt : List ℕ) → Adds (scalar member from txt) (length txt)
 unfolding scalar
-scalar-adds member txt = record { most = go (unescaped txt) refl }
+scalar-adds member from txt = record { most = go (unescaped txt) refl }
   where
     go : (o : Out) → unescaped txt ≡ o → (room : Room) (out : Output)
-        → length (output (perform room (scalarPlan member (unescapedText o)) out) .texts) ≤ length (out .texts) + length txt
+        → length (output (perform room (scalarPlan member (unescapedFrom from o)) out) .texts) ≤ length (out .texts) + length txt
     go (bytes l) q room out = omega (arith, write-adds room (textEntry member l) l out, unescaped-shorter txt l q)
-    go (bad at) q room out = omega (arith, write-adds room (failedEntry member Refusal.BadReference) [] out)
+    go (bad at) q room out = omega (arith, write-adds room (failedEntry member (Refusal.BadReference (from + at))) [] out)
 
 pub piece-adds : (member start len : ℕ) → Adds (piece member start len) 0
 unfolding piece

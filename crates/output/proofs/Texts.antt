@@ -11,19 +11,22 @@ use lib.Seq.{sets, length-sets}
 use Rattle.lists.specs.Overwrite.{overwritten}
 use Rattle.lists.proofs.Overwrite.{rest, back, rest-length, back-stored, sets-append}
 use Rattle.refusal.specs.declared.Refusal.{Refusal}
+use Rattle.refusal.specs.Numbers.{SmallPlace}
 use Rattle.reference.specs.Text.{Out, bytes, bad, decode, unescaped, filled, meaning}
 use Rattle.reference.proofs.Result.{unescaped-shorter}
 use Rattle.reference.specs.declared.Unescaped.{Unescaped}
 use Rattle.unescape.specs.Loops.{sizeOf}
 use Rattle.unescape.specs.Fill.{Room}
+use Rattle.unescape.proofs.Filling.{measured-within}
+use Rattle.table.specs.Rules.{mostBytes}
 use Rattle.readings.specs.Output.{sixNumbers, textEntry, keyTextEntry, keyPieceEntry}
 use Rattle.readings.specs.Plan.{Plan, perform}
 use Rattle.readings.specs.Structure.{scalarPlan}
-use Rattle.document.specs.Text.{unescapedText}
+use Rattle.document.specs.Text.{unescapedFrom}
 use Rattle.output.specs.declared.Written.{Written}
 use Rattle.output.specs.declared.Step.{Step}
 use Rattle.output.specs.declared.Six.{Six}
-use Rattle.output.specs.Plans.{entryOf, entered, failed, textOr, text, scalar, keyText, keyPiece}
+use Rattle.output.specs.Plans.{entryOf, entered, failed, measured, textOr, text, scalar, keyText, keyPiece}
 use Rattle.output.specs.Held.{Does, Enters, HasRoom, Ready, Comes}
 use Rattle.output.proofs.Room.{room-bytes, roomy-laws, stays, entered-none, entered-done, entry-as}
 
@@ -116,12 +119,9 @@ module _ {e t : List ℕ} {w : Written} {e′ t′ : List ℕ} {r : Step} where
   pub as-text : (member : ℕ) {txt : List ℕ} {n : ℕ} → Comes txt n
       → Does (entered (record { kind = 1; member = member; «key_start» = 0; «key_len» = 0; start = w .used; len = n })
       (plain txt ++ plain [])) e t w e′ t′ r
-      → Does (text member txt) e t w e′ t′ r
-  unfolding text entryOf
-  as-text member {txt} c d =
-      let l = plain txt in
-      subst (λ (o : Out). Does (textOr member (unescapedText o)) e t w e′ t′ r) (sym (c .is))
-      (entry-as (textEntry member l) l _ (rw (c .size)) (none-after l) d)
+      → Does (measured member txt) e t w e′ t′ r
+  unfolding measured entryOf
+  as-text member {txt} c d = let l = plain txt in entry-as (textEntry member l) l _ (rw (c .size)) (none-after l) d
 
   pub as-key-piece : {key : List ℕ} {n : ℕ} (start len : ℕ) → Comes key n
       → Does (entered (record { kind = 2; member = 0; «key_start» = w .used; «key_len» = n; start = start; len = len })
@@ -145,44 +145,58 @@ ready-less q h = record { small = omega (arith, q .small) }
 
 pub ruleset kind-laws = (needs, comes-empty, ready-less, as-text, as-key-piece, as-key-text)
 
-module _ (member : ℕ) (txt : List ℕ) {e t : List ℕ} {w : Written} {e′ t′ : List ℕ} {r : Step} where
-  text-as : (o : Out) → unescaped txt ≡ o → Does (textOr member (unescapedText o)) e t w e′ t′ r
-      → Does (text member txt) e t w e′ t′ r
+module _ (member from : ℕ) (txt : List ℕ) {e t : List ℕ} {w : Written} {e′ t′ : List ℕ} {r : Step} where
+  text-as : (o : Out) → unescaped txt ≡ o → Does (textOr member (unescapedFrom from o)) e t w e′ t′ r
+      → Does (text member from txt) e t w e′ t′ r
   unfolding text
-  text-as o q d = subst (λ (o : Out). Does (textOr member (unescapedText o)) e t w e′ t′ r) (sym q) d
+  text-as o q d = subst (λ (o : Out). Does (textOr member (unescapedFrom from o)) e t w e′ t′ r) (sym q) d
 
-  scalar-as : (o : Out) → unescaped txt ≡ o → Does (scalarPlan member (unescapedText o)) e t w e′ t′ r
-      → Does (scalar member txt) e t w e′ t′ r
+  scalar-as : (o : Out) → unescaped txt ≡ o → Does (scalarPlan member (unescapedFrom from o)) e t w e′ t′ r
+      → Does (scalar member from txt) e t w e′ t′ r
   unfolding scalar
-  scalar-as o q d = subst (λ (o : Out). Does (scalarPlan member (unescapedText o)) e t w e′ t′ r) (sym q) d
+  scalar-as o q d = subst (λ (o : Out). Does (scalarPlan member (unescapedFrom from o)) e t w e′ t′ r) (sym q) d
 
-  pub scalar-measured : {y : Unescaped} {n : ℕ} → Does (text member txt) e t w e′ t′ r → y ≡ sizeOf (unescaped txt)
-      → y ≡ Unescaped.Length n → Does (scalar member txt) e t w e′ t′ r
-  unfolding text
-  scalar-measured d m q =
-      let c = comes-measured txt m q in
-      scalar-as _ (c .is) (subst (λ (o : Out). Does (textOr member (unescapedText o)) e t w e′ t′ r) (c .is) d)
+  -- a text that measures is written
+  module _ {y : Unescaped} {n : ℕ} (d : Does (measured member txt) e t w e′ t′ r) (m : y ≡ sizeOf (unescaped txt))
+      (q : y ≡ Unescaped.Length n) where
+    pub text-measured : Does (text member from txt) e t w e′ t′ r
+    unfolding measured
+    text-measured = text-as _ (comes-measured txt m q .is) d
 
-module _ (member : ℕ) (txt : List ℕ) {y : Unescaped} (m : y ≡ sizeOf (unescaped txt)) where
-  is-bad : y ≡ Unescaped.BadReference → (at : ℕ) × (unescaped txt ≡ bad at)
-  unfolding sizeOf
-  is-bad d = go (unescaped txt) refl (sym m ∙ d)
-    where
-      go : (o : Out) → unescaped txt ≡ o → sizeOf o ≡ Unescaped.BadReference → (at : ℕ) × (unescaped txt ≡ bad at)
-      go (bad at) k a = (at, k)
-      go (bytes l) k a = let z : _≡_ {A = ℕ} 0 1 = cc in absurd (omega arith)
+    pub scalar-measured : Does (scalar member from txt) e t w e′ t′ r
+    unfolding measured
+    scalar-measured = scalar-as _ (comes-measured txt m q .is) d
 
-  -- 7, or an entry that says so
-  pub text-bad : (e t : List ℕ) (w : Written) → y ≡ Unescaped.BadReference
-      → Does (text member txt) e t w e t (Step.Refused Refusal.BadReference w)
-  unfolding perform
-  text-bad e t w d = text-as member txt (bad (is-bad d .0)) (is-bad d .1) (record { is = λ h. stays h })
+module _ (member from : ℕ) (txt : List ℕ) {y : Unescaped} {at : ℕ} (m : y ≡ sizeOf (unescaped txt)) (q : y ≡ Unescaped.BadReference at)
+  where
+    is-bad : unescaped txt ≡ bad at
+    unfolding sizeOf
+    is-bad = go (unescaped txt) refl (sym m ∙ q)
+      where
+        go : (o : Out) → unescaped txt ≡ o → sizeOf o ≡ Unescaped.BadReference at → unescaped txt ≡ bad at
+        go (bad k) e a = let z : k ≡ at = cc in e ∙ ap bad z
+        go (bytes l) e a = let z : _≡_ {A = ℕ} 0 1 = cc in absurd (omega arith)
 
-  pub scalar-bad : {e : List ℕ} (t : List ℕ) {w : Written} {e′ : List ℕ} {r : Step} → Enters (failed member Refusal.BadReference) e w e′ r
-      → y ≡ Unescaped.BadReference
-      → Does (scalar member txt) e t w e′ t r
-  unfolding failed
-  scalar-bad t s d = scalar-as member txt (bad (is-bad d .0)) (is-bad d .1) (s .is t)
+    -- 7, or an entry that says so, with its place in the body
+    pub text-bad : (e t : List ℕ) (w : Written) {why : Refusal} → why ≡ Refusal.BadReference (from + at)
+        → Does (text member from txt) e t w e t (Step.Refused why w)
+    unfolding perform
+    text-bad e t w p = rw p (text-as member from txt (bad at) is-bad (record { is = λ h. stays h }))
+
+    pub scalar-bad : {e : List ℕ} (t : List ℕ) {w : Written} {e′ : List ℕ} {r : Step} {why : Refusal} → Enters (failed member why) e w e′ r
+        → why ≡ Refusal.BadReference (from + at)
+        → Does (scalar member from txt) e t w e′ t r
+    unfolding failed
+    scalar-bad t s p = scalar-as member from txt (bad at) is-bad ((rw p at s) .is t)
+
+-- its place is a 32-bit number; so is each place of a text that lies in a body
+pub bad-placed : (txt : List ℕ) {y : Unescaped} {from at : ℕ} → SmallPlace from (length txt) → y ≡ sizeOf (unescaped txt)
+    → y ≡ Unescaped.BadReference at
+    → SmallPlace from at
+bad-placed txt p m q = record { small = omega (arith, p .small, measured-within txt m q) }
+
+pub placed-short : {from n : ℕ} → from + n ≤ mostBytes → SmallPlace from n
+placed-short h = record { small = omega arith }
 
 -- measuring has no room to run out of
 pub measured-never : (plan : Plan) {e t : List ℕ} {w : Written} {e′ t′ : List ℕ} {r : Step} (txt : List ℕ)
@@ -195,4 +209,15 @@ measured-never plan {e} {t} {w} {e′} {t′} {r} txt m d = go (unescaped txt) (
     go (bad at) a = let z : _≡_ {A = ℕ} 0 1 = cc in absurd (omega arith)
     go (bytes l) a = let z : _≡_ {A = ℕ} 0 1 = cc in absurd (omega arith)
 
-pub ruleset measured-laws = (needs, comes-measured, comes-short, ready-less, scalar-measured, text-bad, scalar-bad, measured-never)
+pub ruleset measured-laws = (
+  needs,
+  comes-measured,
+  comes-short,
+  ready-less,
+  text-measured,
+  scalar-measured,
+  bad-placed,
+  text-bad,
+  scalar-bad,
+  measured-never,
+)

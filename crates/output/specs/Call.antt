@@ -16,3 +16,7 @@ pub record ReadingCall (reading : Room → Reading) (e t e′ t′ : List ℕ) (
   pub used : m ≡ length (told (reading (roomOf e t)) .texts)
   pub entries : e′ ≡ overwritten e (told (reading (roomOf e t)) .entries)
   pub texts : t′ ≡ overwritten t (told (reading (roomOf e t)) .texts)
+
+-- the place beside the number (change request 1), of a reading that can answer 7; 0 where it answers another
+pub record ReadingPlace (reading : Room → Reading) (e t : List ℕ) (at : ℕ) : Type 0 where
+  pub place : at ≡ told (reading (roomOf e t)) .place

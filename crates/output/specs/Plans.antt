@@ -7,7 +7,7 @@ use Rattle.refusal.specs.Answer.{Answer, gives, refuses}
 use Rattle.reference.specs.Text.{unescaped, meaning}
 use Rattle.document.specs.View.{View}
 use Rattle.document.specs.Scope.{Child}
-use Rattle.document.specs.Text.{unescapedText}
+use Rattle.document.specs.Text.{unescapedFrom}
 use Rattle.sheet.specs.Sheet.{Structure}
 use Rattle.readings.specs.Output.{Entry, textEntry, pieceEntry, groupEntry, failedEntry, keyTextEntry, keyPieceEntry}
 use Rattle.readings.specs.Plan.{Plan, end, stop, one, oneByOne, Whole}
@@ -28,17 +28,22 @@ piece member start len = one (pieceEntry member (record { start = start; len = l
 unfoldable pub failed : ℕ → Refusal → Plan
 failed member why = one (failedEntry member why) []
 
+-- a text whose references are right
+unfoldable pub measured : ℕ → List ℕ → Plan
+measured member t = let l = meaning (unescaped t) in one (textEntry member l) l
+
 -- a text that was unescaped, or a refusal: a string list's item
 abbrev pub textOr : ℕ → Answer (List ℕ) → Plan
 textOr member (gives l) = one (textEntry member l) l
 textOr member (refuses r) = stop r
 
-unfoldable pub text : ℕ → List ℕ → Plan
-text member t = textOr member (unescapedText (unescaped t))
+-- of a text that begins at `from` in the body: change request 1, "passes it on as a body offset"
+unfoldable pub text : ℕ → ℕ → List ℕ → Plan
+text member from t = textOr member (unescapedFrom from (unescaped t))
 
 -- a text that was unescaped, or an entry of kind 4: a structure's scalar
-unfoldable pub scalar : ℕ → List ℕ → Plan
-scalar member t = scalarPlan member (unescapedText (unescaped t))
+unfoldable pub scalar : ℕ → ℕ → List ℕ → Plan
+scalar member from t = scalarPlan member (unescapedFrom from (unescaped t))
 
 -- a map entry, of texts whose references are right
 unfoldable pub keyText : List ℕ → List ℕ → Plan

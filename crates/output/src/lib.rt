@@ -7,9 +7,10 @@ ghost use Prim.Native.Nat.{_+_, _*_, _^_, _≤_, _<_};
 ghost use lib.ListN.{length};
 ghost use lib.Seq.{sets};
 ghost use Rattle.lists.specs.Overwrite.{Stored};
+ghost use Rattle.refusal.specs.Numbers.{SmallPlace};
 ghost use Rattle.reference.specs.Text.{unescaped, meaning};
 ghost use Rattle.readings.specs.Output.{sixNumbers};
-ghost use Rattle.output.specs.Plans.{entryOf, entered, piece, failed, text, scalar, keyText, keyPiece, group};
+ghost use Rattle.output.specs.Plans.{entryOf, entered, piece, failed, measured, text, scalar, keyText, keyPiece, group};
 ghost use Rattle.output.specs.Held.{HasRoom, Does, Enters, Comes, Ready};
 ghost use Rattle.output.specs.Kept.{isKept, GroupLen, keptBytes, flat, Inside, Wide};
 
@@ -21,6 +22,7 @@ use crate::kind::PIECE;
 use crate::kind::TEXT;
 use reference::Unescaped;
 use refusal::Refusal;
+use refusal::bad_at;
 
 // How many entries, and how many text bytes, are written.
 pub struct Written {
@@ -104,11 +106,12 @@ pub fn write_piece(entries: &mut [u32], w: Written, member: u32, start: u32, len
     )
 }
 
-// A text that failed, for a member.
+// A text that failed, for a member: the refusal's number, and the place beside it.
 pub fn write_failed(entries: &mut [u32], w: Written, member: u32, why: Refusal) -> Step
     ensures { λ r. ⌜ Enters (failed member why) (now (entries .entry)) w (now (entries .exit)) r ⌝ }
 {
     let start = refusal::number_of(why);
+    let len = refusal::place_of(why);
     write_entry(
         entries,
         w,
@@ -118,7 +121,7 @@ pub fn write_failed(entries: &mut [u32], w: Written, member: u32, why: Refusal) 
             key_start: 0,
             key_len: 0,
             start,
-            len: 0,
+            len,
         },
     )
 }
@@ -169,7 +172,7 @@ fn write_measured(
 ) -> Step
     requires { ⌜ Comes (now txt) n ⌝ }
     requires { ⌜ Ready w n ⌝ }
-    ensures { λ r. ⌜ Does (text member (now (txt .entry))) (now (entries .entry)) (now (texts .entry)) w
+    ensures { λ r. ⌜ Does (measured member (now (txt .entry))) (now (entries .entry)) (now (texts .entry)) w
         (now (entries .exit)) (now (texts .exit)) r ⌝ }
 {
     let used = w.used;
@@ -192,41 +195,45 @@ fn write_measured(
     )
 }
 
-// The text of a span, unescaped, or 7: an item of a string list. 7 comes before 10.
+// The text of a span that begins at `from` in the body, unescaped, or 7: an item of a string list. 7 comes before 10.
 pub fn write_text(
     txt: &[u8],
+    from: usize,
     member: u32,
     entries: &mut [u32],
     texts: &mut [u8],
     w: Written,
 ) -> Step
     requires { ⌜ Ready w (length (now txt)) ⌝ }
-    ensures { λ r. ⌜ Does (text member (now (txt .entry))) (now (entries .entry)) (now (texts .entry)) w
+    requires { ⌜ SmallPlace from (length (now txt)) ⌝ }
+    ensures { λ r. ⌜ Does (text member from (now (txt .entry))) (now (entries .entry)) (now (texts .entry)) w
         (now (entries .exit)) (now (texts .exit)) r ⌝ }
 {
     match unescape::measure(txt) {
         Unescaped::Length(n) => write_measured(txt, n, member, entries, texts, w),
-        Unescaped::BadReference => Step::Refused(Refusal::BadReference, w),
+        Unescaped::BadReference { at } => Step::Refused(bad_at(from, at), w),
         // `measure` never answers this: it has no room to run out of.
         Unescaped::NoRoom => Step::Refused(Refusal::NoRoom, w),
     }
 }
 
-// The text of a span, unescaped, or an entry that says that it failed: a scalar of a structure.
+// The text of a span that begins at `from` in the body, unescaped, or an entry that says that it failed: a scalar of a structure.
 pub fn write_scalar(
     txt: &[u8],
+    from: usize,
     member: u32,
     entries: &mut [u32],
     texts: &mut [u8],
     w: Written,
 ) -> Step
     requires { ⌜ Ready w (length (now txt)) ⌝ }
-    ensures { λ r. ⌜ Does (scalar member (now (txt .entry))) (now (entries .entry)) (now (texts .entry)) w
+    requires { ⌜ SmallPlace from (length (now txt)) ⌝ }
+    ensures { λ r. ⌜ Does (scalar member from (now (txt .entry))) (now (entries .entry)) (now (texts .entry)) w
         (now (entries .exit)) (now (texts .exit)) r ⌝ }
 {
     match unescape::measure(txt) {
         Unescaped::Length(n) => write_measured(txt, n, member, entries, texts, w),
-        Unescaped::BadReference => write_failed(entries, w, member, Refusal::BadReference),
+        Unescaped::BadReference { at } => write_failed(entries, w, member, bad_at(from, at)),
         Unescaped::NoRoom => Step::Refused(Refusal::NoRoom, w),
     }
 }

@@ -10,7 +10,7 @@ use Rattle.document.specs.Names.{beforeColon, nameMatches}
 use Rattle.document.specs.View.{errorAt, view}
 use Rattle.document.specs.Reader.{skip, next}
 use Rattle.document.specs.Scope.{level, children, endOf, childrenOf, afterChildren, rootOf, pieceOf}
-use Rattle.document.specs.Text.{firstText, textOf, joined, wholeOf}
+use Rattle.document.specs.Text.{valueStartAt, firstText, textOf, joined, wholeOf}
 use Rattle.sheet.specs.Front.{times}
 use Rattle.sheet.specs.Sheet.{structureOf, listOf, mapOf}
 use Rattle.sheet.specs.Names.{indexed, firstNamed}
@@ -28,10 +28,10 @@ use Rattle.readings.specs.Find.{firstChild, findIn, find}
 
 unfoldable pub computed : Unit {0}
 unfolding reference.computed sameb rowsOf tokAs lastLt closing isClosed decTable xml.sameName xml.hasName xml.walk xml.walked xml.drained
-    beforeColon nameMatches errorAt view skip next level children endOf childrenOf afterChildren rootOf pieceOf firstText textOf joined
-    wholeOf times structureOf listOf mapOf indexed firstNamed numbersOf perform followedBy oneByOne performed opened asked attributeOf
-    attributePlan childPlan inGroup siblings groupOf groupPlan membersPlan rootPiece unwrappedPlan openedPlan structurePlan structureReading
-    isWanted itemPlan itemsPlan listPlan listReading stringPlan stringsPlan stringListPlan stringListReading readField readFields entryPlan
-    afterEntry entriesOf entriesPlan mapPlan mapReading booleanOf integerOf stringIn scalarText booleanReading integerReading stringReading
-    wholeText firstChild findIn find
+    xml.referencePlace xml.drainPlace beforeColon nameMatches errorAt view skip next level children endOf childrenOf afterChildren rootOf
+    pieceOf valueStartAt firstText textOf joined wholeOf times structureOf listOf mapOf indexed firstNamed numbersOf perform followedBy
+    oneByOne performed opened asked attributeOf attributePlan childPlan inGroup siblings groupOf groupPlan membersPlan rootPiece
+    unwrappedPlan openedPlan structurePlan structureReading isWanted itemPlan itemsPlan listPlan listReading stringPlan stringsPlan
+    stringListPlan stringListReading readField readFields entryPlan afterEntry entriesOf entriesPlan mapPlan mapReading booleanOf integerOf
+    stringIn scalarText booleanReading integerReading stringReading wholeText firstChild findIn find
 computed = tt {0}

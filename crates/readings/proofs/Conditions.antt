@@ -3,6 +3,7 @@ pub mod Answers
 pub mod Opening
 pub mod View
 pub mod Text
+pub mod Place
 pub mod Readings
 pub mod Values
 pub mod Scalar

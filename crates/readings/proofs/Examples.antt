@@ -3,6 +3,7 @@ pub mod Answers
 pub mod Asking
 pub mod Collections
 pub mod Edges
+pub mod Places
 pub mod Scalars
 pub mod Strays
 pub mod Tables

@@ -53,7 +53,7 @@ textPlan (refuses r) = stop r
 
 unfoldable pub stringPlan : View → Option (List ℕ) → Child → Plan
 unfolding isWanted textOf
-stringPlan v name c = let text = textPlan (textOf (v .failure) c) in pick (isWanted name c) text end
+stringPlan v name c = let text = textPlan (textOf v c) in pick (isWanted name c) text end
 
 unfoldable pub stringsPlan : Settings → Asked ListSheet → Plan
 unfolding oneByOne followedBy stringPlan childrenOf
@@ -86,7 +86,7 @@ noFields = record { key = none; value = none }
 -- a value is a piece where it is aggregate, and a text otherwise
 abbrev pub valueIn : List ℕ → View → Bool → Child → Answer MapValue
 valueIn body v true c = gives (piece (pieceOf body v c))
-valueIn body v false c = onward (textOf (v .failure) c) (λ (t : List ℕ). gives (text t))
+valueIn body v false c = onward (textOf v c) (λ (t : List ℕ). gives (text t))
 
 -- a child that has both names is a key
 unfoldable pub readField : List ℕ → View → MapSheet → Fields → Child → Answer Fields
@@ -94,7 +94,7 @@ unfolding sameb pieceOf textOf
 readField body v m f c =
     let isKey = sameb (c .start .name .local) (keyName m) in
     let isValue = sameb (c .start .name .local) (valueName m) in
-    let key : Answer Fields = onward (textOf (v .failure) c) (λ (t : List ℕ). gives (record { key = some t; value = f .value })) in
+    let key : Answer Fields = onward (textOf v c) (λ (t : List ℕ). gives (record { key = some t; value = f .value })) in
     let value : Answer Fields =
     onward (valueIn body v (valueAggregate m) c) (λ (x : MapValue). gives (record { key = f .key; value = some x })) in
     pick isKey key (pick isValue value (gives f))

@@ -75,7 +75,7 @@ pub data MayRefuse (u : Upload) (call : Call) (room : Room) (shape : Shape) (out
   root-name : (a : Asked (SheetOf shape)) → ReadOf u (call .sheet) shape a → RootDiffers (call .settings) (call .depth) shape a
       → MayRefuse u call room shape out Refusal.RootName
   element-in-text : (a : Asked (SheetOf shape)) (c : Child) → ReadOf u (call .sheet) shape a → TextWanted (call .settings) shape a c
-      → textOf none c ≡ answer.refuses Refusal.ElementInText → MayRefuse u call room shape out Refusal.ElementInText
+      → textOf (a .opened .seen) c ≡ answer.refuses Refusal.ElementInText → MayRefuse u call room shape out Refusal.ElementInText
   no-room : {entry : ℕ → Entry} {bytes : List ℕ} {more : Plan} → Reaches (planOf shape u call .asMet) nothing (put entry bytes more) out
       → Exceeds room (appended entry bytes out) → MayRefuse u call room shape out Refusal.NoRoom
   groups-no-room : {entry : ℕ → Entry} {bytes : List ℕ} {more : Plan} {last : Output} → Reaches (planOf shape u call .asMet) nothing end out

@@ -6,7 +6,7 @@ use lib.Dec.{ltb, leb}
 use lib.ListN.{length}
 use Rattle.lists.specs.Tests.{pick}
 use Rattle.refusal.specs.declared.Refusal.{Refusal}
-use Rattle.refusal.specs.Numbers.{number}
+use Rattle.refusal.specs.Numbers.{number, place}
 use Rattle.document.specs.Scope.{Piece}
 
 -- "An entry is six 32-bit numbers: kind, member index (0 for items and map entries), key start and length (0, 0 outside maps), start,
@@ -20,7 +20,7 @@ pub record Entry : Type 0 where
   pub len : ℕ
 
 -- "Kinds: 1 text in the text buffer; 2 piece of the body; 3 gathered group in the text buffer ..; 4 failed text, start being its number
--- 6 to 9, length 0"
+-- 6 to 9, length 0" (with 7 the length is a place: `failedEntry`)
 abbrev pub textKind : ℕ
 textKind = 1
 
@@ -55,7 +55,8 @@ abbrev pub output : Reading → Output
 output (finished out) = out
 output (refused r out) = out
 
--- ---- what is told of a reading: its number, 0 where it finished; the entries, counted, as six numbers each; and the text bytes
+-- ---- what is told of a reading: its number, 0 where it finished; the place beside it; the entries, counted, as six numbers each; and the
+-- text bytes
 abbrev pub sixNumbers : Entry → List ℕ
 sixNumbers e = e .kind ∷ e .member ∷ e .keyStart ∷ e .keyLen ∷ e .start ∷ e .len ∷ []
 
@@ -65,6 +66,7 @@ numbersOf (e ∷ l) = sixNumbers e ++ numbersOf l
 
 pub record Told : Type 0 where
   pub number : ℕ
+  pub place : ℕ
   pub count : ℕ
   pub entries : List ℕ
   pub texts : List ℕ
@@ -73,8 +75,20 @@ abbrev pub outcome : Reading → ℕ
 outcome (finished out) = 0
 outcome (refused r out) = number r
 
+-- the place beside the number (change request 1): 0 where the number is not 7
+abbrev pub outcomePlace : Reading → ℕ
+outcomePlace (finished out) = 0
+outcomePlace (refused r out) = place r
+
 abbrev pub told : Reading → Told
-told r = record { number = outcome r; count = length (output r .entries); entries = numbersOf (output r .entries); texts = output r .texts }
+told r =
+    record {
+      number = outcome r;
+      place = outcomePlace r;
+      count = length (output r .entries);
+      entries = numbersOf (output r .entries);
+      texts = output r .texts;
+    }
 
 -- ---- "An entry and its text are written only if both fit"
 abbrev pub fits : Room → List ℕ → Output → Bool
@@ -98,8 +112,9 @@ pieceEntry member piece at = keyless pieceKind member (piece .start) (piece .len
 abbrev pub groupEntry : ℕ → List ℕ → ℕ → Entry
 groupEntry member bytes at = keyless groupKind member at (length bytes)
 
+-- change request 1: "the length field of an entry of kind 4 whose number is 7 (other numbers keep 0)" is the place of the failing `&`
 abbrev pub failedEntry : ℕ → Refusal → ℕ → Entry
-failedEntry member refusal at = keyless failedKind member (number refusal) 0
+failedEntry member refusal at = keyless failedKind member (number refusal) (place refusal)
 
 -- a map entry: "A map writes the key before the value."
 abbrev pub keyTextEntry : List ℕ → List ℕ → ℕ → Entry

@@ -72,7 +72,7 @@ unfoldable pub scalarText : Upload → Settings → ShapeDepth → Answer (List 
 unfolding opened textOf
 scalarText u settings depth =
     onward (opened (isStrict settings depth) u) (λ (o : Opened).
-    onward (textOf (o .seen .failure) (o .root)) (unlessIllFormed (o .seen .illFormed)))
+    onward (textOf (o .seen) (o .root)) (unlessIllFormed (o .seen .illFormed)))
 
 -- "10 for a string; 11 or 12"
 unfoldable pub booleanReading : Upload → Settings → ShapeDepth → Answer Bool
@@ -97,4 +97,5 @@ unfoldable pub wholeText : Upload → ℕ → Answer (List ℕ)
 unfolding drained rootOf wholeOf stringIn
 wholeText u room =
     passing (drained (u .body) (u .rows) (u .end))
-    (onward (present Refusal.NoRoot (rootOf (toksOf (u .body) (rowsOf (u .rows))))) (λ (c : Child). onward (wholeOf c) (stringIn room)))
+    (onward (present Refusal.NoRoot (rootOf (toksOf (u .body) (rowsOf (u .rows))))) (λ (c : Child).
+    onward (wholeOf (rowsOf (u .rows)) c) (stringIn room)))

@@ -56,7 +56,7 @@ abbrev pub memberPlan : List ℕ → View → Child → Option Indexed → Plan
 memberPlan body v c none = end
 memberPlan body v c (some m) =
     let piece = one (pieceEntry (m .index) (pieceOf body v c)) [] in
-    let text = scalarPlan (m .index) (textOf (v .failure) c) in
+    let text = scalarPlan (m .index) (textOf v c) in
     pick (m .member .aggregate) (pick (m .member .flattened) end piece) text
 
 unfoldable pub childPlan : List ℕ → View → Structure → Child → Plan

@@ -14,8 +14,8 @@ use Rattle.reference.specs.Text.Out.{bytes, bad}
 use Rattle.reference.proofs.Result.{unescaped-shorter}
 use Rattle.reference.specs.declared.Unescaped.{Unescaped}
 
--- a bad reference is 7 in any room: 7 comes before 10
-pub bad-first : (at room : ℕ) → answer (bad at) room ≡ Unescaped.BadReference
+-- a bad reference is 7, with its place, in any room: 7 comes before 10
+pub bad-first : (at room : ℕ) → answer (bad at) room ≡ Unescaped.BadReference at
 unfolding answer
 bad-first at room = refl
 

@@ -1,16 +1,17 @@
--- `validate` takes a text exactly when each `&` of it begins a Reference of XML 1.0 (Xml.antt).
+-- `validate` takes a text exactly when each `&` of it begins a Reference of XML 1.0 (Xml.antt), and otherwise tells the place of the first
+-- that begins none (Place.antt).
 use Prim.Native.Nat.{ℕ, zero, suc, _+_, _-_, _*_, _^_, _≤_, _<_}
 use mathlib.Core.Path.{_≡_, refl, sym, _∙_, ap}
 use mathlib.Core.Bool.{Bool, true, false}
 use mathlib.Core.List.{List, [], _∷_, _++_, append-assoc, append-nil}
-use mathlib.Core.Logic.{⊎-elim}
+use mathlib.Core.Logic.{_↔_, ⊎-elim}
 use native.Mathlib.Nat.{zero-add, zero-mul}
 use native.Mathlib.Numerals.{add-one}
 use native.Mathlib.Omega.{arith}
-use borrow.Author.Tests.{ltb-true, ltb-false, eqb-true, eqb-false, ne-eqb, le-leb, lt-leb, lt-ltb, le-ltb}
+use borrow.Author.Tests.{ltb-true, eqb-true, eqb-false, ne-eqb, le-leb, lt-leb, lt-ltb, le-ltb}
 use lib.Dec.{ltb, leb, eqb}
 use lib.ListN.{length, getD, drop, take, length-append, take-append-drop}
-use lib.Seq.{take-suc}
+use lib.Seq.{take-suc, drop-cons}
 use Rattle.lists.specs.Tests.{pick, within}
 use Rattle.lists.proofs.Tests.{pick-same, pick-cases, false-true, or-is, within-is, is-within}
 use Rattle.lists.specs.Bytes.{ascii, sameb}
@@ -21,7 +22,8 @@ use Rattle.reference.specs.Entity.{named, numeric, only, first, xmlChar,
 use Rattle.reference.specs.Text.{span, sized, reference, Out, before, decode, verdict, references, validated}
 use Rattle.reference.specs.Text.Out.{bytes, bad}
 use Rattle.reference.proofs.Taken.{no-value, no-char, named-all, only-is}
-use Rattle.reference.proofs.Lenient.{before-is}
+use Rattle.reference.specs.Place.{FailsAt, NoReferenceAt, Correct}
+use Rattle.reference.proofs.Place.{each-begins, validate-bad-is}
 use Rattle.reference.specs.Xml as xml
 use Rattle.reference.specs.Xml.{Char, Decimal, Hexadecimal, Numeral, CharRef, Predefined, BeginsReference, EachReference}
 use Rattle.reference.specs.declared.Number.{Number}
@@ -350,6 +352,10 @@ getD-front : (e : List ℕ) (x : ℕ) (r : List ℕ) → getD (e ++ (x ∷ r)) (
 getD-front [] x r = refl
 getD-front (y ∷ e) x r = getD-front e x r
 
+drop-front : (e : List ℕ) (x : ℕ) (r : List ℕ) → drop (suc (length e)) (e ++ (x ∷ r)) ≡ r
+drop-front [] x r = refl
+drop-front (y ∷ e) x r = drop-front e x r
+
 pub reference-complete : {t : List ℕ} {c : ℕ} → xml.Reference t c → (s r : List ℕ) → 0x26 ∷ s ≡ t ++ r
     → reference true s ≡ Reference.Char c (length t - 1)
 unfolding reference sized entity-front
@@ -381,46 +387,6 @@ reference-sound s {c} {n} q = go (eqb (getD s (span s) 0) 59) (charOf true (take
     go false x h k q = no-char q
 
 -- ---- the whole text
--- no `&` among the first n bytes
-abbrev pub NoAmp : ℕ → List ℕ → Type 0
-NoAmp n s = (j : ℕ) → j < n → getD s j 0 ≡ 38 → ⊥
-
-span-no-amp : (s : List ℕ) → NoAmp (span s) s
-unfolding span
-span-no-amp [] j h e = omega arith
-span-no-amp (b ∷ s) j h e = go (eqb b 59) (eqb b 38) refl j h e (span-no-amp s)
-  where
-    go : (t u : Bool) → eqb b 38 ≡ u → (j : ℕ) → j < pick t 0 (pick u 0 (suc (span s))) → getD (b ∷ s) j 0 ≡ 38
-        → ((j : ℕ) → j < span s → getD s j 0 ≡ 38 → ⊥) → ⊥
-    go true u q j h e ih = omega arith
-    go false true q j h e ih = omega arith
-    go false false q zero h e ih = eqb-false b 38 q e
-    go false false q (suc j) h e ih = ih j (omega arith) e
-
-pub reference-no-amp : (strict : Bool) (s : List ℕ) {c n : ℕ} → reference strict s ≡ Reference.Char c n → NoAmp n s
-unfolding reference sized
-reference-no-amp strict s {c} {n} q = go (eqb (getD s (span s) 0) 59) (charOf strict (take (span s) s)) refl q
-  where
-    go : (t : Bool) (x : Number) → eqb (getD s (span s) 0) 59 ≡ t → pick t (sized (span s + 1) x) Reference.Bad ≡ Reference.Char c n
-        → (j : ℕ) → j < n → getD s j 0 ≡ 38 → ⊥
-    go true (Value d) h q j l e = last (ltb j (span s)) refl
-      where
-        last : (t : Bool) → ltb j (span s) ≡ t → ⊥
-        last true p = span-no-amp s j (ltb-true _ _ p) e
-        last false p =
-            let b : span s + 1 ≡ n = cc in
-            let k : j ≡ span s = omega (arith, ltb-false j (span s) p) in
-            omega (arith, eqb-true (getD s (span s) 0) 59 h, rw k at e)
-    go true No h q j l e = no-char q
-    go false x h q j l e = no-char q
-
-no-bytes {ℓ} : {A : Type ℓ} {at : ℕ} {l : List ℕ} → bad at ≡ bytes l → A
-no-bytes e = let z : _≡_ {A = ℕ} 0 1 = cc in absurd (omega arith)
-
-nil-append {ℓ} : {A : Type ℓ} (a : List ℕ) (x : ℕ) (b : List ℕ) → [] ≡ a ++ (x ∷ b) → A
-nil-append [] x b e = let z : _≡_ {A = ℕ} 0 1 = cc in absurd (omega arith)
-nil-append (y ∷ a) x b e = let z : _≡_ {A = ℕ} 0 1 = cc in absurd (omega arith)
-
 -- a reference that is read begins the text after its `&`
 begins : (s : List ℕ) {c n : ℕ} → reference true s ≡ Reference.Char c n → BeginsReference (0x26 ∷ s)
 begins s {c} {n} q = record {
@@ -431,42 +397,12 @@ begins s {c} {n} q = record {
   is = reference-sound s q;
 }
 
--- each `&` of s, once k bytes that hold none are passed
-each-sound : (at k : ℕ) (s l : List ℕ) → NoAmp k s → decode true at k s ≡ bytes l → (a b : List ℕ) → s ≡ a ++ (0x26 ∷ b)
-    → BeginsReference (0x26 ∷ b)
-unfolding decode
-each-sound at k [] l p e a b q = nil-append a 0x26 b q
-each-sound at (suc k) (x ∷ s) l p e [] b q = let z : x ≡ 38 = cc in absurd (p 0 (omega arith) z)
-each-sound at (suc k) (x ∷ s) l p e (y ∷ a) b q = let z : s ≡ a ++ (0x26 ∷ b) = cc in
-    each-sound (suc at) k s l (λ j h. p (suc j) (omega arith)) e a b z
-each-sound at zero (x ∷ s) l p e [] b q =
-    let z : x ≡ 38 = cc in
-    let w : s ≡ b = cc in
-    rw (← w) (go (reference true s) refl (rw (decode, z) at e))
-  where
-    go : (r : Reference) → reference true s ≡ r
-        → elim r [ Reference.Char c n ↦ before (encode c) (decode true (suc at) n s) | Reference.Bad ↦ bad at ] ≡ bytes l
-        → BeginsReference (0x26 ∷ s)
-    go (Reference.Char c n) h e = begins s h
-    go Reference.Bad h e = no-bytes e
-each-sound at zero (x ∷ s) l p e (y ∷ a) b q =
-    let z : s ≡ a ++ (0x26 ∷ b) = cc in
-    go (eqb x 38) (reference true s) refl e (λ k m p e. each-sound (suc at) k s m p e a b z)
-  where
-    Rest : Type 0
-    Rest = (k : ℕ) (m : List ℕ) → ((j : ℕ) → j < k → getD s j 0 ≡ 38 → ⊥) → decode true (suc at) k s ≡ bytes m → BeginsReference (0x26 ∷ b)
-
-    go : (t : Bool) (r : Reference) → reference true s ≡ r
-        → elim t [
-          | true ↦ elim r [ Reference.Char c n ↦ before (encode c) (decode true (suc at) n s) | Reference.Bad ↦ bad at ]
-          | false ↦
-              before (x ∷ []) (decode true (suc at) zero s)
-        ] ≡ bytes l
-        → Rest → BeginsReference (0x26 ∷ b)
-    go true (Reference.Char c n) h e ih = let w = before-is (encode c) l (decode true (suc at) n s) e in
-        ih n (w .0) (reference-no-amp true s h) (w .1)
-    go true Reference.Bad h e ih = no-bytes e
-    go false r h e ih = let w = before-is (x ∷ []) l (decode true (suc at) zero s) e in ih 0 (w .0) (λ j h e. omega arith) (w .1)
+-- each `&` of a text that decodes begins a Reference
+each-sound : (t l : List ℕ) → decode true 0 0 t ≡ bytes l → (a b : List ℕ) → t ≡ a ++ (0x26 ∷ b) → BeginsReference (0x26 ∷ b)
+each-sound t l e a b q =
+    let w = each-begins true 0 0 t l (λ j h e. omega arith) e (length a) (rw q (getD-front a 0x26 b)) in
+    let d : drop (suc (length a)) t ≡ b = ap (drop (suc (length a))) q ∙ drop-front a 0x26 b in
+    begins b (ap (reference true) (sym d) ∙ w .is)
 
 each-complete : (at k : ℕ) (s : List ℕ) → ((a b : List ℕ) → s ≡ a ++ (0x26 ∷ b) → BeginsReference (0x26 ∷ b))
     → (l : List ℕ) × (decode true at k s ≡ bytes l)
@@ -499,7 +435,7 @@ unfolding validated references verdict
 validate-sound t e = go (decode true 0 0 t) refl e
   where
     go : (o : Out) → decode true 0 0 t ≡ o → verdict o ≡ Validated.Valid → EachReference t
-    go (bytes l) q e = record { each = each-sound 0 0 t l (λ j h e. omega arith) q }
+    go (bytes l) q e = record { each = λ a b c. each-sound t l q a b c }
     go (bad at) q e = let z : _≡_ {A = ℕ} 0 1 = cc in absurd (omega arith)
 
 -- where there is nothing, nothing is wrong
@@ -510,3 +446,43 @@ validated-none = refl
 pub validate-complete : (t : List ℕ) → EachReference t → validated t ≡ Validated.Valid
 unfolding validated references verdict
 validate-complete t h = let w = each-complete 0 0 t (h .each) in rw (w .1)
+
+-- ---- and it refuses with a place exactly where that is the first `&` which begins no Reference
+-- no Reference begins at an `&` exactly where validation reads none after it
+none-sound : (s : List ℕ) → reference true s ≡ Reference.Bad → BeginsReference (0x26 ∷ s) → ⊥
+none-sound s q b = no-char (sym q ∙ reference-complete (b .is) s (b .rest) (b .cut))
+
+none-complete : (s : List ℕ) → (BeginsReference (0x26 ∷ s) → ⊥) → reference true s ≡ Reference.Bad
+none-complete s h = go (reference true s) refl
+  where
+    go : (r : Reference) → reference true s ≡ r → r ≡ Reference.Bad
+    go (Reference.Char c n) q = absurd (h (begins s q))
+    go Reference.Bad q = refl
+
+module _ (t : List ℕ) (at : ℕ) where
+  at-amp : getD t at 0 ≡ 38 → drop at t ≡ 0x26 ∷ drop (suc at) t
+  at-amp e = drop-cons t at 0 (getD-in t at 37 e) ∙ ap (λ (x : ℕ). x ∷ drop (suc at) t) e
+
+  pub fails-sound : FailsAt true t at → NoReferenceAt t at
+  unfolding validated references verdict
+  fails-sound f = record {
+    front = validate-sound (take at t) (ap verdict (f .decodes));
+    byte = f .byte;
+    none = λ b. none-sound (drop (suc at) t) (f .none) (rw (at-amp (f .byte)) at b);
+  }
+
+  pub fails-complete : NoReferenceAt t at → FailsAt true t at
+  fails-complete n = let w = each-complete 0 0 (take at t) (n .front .each) in
+      record {
+        front = w .0;
+        decodes = w .1;
+        byte = n .byte;
+        none = none-complete (drop (suc at) t) (λ b. n .none (rw (at-amp (n .byte)) b));
+      }
+
+-- ---- THE EXACTNESS OF VALIDATION: each answer is given exactly where it is right by XML 1.0
+pub validate-is : (t : List ℕ) (v : Validated) → (validated t ≡ v) ↔ Correct t v
+unfolding Correct
+validate-is t Validated.Valid = (validate-sound t, validate-complete t)
+validate-is t (Validated.BadReference at) = let w = validate-bad-is t at in
+    (λ e. fails-sound t at (w .0 e), λ n. w .1 (fails-complete t at n))

@@ -67,7 +67,8 @@ strict-char e c = go (named e)
     go (Value n) q = q
     go No q = strict-only (numeric (reader true) e) (numeric (reader false) e) (strict-numeric e) q
 
-strict-reference : (s : List ℕ) (c n : ℕ) → reference true s ≡ Reference.Char c n → reference false s ≡ Reference.Char c n
+-- a reference that is read strictly is read
+pub strict-reference : (s : List ℕ) (c n : ℕ) → reference true s ≡ Reference.Char c n → reference false s ≡ Reference.Char c n
 unfolding reference sized
 strict-reference s c n = go (eqb (getD s (span s) 0) 59) (charOf true (take (span s) s)) (charOf false (take (span s) s))
     (strict-char (take (span s) s))

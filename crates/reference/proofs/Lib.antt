@@ -3,6 +3,7 @@ pub mod Walk
 pub mod Lenient
 pub mod Result
 pub mod Answer
+pub mod Place
 pub mod Grammar
 pub mod All
 pub mod Examples

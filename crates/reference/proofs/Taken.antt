@@ -1,11 +1,11 @@
--- What a reference that is taken is like: its length, its `;`, and that it names a scalar value.
-use Prim.Native.Nat.{ℕ, _+_, _-_, _≤_, _<_}
+-- What a reference that is taken is like: its length, its `;`, that it names a scalar value, and that no `&` stands in it.
+use Prim.Native.Nat.{ℕ, zero, suc, _+_, _-_, _≤_, _<_}
 use mathlib.Core.Path.{_≡_, refl, sym, _∙_}
 use mathlib.Core.Bool.{Bool, true, false}
-use mathlib.Core.List.{List}
+use mathlib.Core.List.{List, [], _∷_}
 use native.Mathlib.Omega.{arith}
-use borrow.Author.Tests.{leb-true, leb-false, eqb-true, ne-eqb, lt-leb}
-use lib.Dec.{leb, eqb}
+use borrow.Author.Tests.{leb-true, leb-false, ltb-true, ltb-false, eqb-true, eqb-false, ne-eqb, lt-leb}
+use lib.Dec.{ltb, leb, eqb}
 use lib.ListN.{length, getD, drop, take, length-drop, length-take}
 use Rattle.lists.specs.Tests.{pick, within}
 use Rattle.lists.proofs.Tests.{pick-same, false-true}
@@ -169,3 +169,37 @@ taken strict s {c} {n} e = go (eqb (getD s (span s) 0) 59) (charOf strict (take 
         }
     go true No h q e = no-char e
     go false x h q e = no-char e
+
+-- ---- no `&` stands in it
+-- no `&` among the first n bytes
+abbrev pub NoAmp : ℕ → List ℕ → Type 0
+NoAmp n s = (j : ℕ) → j < n → getD s j 0 ≡ 38 → ⊥
+
+span-no-amp : (s : List ℕ) → NoAmp (span s) s
+unfolding span
+span-no-amp [] j h e = omega arith
+span-no-amp (b ∷ s) j h e = go (eqb b 59) (eqb b 38) refl j h e (span-no-amp s)
+  where
+    go : (t u : Bool) → eqb b 38 ≡ u → (j : ℕ) → j < pick t 0 (pick u 0 (suc (span s))) → getD (b ∷ s) j 0 ≡ 38
+        → ((j : ℕ) → j < span s → getD s j 0 ≡ 38 → ⊥) → ⊥
+    go true u q j h e ih = omega arith
+    go false true q j h e ih = omega arith
+    go false false q zero h e ih = eqb-false b 38 q e
+    go false false q (suc j) h e ih = ih j (omega arith) e
+
+pub reference-no-amp : (strict : Bool) (s : List ℕ) {c n : ℕ} → reference strict s ≡ Reference.Char c n → NoAmp n s
+unfolding reference sized
+reference-no-amp strict s {c} {n} q = go (eqb (getD s (span s) 0) 59) (charOf strict (take (span s) s)) refl q
+  where
+    go : (t : Bool) (x : Number) → eqb (getD s (span s) 0) 59 ≡ t → pick t (sized (span s + 1) x) Reference.Bad ≡ Reference.Char c n
+        → (j : ℕ) → j < n → getD s j 0 ≡ 38 → ⊥
+    go true (Value d) h q j l e = last (ltb j (span s)) refl
+      where
+        last : (t : Bool) → ltb j (span s) ≡ t → ⊥
+        last true p = span-no-amp s j (ltb-true _ _ p) e
+        last false p =
+            let b : span s + 1 ≡ n = cc in
+            let k : j ≡ span s = omega (arith, ltb-false j (span s) p) in
+            omega (arith, eqb-true (getD s (span s) 0) 59 h, rw k at e)
+    go true No h q j l e = no-char q
+    go false x h q j l e = no-char q

@@ -61,7 +61,7 @@ references t = decode true 0 0 t
 
 unfoldable pub verdict : Out → Validated
 verdict (bytes l) = Validated.Valid
-verdict (bad at) = Validated.BadReference
+verdict (bad at) = Validated.BadReference at
 
 unfoldable pub validated : List ℕ → Validated
 validated t = verdict (references t)
@@ -73,7 +73,7 @@ unescaped t = decode false 0 0 t
 -- the answer, with that much room
 unfoldable pub answer : Out → ℕ → Unescaped
 answer (bytes l) room = pick (leb (length l) room) (Unescaped.Length (length l)) Unescaped.NoRoom
-answer (bad at) room = Unescaped.BadReference
+answer (bad at) room = Unescaped.BadReference at
 
 -- what the lent buffer holds then: the result at its front, or what stood there
 unfoldable pub filled : Out → List ℕ → List ℕ

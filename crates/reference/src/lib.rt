@@ -13,15 +13,17 @@ pub enum Reference {
     Bad,
 }
 
-// What `validate_references` answers: 01's number 7 is BadReference.
+// What `validate_references` answers: 01's number 7 is BadReference, with the place of the first `&` that begins no reference, counted
+// from the start of the text.
 pub enum Validated {
     Valid,
-    BadReference,
+    BadReference { at: usize },
 }
 
-// What `unescape` answers: the length of the result, or 01's number 7, BadReference, or 10, NoRoom.
+// What `unescape` answers: the length of the result, or 01's number 7, BadReference, with the place of the first `&` that begins no
+// reference, counted from the start of the text, or 10, NoRoom.
 pub enum Unescaped {
     Length(usize),
-    BadReference,
+    BadReference { at: usize },
     NoRoom,
 }

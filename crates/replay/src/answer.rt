@@ -22,7 +22,7 @@ pub enum Outcome {
 fn is_valid(text: &[u8]) -> bool {
     match validate_references(text) {
         Validated::Valid => true,
-        Validated::BadReference => false,
+        Validated::BadReference { at: _ } => false,
     }
 }
 
@@ -60,7 +60,7 @@ fn holds(space: &[u8; 1024], room: usize, result: &[u8]) -> bool {
 fn is_answer(answer: Unescaped, number: u64, length: usize) -> bool {
     match answer {
         Unescaped::Length(n) => number == 0 && n == length,
-        Unescaped::BadReference => number == 7,
+        Unescaped::BadReference { at: _ } => number == 7,
         Unescaped::NoRoom => number == 10,
     }
 }
@@ -165,7 +165,8 @@ fn recorded_verdict(rest: &[u8]) -> Recorded {
 fn drains_to(body: &[u8], rows: &[u32], last: u32, number: u32, row: u32, cause: u32) -> bool {
     let mut first: usize = 77;
     let mut why: u32 = 77;
-    let answer = falzheod_drain(body, rows, last, &mut first, &mut why);
+    let mut place: usize = 77;
+    let answer = falzheod_drain(body, rows, last, &mut first, &mut why, &mut place);
     answer == number && first as u64 == row as u64 && why == cause
 }
 

@@ -19,6 +19,11 @@ const MARK: u32 = 77;
 
 const BYTE: u8 = 0x7e;
 
+// The kind of a failed text, and the number of a bad reference.
+const FAILED: u32 = 4;
+
+const REFERENCE: u32 = 7;
+
 // What is asked of a reading by a sheet, beside the table and the sheet.
 struct Asked {
     end: u32,
@@ -35,12 +40,27 @@ fn number(line: &[u8], k: usize) -> u32 {
     }
 }
 
-// Whether the entries' buffer holds these numbers, and past them what stood there before.
+// Whether number `i` of the entries is a place: the length of a failed text whose number is that of a bad reference. The Rust tells none.
+fn is_place(numbers: &[u32], i: usize) -> bool {
+    if i < 5 {
+        return false;
+    }
+    if i >= numbers.len() {
+        return false;
+    }
+    i % 6 == 5 && numbers[i - 5] == FAILED && numbers[i - 1] == REFERENCE
+}
+
+// Whether this is number `i` of the entries, or what stood there before past their end. Places are left out.
+fn agrees(numbers: &[u32], i: usize, found: u32) -> bool {
+    found == number_or(numbers, i, MARK) || is_place(numbers, i)
+}
+
+// Whether the entries' buffer holds these numbers, places apart, and past them what stood there before.
 fn holds_numbers(space: &[u32; 256], numbers: &[u32]) -> bool {
     let mut i = 0;
     while i < space.len() {
-        let expected = number_or(numbers, i, MARK);
-        if space[i] != expected {
+        if !agrees(numbers, i, space[i]) {
             return false;
         }
         i += 1;
@@ -86,6 +106,7 @@ fn call(
     texts: &mut [u8],
     count: &mut usize,
     length: &mut usize,
+    place: &mut usize,
 ) -> u32 {
     if operation == b's' {
         return falzheod_read_struct(
@@ -130,6 +151,7 @@ fn call(
             texts,
             count,
             length,
+            place,
         );
     }
     falzheod_read_string_list(
@@ -144,6 +166,7 @@ fn call(
         texts,
         count,
         length,
+        place,
     )
 }
 
@@ -162,6 +185,7 @@ fn reads_to(
     let mut texts = [BYTE; 512];
     let mut count: usize = 77;
     let mut length: usize = 77;
+    let mut place: usize = 77;
     let answer = call(
         operation,
         body,
@@ -172,6 +196,7 @@ fn reads_to(
         &mut texts,
         &mut count,
         &mut length,
+        &mut place,
     );
     if answer != number {
         return false;
@@ -191,6 +216,7 @@ fn refuses_with(body: &[u8], rows: &[u32], sheet: &[u8], a: Asked, number: u32) 
     let mut texts = [BYTE; 512];
     let mut count: usize = 77;
     let mut length: usize = 77;
+    let mut place: usize = 77;
     let answer = call(
         b't',
         body,
@@ -201,6 +227,7 @@ fn refuses_with(body: &[u8], rows: &[u32], sheet: &[u8], a: Asked, number: u32) 
         &mut texts,
         &mut count,
         &mut length,
+        &mut place,
     );
     answer == number && number != 0
 }
@@ -270,6 +297,7 @@ fn replay_sheet(operation: u8, line: &[u8], body: &[u8], rows: &[u32]) -> Outcom
 // is left alone by a refusal.
 fn reads_boolean(line: &[u8], body: &[u8], rows: &[u32]) -> bool {
     let mut value = MARK;
+    let mut place: usize = 77;
     let answer = falzheod_read_boolean(
         body,
         rows,
@@ -277,6 +305,7 @@ fn reads_boolean(line: &[u8], body: &[u8], rows: &[u32]) -> bool {
         number(line, 4),
         number(line, 5),
         &mut value,
+        &mut place,
     );
     if answer != number(line, 6) {
         return false;
@@ -299,6 +328,7 @@ fn recorded_integer(line: &[u8], otherwise: i32) -> i32 {
 
 fn reads_integer(line: &[u8], body: &[u8], rows: &[u32]) -> bool {
     let mut value: i32 = 77;
+    let mut place: usize = 77;
     let answer = falzheod_read_integer(
         body,
         rows,
@@ -306,6 +336,7 @@ fn reads_integer(line: &[u8], body: &[u8], rows: &[u32]) -> bool {
         number(line, 4),
         number(line, 5),
         &mut value,
+        &mut place,
     );
     if answer != number(line, 6) {
         return false;
@@ -326,6 +357,7 @@ fn reads_string(line: &[u8], body: &[u8], rows: &[u32]) -> bool {
     }
     let mut out = [BYTE; 512];
     let mut length: usize = 77;
+    let mut place: usize = 77;
     let answer = falzheod_read_string(
         body,
         rows,
@@ -334,6 +366,7 @@ fn reads_string(line: &[u8], body: &[u8], rows: &[u32]) -> bool {
         number(line, 5),
         &mut out,
         &mut length,
+        &mut place,
     );
     answer == number(line, 6) && length == n && holds_bytes(&out, &expected[0..n])
 }

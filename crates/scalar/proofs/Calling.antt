@@ -11,7 +11,8 @@ use Rattle.scalar.specs.declared.Integer.{Integer}
 use Rattle.scalar.specs.declared.Copied.{Copied}
 use Rattle.scalar.specs.declared.Finding.{Finding}
 use Rattle.scalar.specs.Answers.{integerAs, copiedAs, lengthIn, CopyIs, findingAs, FindingIs}
-use Rattle.scalar.specs.Calls.{numberOf, writtenOf, BooleanCall, IntegerCall, LengthCall, StringCall, FindCall}
+use Rattle.scalar.specs.Calls.{numberOf, placeOf, writtenOf, BooleanCall, IntegerCall, LengthCall, StringCall, FindCall}
+use Rattle.scalar.specs.Calls.{BooleanRead, IntegerRead, LengthRead, StringRead}
 
 pub give-integer : (x : Integer) (old : ℤ) {z : ℤ} → x ≡ Integer.Is z → IntegerCall (integerAs x) old z 0
 give-integer x old e = record { number = rw e; value = rw e }
@@ -34,8 +35,24 @@ call-string {is} y c =
     same (gives l) = refl
     same (refuses r) = refl
 
+-- a reading of a body tells the place too
+pub read-boolean : {is x : Answer Bool} {old new p r : ℕ} → BooleanRead x old new p r → x ≡ is → BooleanRead is old new p r
+read-boolean c e = rw e at c
+
+pub read-integer : {is x : Answer ℤ} {old new : ℤ} {p r : ℕ} → IntegerRead x old new p r → x ≡ is → IntegerRead is old new p r
+read-integer c e = rw e at c
+
+pub read-string : {is : Answer (List ℕ)} {old new : List ℕ} {x : Copied} {n p r : ℕ} → CopyIs is old new x → LengthRead (copiedAs x) n p r
+    → StringRead is old new n p r
+read-string {is} y c = record { call = call-string y (c .call); place = c .place ∙ (ap placeOf (y .number) ∙ same is) }
+  where
+    same : (a : Answer (List ℕ)) → placeOf (lengthIn a) ≡ placeOf a
+    same (gives l) = refl
+    same (refuses r) = refl
+
 pub call-find : {is : Answer doc.Piece} {x : Finding} {from size r : ℕ} → FindingIs x is → FindCall (findingAs x) from size r
     → FindCall is from size r
 call-find y c = rw (y .same) at c
 
-pub ruleset call-laws = (needs, call-boolean, call-integer, call-string, call-find)
+pub ruleset call-laws =
+    (needs, call-boolean, call-integer, call-string, read-boolean, read-integer, read-string, call-find)

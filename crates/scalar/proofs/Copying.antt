@@ -18,6 +18,7 @@ use Rattle.refusal.specs.Answer.{Answer, gives, refuses, onward}
 use Rattle.reference.specs.Text.{answer, filled, unescaped, Unescape, meaning}
 use Rattle.reference.specs.declared.Unescaped.{Unescaped}
 use Rattle.table.specs.Row.{rowsOf, toksOf}
+use Rattle.table.specs.Flat.{rowsFrom}
 use Rattle.table.specs.Rules.{TableRules}
 use Rattle.table.specs.Test.{decTable}
 use Rattle.xml.specs.declared.Cause.{Cause}
@@ -41,8 +42,8 @@ use Rattle.decode.proofs.Names.{value-span}
 use Rattle.opening.specs.declared.Opening.{Opening}
 use Rattle.opening.specs.Opening.{OpeningIs}
 use Rattle.scalar.specs.declared.Copied.{Copied}
-use Rattle.scalar.specs.Answers.{lengthIn, bufferAfter, CopyIs}
-use Rattle.scalar.specs.Whole.{joinedFrom, LengthIs, JoinRoom, PutRoom, textIn, rootText}
+use Rattle.scalar.specs.Answers.{lengthIn, LengthIs, bufferAfter, CopyIs}
+use Rattle.scalar.specs.Whole.{joinedFrom, JoinRoom, PutRoom, textIn, rootText}
 use Rattle.scalar.proofs.Texts.{string-nothing}
 use Rattle.scalar.proofs.Opened.{opened-laws, opened-why, opened-is}
 
@@ -68,9 +69,9 @@ module _ {text old ys : List ℕ} {size : ℕ} {r : Unescaped} (w : PutRoom old 
   put-fits {n} e g = record { fits = omega (arith, w .fits, put-length e .next) }
 
   -- it is no other answer
-  pub put-bad : r ≡ Unescaped.BadReference → Stored old (back old size ys) size (meaning (unescaped text)) size
-  put-bad e =
-      let q : Unescaped.BadReference ≡ Unescaped.Length (length (meaning (unescaped text))) = sym e ∙ answered in
+  pub put-bad : {at : ℕ} → r ≡ Unescaped.BadReference at → Stored old (back old size ys) size (meaning (unescaped text)) size
+  put-bad {at} e =
+      let q : Unescaped.BadReference at ≡ Unescaped.Length (length (meaning (unescaped text))) = sym e ∙ answered in
       let z : _≡_ {A = ℕ} 0 1 = cc in absurd (omega arith)
 
   pub put-none : r ≡ Unescaped.NoRoom → Stored old (back old size ys) size (meaning (unescaped text)) size
@@ -129,13 +130,13 @@ pub ruleset copy-laws = (needs, copy-refused, copy-room, copy-put, copy-none)
 -- ---- of an element
 module _ (body t : List ℕ) (v : View) (s : StartRow) (c : Cursor) where
   pub whole-closed : (old : List ℕ) → s .closed ≡ true
-      → CopyIs (textIn (length old) (wholeOf (childAt body t (v .count) s c))) old old (Copied.Length 0)
+      → CopyIs (textIn (length old) (wholeOf (rowsFrom t 0 (v .count)) (childAt body t (v .count) s c))) old old (Copied.Length 0)
   unfolding wholeOf
   whole-closed old e = rw e (string-nothing old)
 
   pub whole-inside : {old new : List ℕ} {r : Copied} → s .closed ≡ false
       → CopyIs (textIn (length old) (joinedFrom body t v (ScopeRow.Element (s .depth) (s .row)) (c .depth .0) (c .row))) old new r
-      → CopyIs (textIn (length old) (wholeOf (childAt body t (v .count) s c))) old new r
+      → CopyIs (textIn (length old) (wholeOf (rowsFrom t 0 (v .count)) (childAt body t (v .count) s c))) old new r
   unfolding wholeOf joinedFrom
   whole-inside e x = record { number = rw e (x .number); buffer = rw e (x .buffer) }
 
@@ -149,7 +150,7 @@ module _ (body t : List ℕ) (final : ℕ) {r : Opening} (x : OpeningIs body t (
   text-none old e = rw (opened-why x e) (record { number = refl; buffer = refl })
 
   pub text-some : {old new : List ℕ} {v : View} {s : StartRow} {c : Cursor} {a : Copied} → r ≡ Opening.Found v s c
-      → CopyIs (textIn (length old) (wholeOf (childAt body t (v .count) s c))) old new a
+      → CopyIs (textIn (length old) (wholeOf (rowsFrom t 0 (v .count)) (childAt body t (v .count) s c))) old new a
       → CopyIs (rootText body t final (length old)) old new a
   unfolding rootText
   text-some e y = rw (opened-is x e) y
@@ -175,8 +176,8 @@ module _ (body t : List ℕ) (final : ℕ) {d : Drained} (e : d ≡ drained body
     where
       through : (o : Option Child)
           → onward (onward (present Refusal.NoRoot o) (λ (c : Child). gives (record { seen = doc.whole (rowsOf t) final; root = c })))
-          (λ (o : Opened). textIn (length old) (wholeOf (o .root)))
-          ≡ onward (present Refusal.NoRoot o) (λ (c : Child). onward (wholeOf c) (stringIn (length old)))
+          (λ (o : Opened). textIn (length old) (wholeOf (o .seen .rows) (o .root)))
+          ≡ onward (present Refusal.NoRoot o) (λ (c : Child). onward (wholeOf (rowsOf t) c) (stringIn (length old)))
       through none = refl
       through (some c) = refl
 

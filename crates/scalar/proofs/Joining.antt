@@ -1,8 +1,9 @@
 -- Laws of the loops over the rows of an element: what a row does to its whole text, the length of the text, and its bytes.
-use Prim.Native.Nat.{ℕ, _+_, _*_, _≤_, _<_}
+use Prim.Native.Nat.{ℕ, suc, _+_, _*_, _≤_, _<_}
 use mathlib.Core.Path.{_≡_, refl, sym, _∙_, ap}
 use mathlib.Core.Bool.{Bool, true, false}
 use mathlib.Core.List.{List, [], _++_, append-assoc, append-nil}
+use native.Mathlib.Numerals.{add-one}
 use native.Mathlib.Omega.{arith}
 use borrow.Author.Needs.{needs}
 use mir.Val.{Fits}
@@ -16,26 +17,25 @@ use Rattle.refusal.specs.declared.Refusal.{Refusal}
 use Rattle.refusal.specs.Answer.{Answer, gives, refuses}
 use Rattle.reference.specs.Text.{Out, bytes, bad, unescaped, meaning}
 use Rattle.reference.proofs.Result.{unescaped-shorter}
-use Rattle.reference.specs.declared.Unescaped.{Unescaped}
-use Rattle.unescape.specs.Loops.{sizeOf}
 use Rattle.table.specs.Row.{Tok, tokAs}
+use Rattle.table.specs.Flat.{rowsFrom}
+use Rattle.table.proofs.Flat.{unroll, drop-from}
 use Rattle.document.specs.declared.Depth.{Depth}
 use Rattle.document.specs.Reader.{depth, depthAfter, endsAt}
-use Rattle.document.specs.Text.{takeEach, joined}
+use Rattle.document.specs.Text.{valueStartAt, unescapedFrom, textTurn, takeEach, joined}
 use Rattle.document.proofs.Laws.Short.{cut-short}
+use Rattle.document.proofs.Laws.Place.{value-start}
 use Rattle.decode.specs.declared.reader.ScopeRow.{ScopeRow}
 use Rattle.decode.specs.declared.view.View.{View}
 use Rattle.decode.specs.Rows.{InTable, nameAt, valueAt, tokAt}
 use Rattle.decode.specs.Reader.{toksFrom, scopeAt, HasRow, DepthIs}
 use Rattle.decode.specs.View.{Viewed}
 use Rattle.decode.proofs.ByKind.{other}
-use Rattle.decode.proofs.Names.{value-span}
 use Rattle.decode.proofs.Places.{toks-next, toks-none, tok-is, row-seen}
 use Rattle.scalar.specs.declared.Copied.{Copied}
 use Rattle.scalar.specs.declared.whole.Turn.{Turn}
-use Rattle.scalar.specs.Answers.{bufferAfter}
-use Rattle.scalar.specs.Whole.{prepend, turnAs, joinAt, TurnIs, joinedFrom, LengthIs, JoinRoom, PutRoom}
-use Rattle.scalar.proofs.Unescaping.{size-length, size-bad, size-never}
+use Rattle.scalar.specs.Answers.{lengthIn, LengthIs, bufferAfter}
+use Rattle.scalar.specs.Whole.{prepend, turnAs, joinAt, TurnIs, joinedFrom, JoinRoom, PutRoom}
 
 -- ---- what a row does
 module _ (body t : List ℕ) (s : ScopeRow) (d k : ℕ) {kind : ℕ} (g : kind ≡ getD t (k * 8 + 0) 0) where
@@ -49,10 +49,11 @@ module _ (body t : List ℕ) (s : ScopeRow) (d k : ℕ) {kind : ℕ} (g : kind �
 
   module _ (a : (kind ≡ 6 → ⊥)) (b : (kind ≡ 1 → ⊥)) {e : ℕ} (x : DepthIs kind d e) {r : Bool}
       (i : r ≡ endsAt (scopeAt body t s) (depth e) (tokAt body t k)) where
-    passed : (more : Depth → Answer (List ℕ)) → joinAt body t s d (tokAt body t k) more ≡ pick r (gives []) (more (depth e))
+    passed : (more : Depth → Answer (List ℕ)) → joinAt body t s d k (tokAt body t k) more ≡ pick r (gives []) (more (depth e))
     passed more =
         let y : depthAfter (tokAt body t k) (depth d) ≡ depth e = rw (← g) (x .is b (nameAt body t k) (valueAt body t k)) in
-        let z = other kind (nameAt body t k) (valueAt body t k) .text b a takeEach (scopeAt body t s) (depth e) (more (depth e)) in
+        let take = takeEach (getD t (k * 8 + 5) 0) in
+        let z = other kind (nameAt body t k) (valueAt body t k) .text b a take (scopeAt body t s) (depth e) (more (depth e)) in
         rw (y, i) (rw g at z)
 
     pub turn-on : r ≡ false → TurnIs body t s d k (Turn.On e)
@@ -63,24 +64,15 @@ module _ (body t : List ℕ) (s : ScopeRow) (d k : ℕ) {kind : ℕ} (g : kind �
 
 pub ruleset turn-laws = (needs, turn-text, turn-element, turn-on, turn-ended)
 
--- a value by its row
-pub row-length : (body t : List ℕ) (k : ℕ) {v : List ℕ} {y : Unescaped} → v ≡ valueAt body t k → y ≡ sizeOf (unescaped v)
-    → y ≡ sizeOf (unescaped (valueAt body t k))
-row-length body t k p q = rw p at q
-
-pub ruleset row-laws = (needs, value-span, row-length)
-
 -- ---- the loops: acc are the bytes so far
 pub record JoinAt (body t : List ℕ) (v : View) (s : ScopeRow) (d₀ k₀ : ℕ) (acc : List ℕ) (d k : ℕ) : Type 0 where
   pub viewed : Viewed body t v
   pub scope : HasRow t s
-  pub rest : prepend acc (joined (scopeAt body t s) (depth d) (toksFrom body t (v .count) k)) ≡ joinedFrom body t v s d₀ k₀
+  pub rest : prepend acc (joinedFrom body t v s d k) ≡ joinedFrom body t v s d₀ k₀
 
 join-start : {body t : List ℕ} {v : View} {s : ScopeRow} (d k : ℕ) → Viewed body t v → HasRow t s
     → JoinAt body t v s d k [] d k
-unfolding joinedFrom
-join-start {body} {t} {v} {s} d k q h =
-    record { viewed = q; scope = h; rest = prepend-none (joined (scopeAt body t s) (depth d) (toksFrom body t (v .count) k)) }
+join-start {body} {t} {v} {s} d k q h = record { viewed = q; scope = h; rest = prepend-none (joinedFrom body t v s d k) }
   where
     prepend-none : (a : Answer (List ℕ)) → prepend [] a ≡ a
     prepend-none (gives l) = refl
@@ -92,20 +84,37 @@ prepend-more front next (refuses r) = refl
 
 module _ {body t : List ℕ} {v : View} {s : ScopeRow} {d₀ k₀ : ℕ} {acc : List ℕ} {d k : ℕ} (w : JoinAt body t v s d₀ k₀ acc d k) where
   join-done : v .count ≤ k → joinedFrom body t v s d₀ k₀ ≡ gives acc
-  unfolding joined
+  unfolding joinedFrom joined
   join-done h = sym (w .rest) ∙ rw (toks-none body t (v .count) k h) (ap gives (append-nil acc))
 
   module _ (h : k < v .count) where
     pub join-row : InTable t k
     join-row = row-seen (w .viewed .sees) h
 
-    abbrev after : Depth → Answer (List ℕ)
-    after e = joined (scopeAt body t s) e (toksFrom body t (v .count) (k + 1))
+    -- where the row's value begins
+    begins : valueStartAt (rowsFrom t 0 (v .count)) k ≡ getD t (k * 8 + 5) 0
+    begins =
+        let z : 0 + k ≡ k = omega arith in
+        value-start (rowsFrom t 0 (v .count)) k (rw z at (drop-from t 0 k (v .count)) ∙ unroll t k (v .count) h)
 
-    step : prepend acc (joinAt body t s d (tokAt body t k) after) ≡ joinedFrom body t v s d₀ k₀
-    unfolding joined
+    abbrev after : Depth → Answer (List ℕ)
+    after e = joined (rowsFrom t 0 (v .count)) (scopeAt body t s) e (k + 1) (toksFrom body t (v .count) (k + 1))
+
+    -- what its value comes to
+    abbrev value : Answer (List ℕ)
+    value = unescapedFrom (getD t (k * 8 + 5) 0) (unescaped (valueAt body t k))
+
+    step : prepend acc (joinAt body t s d k (tokAt body t k) after) ≡ joinedFrom body t v s d₀ k₀
+    unfolding joinedFrom joined
     step =
-        ap (λ (l : List Tok). prepend acc (joined (scopeAt body t s) (depth d) l)) (sym (toks-next body t (v .count) k h)) ∙ w .rest
+        let rows = rowsFrom t 0 (v .count) in
+        let u = tokAt body t k in
+        let e = depthAfter u (depth d) in
+        let x : prepend acc (textTurn (takeEach (valueStartAt rows k)) (scopeAt body t s) e u
+        (joined rows (scopeAt body t s) e (suc k) (toksFrom body t (v .count) (k + 1)))) ≡ joinedFrom body t v s d₀ k₀
+        = ap (λ (l : List Tok). prepend acc (joined rows (scopeAt body t s) (depth d) k l)) (sym (toks-next body t (v .count) k h))
+        ∙ w .rest in
+        rw (begins, ← add-one k) at x
 
     module _ {r : Turn} (x : TurnIs body t s d k r) where
       turned : (u : Turn) → r ≡ u → prepend acc (turnAs body t d k after u) ≡ joinedFrom body t v s d₀ k₀
@@ -118,9 +127,11 @@ module _ {body t : List ℕ} {v : View} {s : ScopeRow} {d₀ k₀ : ℕ} {acc : 
       join-ended e = sym (turned Turn.Ended e) ∙ ap gives (append-nil acc)
 
       join-on : {e : ℕ} → r ≡ Turn.On e → JoinAt body t v s d₀ k₀ acc e (k + 1)
+      unfolding joinedFrom
       join-on {e} q = record { viewed = w .viewed; scope = w .scope; rest = turned (Turn.On e) q }
 
-      join-text : (l : List ℕ) → r ≡ Turn.Text → unescaped (valueAt body t k) ≡ bytes l → JoinAt body t v s d₀ k₀ (acc ++ l) d (k + 1)
+      join-text : (l : List ℕ) → r ≡ Turn.Text → value ≡ gives l → JoinAt body t v s d₀ k₀ (acc ++ l) d (k + 1)
+      unfolding joinedFrom
       join-text l e q =
           record {
             viewed = w .viewed;
@@ -128,9 +139,24 @@ module _ {body t : List ℕ} {v : View} {s : ScopeRow} {d₀ k₀ : ℕ} {acc : 
             rest = sym (prepend-more acc l (after (depth d))) ∙ rw q at (turned Turn.Text e);
           }
 
-      join-bad : {at : ℕ} → r ≡ Turn.Text → unescaped (valueAt body t k) ≡ bad at
-          → joinedFrom body t v s d₀ k₀ ≡ refuses Refusal.BadReference
+      join-bad : {why : Refusal} → r ≡ Turn.Text → value ≡ refuses why → joinedFrom body t v s d₀ k₀ ≡ refuses why
       join-bad e q = sym (rw q at (turned Turn.Text e))
+
+-- ---- what the length of a value tells
+refused-as : {a : Answer (List ℕ)} {why : Refusal} → refuses why ≡ lengthIn a → a ≡ refuses why
+refused-as {a = gives l} q = let z : _≡_ {A = ℕ} 0 1 = cc in absurd (omega arith)
+refused-as {a = refuses r} {why} q = let z : r ≡ why = cc in ap refuses z
+
+length-refused : {a : Answer (List ℕ)} {y : Copied} {why : Refusal} → LengthIs y a → y ≡ Copied.Refused why → a ≡ refuses why
+length-refused x z = refused-as (rw z at (x .same))
+
+length-gives : (from : ℕ) (o : Out) {y : Copied} {m : ℕ} → LengthIs y (unescapedFrom from o) → y ≡ Copied.Length m
+    → (l : List ℕ) × (o ≡ bytes l) × (length l ≡ m)
+length-gives from o {y} {m} x z = go o (rw z at (x .same))
+  where
+    go : (o : Out) → gives m ≡ lengthIn (unescapedFrom from o) → (l : List ℕ) × (o ≡ bytes l) × (length l ≡ m)
+    go (bytes l) q = let k : length l ≡ m = cc in (l, refl, k)
+    go (bad at) q = let z : _≡_ {A = ℕ} 0 1 = cc in absurd (omega arith)
 
 -- ---- the length
 pub record LengthAt (body t : List ℕ) (v : View) (s : ScopeRow) (d₀ k₀ d k size : ℕ) : Type 0 where
@@ -158,26 +184,24 @@ module _ {body t : List ℕ} {v : View} {s : ScopeRow} {d₀ k₀ d k size : ℕ
       pub length-on : {e : ℕ} → r ≡ Turn.On e → LengthAt body t v s d₀ k₀ e (k + 1) size
       length-on q = record { acc = w .acc; at = join-on (w .at) h x q; counted = w .counted; small = omega (arith, w .small) }
 
-      module _ (e : r ≡ Turn.Text) {y : Unescaped} (sized : y ≡ sizeOf (unescaped (valueAt body t k))) where
-        pub length-bad : y ≡ Unescaped.BadReference → LengthIs (Copied.Refused Refusal.BadReference) (joinedFrom body t v s d₀ k₀)
-        length-bad z = record { same = rw (join-bad (w .at) h x e (size-bad (unescaped (valueAt body t k)) sized z .1)) }
+      module _ (e : r ≡ Turn.Text) {y : Copied}
+          (sized : LengthIs y (unescapedFrom (getD t (k * 8 + 5) 0) (unescaped (valueAt body t k)))) where
+        pub length-bad : {why : Refusal} → y ≡ Copied.Refused why → LengthIs (Copied.Refused why) (joinedFrom body t v s d₀ k₀)
+        length-bad z = record { same = rw (join-bad (w .at) h x e (length-refused sized z)) }
 
-        pub length-never : y ≡ Unescaped.NoRoom → LengthIs (Copied.Refused Refusal.BadReference) (joinedFrom body t v s d₀ k₀)
-        length-never z = absurd (size-never (unescaped (valueAt body t k)) sized z)
-
-        module _ {m : ℕ} (z : y ≡ Unescaped.Length m) where
+        module _ {m : ℕ} (z : y ≡ Copied.Length m) where
           short : m ≤ 65536
           short =
-              let b = size-length (unescaped (valueAt body t k)) sized z in
+              let b = length-gives (getD t (k * 8 + 5) 0) (unescaped (valueAt body t k)) sized z in
               let l = cut-short body (getD t (k * 8 + 5) 0) (getD t (k * 8 + 6) 0) in
               omega (arith, b .2, unescaped-shorter (valueAt body t k) (b .0) (b .1), l, w .at .viewed .small)
 
           pub length-text : LengthAt body t v s d₀ k₀ d (k + 1) (size + m)
           length-text =
-              let b = size-length (unescaped (valueAt body t k)) sized z in
+              let b = length-gives (getD t (k * 8 + 5) 0) (unescaped (valueAt body t k)) sized z in
               record {
                 acc = w .acc ++ b .0;
-                at = join-text (w .at) h x (b .0) e (b .1);
+                at = join-text (w .at) h x (b .0) e (ap (unescapedFrom (getD t (k * 8 + 5) 0)) (b .1));
                 counted = omega (arith, w .counted, b .2, length-append (w .acc) (b .0));
                 small = omega (arith, w .small, short);
               }
@@ -194,7 +218,6 @@ pub ruleset length-laws = (
   length-ended,
   length-on,
   length-bad,
-  length-never,
   length-fits,
 )
 
@@ -224,7 +247,7 @@ module _ {body t : List ℕ} {v : View} {s : ScopeRow} {d₀ k₀ : ℕ} {old ou
 
   -- what is written so far is a front of the whole
   front : {acc : List ℕ} {d k : ℕ} → JoinAt body t v s d₀ k₀ acc d k → length acc ≤ length old
-  front {acc} {d} {k} j = go (joined (scopeAt body t s) (depth d) (toksFrom body t (v .count) k)) (j .rest ∙ w .room .is)
+  front {acc} {d} {k} j = go (joinedFrom body t v s d k) (j .rest ∙ w .room .is)
     where
       go : (a : Answer (List ℕ)) → prepend acc a ≡ gives (w .room .text) → length acc ≤ length old
       go (gives l) q =
@@ -253,10 +276,11 @@ module _ {body t : List ℕ} {v : View} {s : ScopeRow} {d₀ k₀ : ℕ} {old ou
           where
             good : (o : Out) → unescaped (valueAt body t k) ≡ o → o ≡ bytes (meaning o)
             good (bytes l) q = refl
-            good (bad at) q = never (sym (w .room .is) ∙ join-bad (w .at) h x e q)
+            good (bad at) q =
+                never {r = Refusal.BadReference (getD t (k * 8 + 5) 0 + at)} (sym (w .room .is) ∙ join-bad (w .at) h x e (rw q))
 
         next : JoinAt body t v s d₀ k₀ (w .acc ++ text) d (k + 1)
-        next = join-text (w .at) h x text e is-bytes
+        next = join-text (w .at) h x text e (rw is-bytes)
 
         pub fill-room : PutRoom out size (unescaped (valueAt body t k))
         fill-room = record { is = is-bytes; fits = omega (arith, w .counted, w .same, front next, length-append (w .acc) text) }

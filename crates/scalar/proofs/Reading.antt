@@ -7,20 +7,20 @@ use native.Mathlib.Omega.{arith}
 use borrow.Author.Needs.{needs}
 use lib.Dec.{leb}
 use lib.IntN.{ℤ}
-use lib.ListN.{length, getD, take, drop}
+use lib.ListN.{length, getD, take, drop, length-take}
 use Rattle.lists.specs.Tests.{pick}
 use Rattle.lists.specs.Bytes.{ascii, sameb}
 use Rattle.lists.proofs.Bytes.{same-is}
 use Rattle.lists.specs.Find.{NextAt}
 use Rattle.lists.specs.Overwrite.{overwritten}
 use Rattle.refusal.specs.declared.Refusal.{Refusal}
+use Rattle.refusal.specs.Numbers.{SmallPlace}
 use Rattle.refusal.specs.Answer.{Answer, gives, refuses, onward}
 use Rattle.reference.specs.Text.{Out, bytes, bad, answer, filled, unescaped, Unescape}
 use Rattle.reference.proofs.Result.{unescaped-shorter}
 use Rattle.reference.specs.declared.Unescaped.{Unescaped}
 use Rattle.unescape.specs.Loops.{sizeOf}
-use Rattle.document.specs.Text.{unescapedText, textOf}
-use Rattle.document.proofs.Laws.Short.{cut-short}
+use Rattle.document.specs.Text.{unescapedFrom, textOf}
 use Rattle.sheet.specs.declared.ShapeDepth.{ShapeDepth}
 use Rattle.sheet.specs.Settings.{isStrict}
 use Rattle.sheet.specs.Settings as sheet
@@ -32,19 +32,48 @@ use Rattle.decode.specs.declared.reader.Cursor.{Cursor}
 use Rattle.decode.specs.declared.reader.StartRow.{StartRow}
 use Rattle.decode.specs.declared.view.View.{View}
 use Rattle.decode.specs.declared.text.Text.{Text}
-use Rattle.decode.specs.Rows.{SpanAt, valueAt}
+use Rattle.decode.specs.Rows.{InTable, Readable, SpanAt, valueAt}
 use Rattle.decode.specs.Reader.{childAt}
-use Rattle.decode.specs.View.{failureAt, Viewed}
+use Rattle.decode.specs.View.{viewAt, Viewed}
 use Rattle.decode.specs.Text.{textAt, TextIn, TextIs}
 use Rattle.decode.proofs.Names.{value-span}
 use Rattle.opening.specs.declared.Opening.{Opening}
 use Rattle.opening.specs.Opening.{OpeningIs, openedAt}
 use Rattle.scalar.specs.declared.Copied.{Copied}
-use Rattle.scalar.specs.Answers.{CopyIs}
-use Rattle.scalar.specs.Read.{RowIn, RowsAs, RowsIn, TextRead, spoiltBy, rootsText, readText}
+use Rattle.scalar.specs.Answers.{lengthIn, LengthIs, CopyIs}
+use Rattle.scalar.specs.Read.{ShortSpan, RowIn, RowsAs, RowsIn, TextRead, spoiltBy, rootsText, readText}
 use Rattle.scalar.proofs.Texts.{string-nothing}
 use Rattle.scalar.proofs.Opened.{opened-laws, opened-why, opened-is}
-use Rattle.scalar.proofs.Unescaping.{size-length, size-bad, size-never, saw-length, saw-bad, saw-over, plain}
+use Rattle.scalar.proofs.Unescaping.{size-length, size-bad, size-never, saw-length, saw-bad, saw-over, bad-within, plain}
+
+-- ---- places: the value of a row, and what lies in it
+placed-in : (body t : List ℕ) (k : ℕ) → Readable body t → InTable t k → length body ≤ 65536
+    → ShortSpan (getD t (k * 8 + 5) 0) (length (valueAt body t k))
+placed-in body t k b i h =
+    let m = length-take (getD t (k * 8 + 6) 0) (drop (getD t (k * 8 + 5) 0) body) in
+    record { small = omega (arith, m, b .each k (i .row) .value) }
+
+placed-bad : (text : List ℕ) {from at : ℕ} → ShortSpan from (length text) → unescaped text ≡ bad at → SmallPlace from at
+placed-bad text p e = record { small = omega (arith, p .small, bad-within text e) }
+
+-- ---- the length of a row's value
+module _ (body t : List ℕ) (k : ℕ) {v : List ℕ} (p : v ≡ valueAt body t k) {y : Unescaped} (q : y ≡ sizeOf (unescaped v)) where
+  pub row-length : {n : ℕ} → y ≡ Unescaped.Length n
+      → LengthIs (Copied.Length n) (unescapedFrom (getD t (k * 8 + 5) 0) (unescaped (valueAt body t k)))
+  row-length e = let b = size-length (unescaped v) q e in record { same = rw (← p, b .1, b .2) }
+
+  module _ {from at : ℕ} (f : from ≡ getD t (k * 8 + 5) 0) (e : y ≡ Unescaped.BadReference at) where
+    pub row-place : Readable body t → InTable t k → length body ≤ 65536 → SmallPlace from at
+    row-place b i h = placed-bad v (rw (f, p) (placed-in body t k b i h)) (size-bad (unescaped v) q e)
+
+    pub row-bad : {why : Refusal} → why ≡ Refusal.BadReference (from + at)
+        → LengthIs (Copied.Refused why) (unescapedFrom (getD t (k * 8 + 5) 0) (unescaped (valueAt body t k)))
+    row-bad z = record { same = rw (← p, ← f, size-bad (unescaped v) q e, z) }
+
+  pub row-never : {c : Copied} {a : Answer (List ℕ)} → y ≡ Unescaped.NoRoom → LengthIs c a
+  row-never e = absurd (size-never (unescaped v) q e)
+
+pub ruleset row-laws = (needs, value-span, row-length, row-place, row-bad, row-never)
 
 -- ---- a text by its row, that can be read
 pub rows-in : {body t : List ℕ} {v : View} {r : Text} {a : Answer (List ℕ)} → Viewed body t v → TextIs body t r a → RowsIn body t r
@@ -62,8 +91,20 @@ module _ {body t : List ℕ} {r : Text} (w : RowsIn body t r) {k : ℕ} (e : r �
   pub row-span : SpanAt body t k 5
   row-span = value-span (here .readable) (here .row)
 
-  pub row-short : {v : List ℕ} → v ≡ valueAt body t k → length v ≤ 65536
-  row-short p = rw p (omega (arith, cut-short body (getD t (k * 8 + 5) 0) (getD t (k * 8 + 6) 0), here .small))
+  pub row-readable : Readable body t
+  row-readable = here .readable
+
+  pub row-in : InTable t k
+  row-in = here .row
+
+  pub row-bound : k * 8 + 8 ≤ length t
+  row-bound = here .row .row
+
+  pub row-small : length body ≤ 65536
+  row-small = here .small
+
+  pub row-placed : {from : ℕ} {v : List ℕ} → from ≡ getD t (k * 8 + 5) 0 → v ≡ valueAt body t k → ShortSpan from (length v)
+  row-placed f p = rw (f, p) (placed-in body t k (here .readable) (here .row) (here .small))
 
 -- ---- "9 after the rest"
 no-row : {body t : List ℕ} {a : Answer (List ℕ)} (f : Refusal) → refuses f ≡ a → TextRead body t (Text.Refused f) a
@@ -76,20 +117,24 @@ module _ (body t : List ℕ) (r : Text) where
   pub spoilt-refused : {f : Refusal} → r ≡ Text.Refused f → TextRead body t (Text.Refused f) (spoiltBy (textAt body t r))
   spoilt-refused {f} e = no-row f (rw e)
 
-  module _ {k : ℕ} (e : r ≡ Text.Row k) {v : List ℕ} (p : v ≡ valueAt body t k) {y : Unescaped} (q : y ≡ sizeOf (unescaped v)) where
-    spoilt-by : {o : Out} → unescaped v ≡ o → textAt body t r ≡ unescapedText o
-    spoilt-by z = rw (e, ← p, z)
+  module _ {k : ℕ} (e : r ≡ Text.Row k) {y : Copied}
+      (q : LengthIs y (unescapedFrom (getD t (k * 8 + 5) 0) (unescaped (valueAt body t k)))) where
+    pub spoilt-length : {m : ℕ} → y ≡ Copied.Length m → TextRead body t (Text.Refused Refusal.IllFormed) (spoiltBy (textAt body t r))
+    spoilt-length {m} h = no-row Refusal.IllFormed (rw e (go (textAt body t (Text.Row k)) (rw h at (q .same))))
+      where
+        go : (a : Answer (List ℕ)) → gives m ≡ lengthIn a → refuses Refusal.IllFormed ≡ spoiltBy a
+        go (gives l) z = refl
+        go (refuses f) z = let z : _≡_ {A = ℕ} 0 1 = cc in absurd (omega arith)
 
-    pub spoilt-length : {m : ℕ} → y ≡ Unescaped.Length m → TextRead body t (Text.Refused Refusal.IllFormed) (spoiltBy (textAt body t r))
-    spoilt-length h = no-row Refusal.IllFormed (rw (spoilt-by (size-length (unescaped v) q h .1)))
+    pub spoilt-bad : {why : Refusal} → y ≡ Copied.Refused why → TextRead body t (Text.Refused why) (spoiltBy (textAt body t r))
+    spoilt-bad {why} h = no-row why (rw e (go (textAt body t (Text.Row k)) (rw h at (q .same))))
+      where
+        go : (a : Answer (List ℕ)) → refuses why ≡ lengthIn a → refuses why ≡ spoiltBy a
+        go (gives l) z = let z : _≡_ {A = ℕ} 0 1 = cc in absurd (omega arith)
+        go (refuses f) z = let k : why ≡ f = cc in ap refuses k
 
-    pub spoilt-bad : y ≡ Unescaped.BadReference → TextRead body t (Text.Refused Refusal.BadReference) (spoiltBy (textAt body t r))
-    spoilt-bad h = no-row Refusal.BadReference (rw (spoilt-by (size-bad (unescaped v) q h .1)))
-
-    pub spoilt-never : y ≡ Unescaped.NoRoom → TextRead body t (Text.Refused Refusal.BadReference) (spoiltBy (textAt body t r))
-    spoilt-never h = absurd (size-never (unescaped v) q h)
-
-pub ruleset spoilt-laws = (needs, row-span, spoilt-empty, spoilt-refused, spoilt-length, spoilt-bad, spoilt-never)
+pub ruleset spoilt-laws =
+    (needs, row-readable, row-in, row-small, spoilt-empty, spoilt-refused, spoilt-length, spoilt-bad)
 
 module _ (body t : List ℕ) (r : Text) (ill : Bool) where
   pub rest-ill : {x : Text} → ill ≡ true → TextRead body t x (spoiltBy (textAt body t r))
@@ -107,7 +152,7 @@ pub ruleset rest-laws = (needs, rest-ill, rest-well)
 
 -- ---- the text of the root
 pub text-is : (body t : List ℕ) (v : View) (s : StartRow) (c : Cursor) {a b : Text}
-    → TextIs body t a (textOf (failureAt (v .failure)) (childAt body t (v .count) s c))
+    → TextIs body t a (textOf (viewAt t v) (childAt body t (v .count) s c))
     → TextRead body t b (onward (textAt body t a) (unlessIllFormed (v .«ill_formed»)))
     → TextRead body t b (rootsText (openedAt body t v s c))
 text-is body t v s c i z = record { same = rw (i .same) at (z .same); rows = z .rows }
@@ -125,27 +170,33 @@ module _ (strict : Bool) (body t : List ℕ) (final : ℕ) {r : Opening} (x : Op
 pub ruleset take-laws = (opened-laws, text-refused, text-found)
 
 -- ---- a value from a text: f reads the text once it is unescaped
-module _ {A : Type 0} (f : List ℕ → Answer A) {text : List ℕ} where
+module _ {A : Type 0} (f : List ℕ → Answer A) (from : ℕ) {text : List ℕ} where
   pub value-plain : {k : ℕ} {a : Answer A} → NextAt text 38 0 k → k ≡ length text → a ≡ f text
-      → a ≡ onward (unescapedText (unescaped text)) f
+      → a ≡ onward (unescapedFrom from (unescaped text)) f
   value-plain x e q = rw (plain x e) q
 
   module _ {old new : List ℕ} {r : Unescaped} (u : Unescape text old new r) where
     pub value-got : {n : ℕ} {a : Answer A} → r ≡ Unescaped.Length n → a ≡ f (take (n - 0) (drop 0 new))
-        → a ≡ onward (unescapedText (unescaped text)) f
+        → a ≡ onward (unescapedFrom from (unescaped text)) f
     value-got e q = rw (saw-length u e .0) q
 
-    pub value-bad : r ≡ Unescaped.BadReference → refuses Refusal.BadReference ≡ onward (unescapedText (unescaped text)) f
-    value-bad e = rw (saw-bad u e .1)
+    pub value-bad : {at : ℕ} {why : Refusal} → r ≡ Unescaped.BadReference at → why ≡ Refusal.BadReference (from + at)
+        → refuses why ≡ onward (unescapedFrom from (unescaped text)) f
+    value-bad e q = rw (saw-bad u e, q)
 
 pub got-low : {text old new : List ℕ} {r : Unescaped} → Unescape text old new r → {n : ℕ} → r ≡ Unescaped.Length n → n ≤ length new
 got-low u e = saw-length u e .1
 
+pub got-place : {text old new : List ℕ} {r : Unescaped} {from at : ℕ} → Unescape text old new r → r ≡ Unescaped.BadReference at
+    → ShortSpan from (length text)
+    → SmallPlace from at
+got-place {text} u e p = placed-bad text p (saw-bad u e)
+
 module _ {A : Type 0} (f : List ℕ → Answer A) (body t : List ℕ) (r : Text) where
-  pub value-row : {k : ℕ} {v : List ℕ} {a : Answer A} → r ≡ Text.Row k → v ≡ valueAt body t k
-      → a ≡ onward (unescapedText (unescaped v)) f
+  pub value-row : {k from : ℕ} {v : List ℕ} {a : Answer A} → r ≡ Text.Row k → from ≡ getD t (k * 8 + 5) 0 → v ≡ valueAt body t k
+      → a ≡ onward (unescapedFrom from (unescaped v)) f
       → a ≡ onward (textAt body t r) f
-  value-row e p x = rw e (rw p at x)
+  value-row e g p x = rw e (rw (g, p) at x)
 
   pub value-empty : {a : Answer A} → r ≡ Text.Empty → a ≡ f [] → a ≡ onward (textAt body t r) f
   value-empty e x = rw e x
@@ -154,10 +205,10 @@ module _ {A : Type 0} (f : List ℕ → Answer A) (body t : List ℕ) (r : Text)
   value-refused e = rw e
 
 -- ---- booleans: no text of more than 8 bytes is one
-pub boolean-over : {text old new : List ℕ} {r : Unescaped} → Unescape text old new r → length old ≡ 8 → r ≡ Unescaped.NoRoom
-    → refuses Refusal.NotBoolean ≡ onward (unescapedText (unescaped text)) booleanOf
+pub boolean-over : (from : ℕ) {text old new : List ℕ} {r : Unescaped} → Unescape text old new r → length old ≡ 8 → r ≡ Unescaped.NoRoom
+    → refuses Refusal.NotBoolean ≡ onward (unescapedFrom from (unescaped text)) booleanOf
 unfolding booleanOf
-boolean-over u h e =
+boolean-over from u h e =
     let o = saw-over u e in
     let a = not-long (o .0) (ascii "true") (omega (arith, o .2, h)) in
     let b = not-long (o .0) (ascii "false") (omega (arith, o .2, h)) in
@@ -174,69 +225,73 @@ pub boolean-none : refuses Refusal.NotBoolean ≡ booleanOf []
 unfolding booleanOf sameb
 boolean-none = refl
 
-pub ruleset boolean-in-laws = (needs, got-low, value-got, value-bad, boolean-over)
+pub ruleset boolean-in-laws = (needs, got-low, got-place, value-got, value-bad, boolean-over)
 
-pub ruleset boolean-at-laws = (needs, row-span, value-row, value-empty, value-refused, boolean-none)
+pub ruleset boolean-at-laws = (needs, row-span, row-bound, row-placed, value-row, value-empty, value-refused, boolean-none)
 
 -- ---- integers: a text that is unescaped is no longer
-pub integer-over : {text old new : List ℕ} {r : Unescaped} → Unescape text old new r → length old ≡ 65536 → length text ≤ 65536
+pub integer-over : {from : ℕ} {text old new : List ℕ} {r : Unescaped} → Unescape text old new r → length old ≡ 65536
+    → ShortSpan from (length text)
     → r ≡ Unescaped.NoRoom
-    → refuses Refusal.NotInteger ≡ onward (unescapedText (unescaped text)) integerOf
-integer-over {text} u h l e = let o = saw-over u e in absurd (omega (arith, o .2, h, unescaped-shorter text (o .0) (o .1)))
+    → refuses Refusal.NotInteger ≡ onward (unescapedFrom from (unescaped text)) integerOf
+integer-over {text = text} u h l e =
+    let o = saw-over u e in absurd (omega (arith, o .2, h, l .small, unescaped-shorter text (o .0) (o .1)))
 
 pub integer-none : refuses Refusal.NotInteger ≡ integerOf []
 unfolding integerOf
 integer-none = refl
 
-pub ruleset integer-replaced-laws = (needs, got-low, value-got, value-bad)
+pub ruleset integer-replaced-laws = (needs, got-low, got-place, value-got, value-bad)
 
 pub ruleset integer-in-laws = (needs, value-plain)
 
-pub ruleset integer-at-laws = (needs, row-span, row-short, value-row, value-empty, value-refused, integer-none)
+pub ruleset integer-at-laws = (needs, row-span, row-bound, row-placed, value-row, value-empty, value-refused, integer-none)
 
 -- ---- strings
-abbrev copiedOf : Unescaped → Copied
-copiedOf (Unescaped.Length n) = Copied.Length n
-copiedOf Unescaped.BadReference = Copied.Refused Refusal.BadReference
-copiedOf Unescaped.NoRoom = Copied.Refused Refusal.NoRoom
+abbrev copiedOf : ℕ → Unescaped → Copied
+copiedOf from (Unescaped.Length n) = Copied.Length n
+copiedOf from (Unescaped.BadReference at) = Copied.Refused (Refusal.BadReference (from + at))
+copiedOf from Unescaped.NoRoom = Copied.Refused Refusal.NoRoom
 
-module _ {text old new : List ℕ} {r : Unescaped} (u : Unescape text old new r) where
-  copied : CopyIs (onward (unescapedText (unescaped text)) (stringIn (length old))) old new (copiedOf r)
+module _ (from : ℕ) {text old new : List ℕ} {r : Unescaped} (u : Unescape text old new r) where
+  copied : CopyIs (onward (unescapedFrom from (unescaped text)) (stringIn (length old))) old new (copiedOf from r)
   unfolding answer filled stringIn
   copied = rw (u .number, u .buffer) (go (unescaped text))
     where
-      go : (o : Out) → CopyIs (onward (unescapedText o) (stringIn (length old))) old (filled o old) (copiedOf (answer o (length old)))
+      go : (o : Out)
+          → CopyIs (onward (unescapedFrom from o) (stringIn (length old))) old (filled o old) (copiedOf from (answer o (length old)))
       go (bad at) = record { number = refl; buffer = refl }
       go (bytes l) = fit (leb (length l) (length old))
         where
           fit : (t : Bool)
               → CopyIs (pick t (gives l) (refuses Refusal.NoRoom)) old (pick t (overwritten old l) old)
-              (copiedOf (pick t (Unescaped.Length (length l)) Unescaped.NoRoom))
+              (copiedOf from (pick t (Unescaped.Length (length l)) Unescaped.NoRoom))
           fit true = record { number = refl; buffer = refl }
           fit false = record { number = refl; buffer = refl }
 
-  string-as : (x : Unescaped) → r ≡ x → CopyIs (onward (unescapedText (unescaped text)) (stringIn (length old))) old new (copiedOf x)
+  string-as : (x : Unescaped) → r ≡ x
+      → CopyIs (onward (unescapedFrom from (unescaped text)) (stringIn (length old))) old new (copiedOf from x)
   string-as x e = rw e at copied
 
   pub string-length : {n : ℕ} → r ≡ Unescaped.Length n
-      → CopyIs (onward (unescapedText (unescaped text)) (stringIn (length old))) old new (Copied.Length n)
+      → CopyIs (onward (unescapedFrom from (unescaped text)) (stringIn (length old))) old new (Copied.Length n)
   string-length {n} e = string-as (Unescaped.Length n) e
 
-  pub string-bad : r ≡ Unescaped.BadReference
-      → CopyIs (onward (unescapedText (unescaped text)) (stringIn (length old))) old new (Copied.Refused Refusal.BadReference)
-  string-bad e = string-as Unescaped.BadReference e
+  pub string-bad : {at : ℕ} {why : Refusal} → r ≡ Unescaped.BadReference at → why ≡ Refusal.BadReference (from + at)
+      → CopyIs (onward (unescapedFrom from (unescaped text)) (stringIn (length old))) old new (Copied.Refused why)
+  string-bad {at} e q = rw q (string-as (Unescaped.BadReference at) e)
 
   pub string-over : r ≡ Unescaped.NoRoom
-      → CopyIs (onward (unescapedText (unescaped text)) (stringIn (length old))) old new (Copied.Refused Refusal.NoRoom)
+      → CopyIs (onward (unescapedFrom from (unescaped text)) (stringIn (length old))) old new (Copied.Refused Refusal.NoRoom)
   string-over e = string-as Unescaped.NoRoom e
 
-pub ruleset string-in-laws = (needs, string-length, string-bad, string-over)
+pub ruleset string-in-laws = (needs, got-place, string-length, string-bad, string-over)
 
 module _ (body t : List ℕ) (r : Text) {old : List ℕ} where
-  pub string-row : {k : ℕ} {v new : List ℕ} {c : Copied} → r ≡ Text.Row k → v ≡ valueAt body t k
-      → CopyIs (onward (unescapedText (unescaped v)) (stringIn (length old))) old new c
+  pub string-row : {k from : ℕ} {v new : List ℕ} {c : Copied} → r ≡ Text.Row k → from ≡ getD t (k * 8 + 5) 0 → v ≡ valueAt body t k
+      → CopyIs (onward (unescapedFrom from (unescaped v)) (stringIn (length old))) old new c
       → CopyIs (onward (textAt body t r) (stringIn (length old))) old new c
-  string-row e p x = rw e (rw p at x)
+  string-row e g p x = rw e (rw (g, p) at x)
 
   pub string-empty : r ≡ Text.Empty → CopyIs (onward (textAt body t r) (stringIn (length old))) old old (Copied.Length 0)
   string-empty e = rw e (string-nothing old)
@@ -245,7 +300,7 @@ module _ (body t : List ℕ) (r : Text) {old : List ℕ} where
       → CopyIs (onward (textAt body t r) (stringIn (length old))) old old (Copied.Refused f)
   string-refused e = record { number = rw e; buffer = rw e }
 
-pub ruleset string-at-laws = (needs, row-span, string-row, string-empty, string-refused)
+pub ruleset string-at-laws = (needs, row-span, row-bound, row-placed, string-row, string-empty, string-refused)
 
 -- ---- of a body
 module _ (body t : List ℕ) (final : ℕ) (s : sheet.Settings) (d : ShapeDepth) {strict : Bool} {r : Text} (e : strict ≡ isStrict s d)

@@ -31,6 +31,10 @@ abbrev pub lengthIn : Answer (List ℕ) → Answer ℕ
 lengthIn (gives l) = gives (length l)
 lengthIn (refuses r) = refuses r
 
+-- the promise of how many bytes a text comes to
+pub record LengthIs (r : Copied) (a : Answer (List ℕ)) : Type 0 where
+  pub same : copiedAs r ≡ lengthIn a
+
 -- what the buffer holds then: a refusal has written nothing
 abbrev pub bufferAfter : Answer (List ℕ) → List ℕ → List ℕ
 bufferAfter (gives l) old = overwritten old l

@@ -1,5 +1,5 @@
 -- The first text of a body, by its row.
-use Prim.Native.Nat.{ℕ, _≤_}
+use Prim.Native.Nat.{ℕ, _+_, _≤_}
 use mathlib.Core.Path.{_≡_}
 use mathlib.Core.Bool.{Bool, true}
 use mathlib.Core.List.{List}
@@ -27,6 +27,10 @@ RowsAs body t (Text.Refused r) = Unit {0}
 pub record RowsIn (body t : List ℕ) (r : Text) : Type 0 where
   pub are : RowsAs body t r
 
+-- n bytes from a place on, in a body, which is short
+pub record ShortSpan (from n : ℕ) : Type 0 where
+  pub small : from + n ≤ 65536
+
 -- the promise: the definition's text, which can be read
 pub record TextRead (body t : List ℕ) (r : Text) (is : Answer (List ℕ)) : Type 0 where
   pub same : textAt body t r ≡ is
@@ -38,7 +42,7 @@ spoiltBy a = onward a (unlessIllFormed true)
 
 -- ---- the text of a root, and of a body
 abbrev pub rootsText : Opened → Answer (List ℕ)
-rootsText o = onward (textOf (o .seen .failure) (o .root)) (unlessIllFormed (o .seen .illFormed))
+rootsText o = onward (textOf (o .seen) (o .root)) (unlessIllFormed (o .seen .illFormed))
 
 abbrev pub readText : Bool → List ℕ → List ℕ → ℕ → Answer (List ℕ)
 readText strict body t final = onward (opened strict (uploaded body t final)) rootsText

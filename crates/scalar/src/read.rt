@@ -2,18 +2,19 @@
 // unescaped into an array, of 8 bytes for a boolean, since no longer text is one; an integer may have any number of leading zeros, so that
 // its array is as long as the longest body, and a text without a reference is read where it stands.
 ghost use mathlib.Core.Path.{_≡_};
-ghost use Prim.Native.Nat.{_≤_};
-ghost use lib.ListN.{length};
+ghost use Prim.Native.Nat.{_+_, _*_, _≤_};
+ghost use lib.ListN.{getD, length};
 ghost use Rattle.refusal.specs.Answer.{onward};
 ghost use Rattle.reference.specs.Text.{unescaped};
-ghost use Rattle.document.specs.Text.{unescapedText};
+ghost use Rattle.document.specs.Text.{unescapedFrom};
+ghost use Rattle.decode.specs.Rows.{InTable, Readable, valueAt};
 ghost use Rattle.decode.specs.Text.{textAt};
 ghost use Rattle.readings.specs.Call.{uploaded};
 ghost use Rattle.readings.specs.Scalar.{booleanOf, booleanReading, integerOf, integerReading, stringIn, stringReading, unlessIllFormed};
 ghost use Rattle.codec.specs.Settings.{settingsOf};
 ghost use Rattle.opening.specs.Opening.{RootAt, openedAt};
-ghost use Rattle.scalar.specs.Answers.{CopyIs, booleanAs, integerAs};
-ghost use Rattle.scalar.specs.Read.{RowsIn, TextRead, readText, rootsText, spoiltBy};
+ghost use Rattle.scalar.specs.Answers.{CopyIs, LengthIs, booleanAs, integerAs};
+ghost use Rattle.scalar.specs.Read.{RowsIn, ShortSpan, TextRead, readText, rootsText, spoiltBy};
 use crate::Boolean;
 use crate::Copied;
 use crate::Integer;
@@ -30,8 +31,27 @@ use decode::view::View;
 use opening::Opening;
 use reference::Unescaped;
 use refusal::Refusal;
+use refusal::bad_at;
 use sheet::ShapeDepth;
+use table::field;
 use table::number::VALUE;
+
+// How many bytes the value of row k comes to, or where a reference is bad.
+pub fn row_length(body: &[u8], rows: &[u32], k: usize) -> Copied
+    requires { ⌜ Readable (now body) (now rows) ⌝ }
+    requires { ⌜ InTable (now rows) k ⌝ }
+    requires { ⌜ length (now body) ≤ 65536 ⌝ }
+    ensures { λ r. ⌜ LengthIs r
+        (unescapedFrom (getD (now (rows .entry)) (k * 8 + 5) 0) (unescaped (valueAt (now (body .entry)) (now (rows .entry)) k))) ⌝ }
+{
+    let from = field(rows, k, VALUE);
+    match unescape::measure(span(body, rows, k, VALUE)) {
+        Unescaped::Length(n) => Copied::Length(n),
+        Unescaped::BadReference { at } => Copied::Refused(bad_at(from, at)),
+        // `measure` never answers this: it has no room to run out of.
+        Unescaped::NoRoom => Copied::Refused(Refusal::NoRoom),
+    }
+}
 
 // A text of a body that is refused as ill-formed at its end: a bad reference in it was met before.
 fn spoilt(body: &[u8], rows: &[u32], text: Text) -> Text
@@ -39,11 +59,9 @@ fn spoilt(body: &[u8], rows: &[u32], text: Text) -> Text
     ensures { λ r. ⌜ TextRead (now (body .entry)) (now (rows .entry)) r (spoiltBy (textAt (now (body .entry)) (now (rows .entry)) text)) ⌝ }
 {
     match text {
-        Text::Row(k) => match unescape::measure(span(body, rows, k, VALUE)) {
-            Unescaped::Length(_) => Text::Refused(Refusal::IllFormed),
-            Unescaped::BadReference => Text::Refused(Refusal::BadReference),
-            // `measure` never answers this: it has no room to run out of.
-            Unescaped::NoRoom => Text::Refused(Refusal::BadReference),
+        Text::Row(k) => match row_length(body, rows, k) {
+            Copied::Length(_) => Text::Refused(Refusal::IllFormed),
+            Copied::Refused(why) => Text::Refused(why),
         },
         Text::Empty => Text::Refused(Refusal::IllFormed),
         Text::Refused(why) => Text::Refused(why),
@@ -68,9 +86,9 @@ fn text_at(body: &[u8], rows: &[u32], view: View, root: StartRow, at: Cursor) ->
     ensures { λ r. ⌜ TextRead (now (body .entry)) (now (rows .entry)) r
         (rootsText (openedAt (now (body .entry)) (now (rows .entry)) view root at)) ⌝ }
 {
-    let failure = view.failure;
-    let text = try_data(body, rows, view.count, failure, root, at);
-    after_rest(body, rows, text, view.ill_formed)
+    let ill_formed = view.ill_formed;
+    let text = try_data(body, rows, view, root, at);
+    after_rest(body, rows, text, ill_formed)
 }
 
 // The first text of the root of a body: 1, 4, and as above.
@@ -83,14 +101,15 @@ fn take_text(strict: bool, body: &[u8], rows: &[u32], end: u32) -> Text
     }
 }
 
-// A boolean from a text that is to be unescaped.
-fn boolean_in(text: &[u8]) -> Boolean
-    ensures { λ r. ⌜ booleanAs r ≡ onward (unescapedText (unescaped (now (text .entry)))) booleanOf ⌝ }
+// A boolean from a text that is to be unescaped and begins at `from` in the body.
+fn boolean_in(text: &[u8], from: usize) -> Boolean
+    requires { ⌜ ShortSpan from (length (now text)) ⌝ }
+    ensures { λ r. ⌜ booleanAs r ≡ onward (unescapedFrom from (unescaped (now (text .entry)))) booleanOf ⌝ }
 {
     let mut room = [0u8; 8];
     match unescape::unescape(text, &mut room) {
         Unescaped::Length(n) => boolean_of(&room[0..n]),
-        Unescaped::BadReference => Boolean::Refused(Refusal::BadReference),
+        Unescaped::BadReference { at } => Boolean::Refused(bad_at(from, at)),
         Unescaped::NoRoom => Boolean::Refused(Refusal::NotBoolean),
     }
 }
@@ -101,7 +120,7 @@ fn boolean_at(body: &[u8], rows: &[u32], text: Text) -> Boolean
     ensures { λ r. ⌜ booleanAs r ≡ onward (textAt (now (body .entry)) (now (rows .entry)) text) booleanOf ⌝ }
 {
     match text {
-        Text::Row(k) => boolean_in(span(body, rows, k, VALUE)),
+        Text::Row(k) => boolean_in(span(body, rows, k, VALUE), field(rows, k, VALUE)),
         Text::Empty => Boolean::Refused(Refusal::NotBoolean),
         Text::Refused(why) => Boolean::Refused(why),
     }
@@ -122,29 +141,29 @@ pub fn read_boolean(
     boolean_at(body, rows, text)
 }
 
-// An integer from a text with references.
-fn integer_replaced(text: &[u8]) -> Integer
-    requires { ⌜ length (now text) ≤ 65536 ⌝ }
-    ensures { λ r. ⌜ integerAs r ≡ onward (unescapedText (unescaped (now (text .entry)))) integerOf ⌝ }
+// An integer from a text with references that begins at `from` in the body.
+fn integer_replaced(text: &[u8], from: usize) -> Integer
+    requires { ⌜ ShortSpan from (length (now text)) ⌝ }
+    ensures { λ r. ⌜ integerAs r ≡ onward (unescapedFrom from (unescaped (now (text .entry)))) integerOf ⌝ }
 {
     let mut room = [0u8; 65536];
     match unescape::unescape(text, &mut room) {
         Unescaped::Length(n) => integer_of(&room[0..n]),
-        Unescaped::BadReference => Integer::Refused(Refusal::BadReference),
+        Unescaped::BadReference { at } => Integer::Refused(bad_at(from, at)),
         // There is room: a text is unescaped to no more bytes than it has.
         Unescaped::NoRoom => Integer::Refused(Refusal::NotInteger),
     }
 }
 
-// An integer from a text that is to be unescaped.
-fn integer_in(text: &[u8]) -> Integer
-    requires { ⌜ length (now text) ≤ 65536 ⌝ }
-    ensures { λ r. ⌜ integerAs r ≡ onward (unescapedText (unescaped (now (text .entry)))) integerOf ⌝ }
+// An integer from a text that is to be unescaped and begins at `from` in the body.
+fn integer_in(text: &[u8], from: usize) -> Integer
+    requires { ⌜ ShortSpan from (length (now text)) ⌝ }
+    ensures { λ r. ⌜ integerAs r ≡ onward (unescapedFrom from (unescaped (now (text .entry)))) integerOf ⌝ }
 {
     if slices::find(text, 0, b'&') == text.len() {
         return integer_of(text);
     }
-    integer_replaced(text)
+    integer_replaced(text, from)
 }
 
 // An integer from the first text of a body.
@@ -153,7 +172,7 @@ fn integer_at(body: &[u8], rows: &[u32], text: Text) -> Integer
     ensures { λ r. ⌜ integerAs r ≡ onward (textAt (now (body .entry)) (now (rows .entry)) text) integerOf ⌝ }
 {
     match text {
-        Text::Row(k) => integer_in(span(body, rows, k, VALUE)),
+        Text::Row(k) => integer_in(span(body, rows, k, VALUE), field(rows, k, VALUE)),
         Text::Empty => Integer::Refused(Refusal::NotInteger),
         Text::Refused(why) => Integer::Refused(why),
     }
@@ -174,14 +193,15 @@ pub fn read_integer(
     integer_at(body, rows, text)
 }
 
-// A string from a text that is to be unescaped, into a lent buffer.
-fn string_in(text: &[u8], out: &mut [u8]) -> Copied
-    ensures { λ r. ⌜ CopyIs (onward (unescapedText (unescaped (now (text .entry)))) (stringIn (length (now (out .entry)))))
+// A string from a text that is to be unescaped and begins at `from` in the body, into a lent buffer.
+fn string_in(text: &[u8], from: usize, out: &mut [u8]) -> Copied
+    requires { ⌜ ShortSpan from (length (now text)) ⌝ }
+    ensures { λ r. ⌜ CopyIs (onward (unescapedFrom from (unescaped (now (text .entry)))) (stringIn (length (now (out .entry)))))
         (now (out .entry)) (now (out .exit)) r ⌝ }
 {
     match unescape::unescape(text, out) {
         Unescaped::Length(n) => Copied::Length(n),
-        Unescaped::BadReference => Copied::Refused(Refusal::BadReference),
+        Unescaped::BadReference { at } => Copied::Refused(bad_at(from, at)),
         Unescaped::NoRoom => Copied::Refused(Refusal::NoRoom),
     }
 }
@@ -193,7 +213,7 @@ fn string_at(body: &[u8], rows: &[u32], text: Text, out: &mut [u8]) -> Copied
         (now (out .entry)) (now (out .exit)) r ⌝ }
 {
     match text {
-        Text::Row(k) => string_in(span(body, rows, k, VALUE), out),
+        Text::Row(k) => string_in(span(body, rows, k, VALUE), field(rows, k, VALUE), out),
         Text::Empty => Copied::Length(0),
         Text::Refused(why) => Copied::Refused(why),
     }

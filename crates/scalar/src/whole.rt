@@ -4,6 +4,7 @@ ghost use mathlib.Core.Path.{_≡_};
 ghost use lib.ListN.{length};
 ghost use Rattle.lists.specs.Overwrite.{Stored};
 ghost use Rattle.reference.specs.Text.{unescaped, meaning};
+ghost use Rattle.table.specs.Flat.{rowsFrom};
 ghost use Rattle.table.specs.Rules.{TableRules};
 ghost use Rattle.document.specs.Text.{wholeOf};
 ghost use Rattle.decode.specs.Rows.{InTable, Readable, valueAt};
@@ -11,11 +12,11 @@ ghost use Rattle.decode.specs.Reader.{HasRow, ScopeIn, childAt};
 ghost use Rattle.decode.specs.View.{Viewed};
 ghost use Rattle.readings.specs.Call.{uploaded};
 ghost use Rattle.readings.specs.Scalar.{wholeText};
-ghost use Rattle.unescape.specs.Loops.{sizeOf};
 ghost use Rattle.opening.specs.Opening.{RootAt};
-ghost use Rattle.scalar.specs.Answers.{CopyIs, bufferAfter};
-ghost use Rattle.scalar.specs.Whole.{JoinRoom, LengthIs, PutRoom, TurnIs, joinedFrom, rootText, textIn};
+ghost use Rattle.scalar.specs.Answers.{CopyIs, LengthIs, bufferAfter};
+ghost use Rattle.scalar.specs.Whole.{JoinRoom, PutRoom, TurnIs, joinedFrom, rootText, textIn};
 use crate::Copied;
+use crate::read::row_length;
 use decode::drain::drain;
 use decode::name::span;
 use decode::reader::Cursor;
@@ -62,15 +63,6 @@ fn turn_of(body: &[u8], rows: &[u32], scope: ScopeRow, d: usize, k: usize) -> Tu
     Turn::On(after)
 }
 
-// How many bytes the value of row k comes to, or that a reference is bad.
-fn row_length(body: &[u8], rows: &[u32], k: usize) -> Unescaped
-    requires { ⌜ Readable (now body) (now rows) ⌝ }
-    requires { ⌜ InTable (now rows) k ⌝ }
-    ensures { λ r. ⌜ r ≡ sizeOf (unescaped (valueAt (now (body .entry)) (now (rows .entry)) k)) ⌝ }
-{
-    unescape::measure(span(body, rows, k, VALUE))
-}
-
 // How many bytes the texts of a scope come to, from a place on, or why they are refused.
 fn joined_length(body: &[u8], rows: &[u32], view: View, scope: ScopeRow, at: Cursor) -> Copied
     requires { ⌜ Viewed (now body) (now rows) view ⌝ }
@@ -83,16 +75,12 @@ fn joined_length(body: &[u8], rows: &[u32], view: View, scope: ScopeRow, at: Cur
     while k < view.count {
         match turn_of(body, rows, scope, d, k) {
             Turn::Text => match row_length(body, rows, k) {
-                Unescaped::Length(m) => {
+                Copied::Length(m) => {
                     size += m;
                     k += 1;
                 }
-                Unescaped::BadReference => {
-                    return Copied::Refused(Refusal::BadReference);
-                }
-                // `measure` never answers this: it has no room to run out of.
-                Unescaped::NoRoom => {
-                    return Copied::Refused(Refusal::BadReference);
+                Copied::Refused(why) => {
+                    return Copied::Refused(why);
                 }
             },
             Turn::Element => {
@@ -118,7 +106,7 @@ fn put_text(out: &mut [u8], size: usize, text: &[u8]) -> usize
     match unescape::unescape(text, &mut out[size..]) {
         Unescaped::Length(n) => size + n,
         // There is room, and the references are right: both were tested as the texts were measured.
-        Unescaped::BadReference => size,
+        Unescaped::BadReference { at: _ } => size,
         Unescaped::NoRoom => size,
     }
 }
@@ -202,7 +190,8 @@ fn whole_of(
 ) -> Copied
     requires { ⌜ RootAt (now body) (now rows) view root at ⌝ }
     ensures { λ r. ⌜ CopyIs (textIn (length (now (out .entry)))
-        (wholeOf (childAt (now (body .entry)) (now (rows .entry)) (view .count) root at))) (now (out .entry)) (now (out .exit)) r ⌝ }
+        (wholeOf (rowsFrom (now (rows .entry)) 0 (view .count)) (childAt (now (body .entry)) (now (rows .entry)) (view .count) root at)))
+        (now (out .entry)) (now (out .exit)) r ⌝ }
 {
     if root.closed {
         return Copied::Length(0);

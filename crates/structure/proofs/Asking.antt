@@ -30,7 +30,7 @@ use Rattle.output.specs.Held.{Does}
 use Rattle.output.proofs.Sound.{text-adds}
 use Rattle.structure.specs.Steps.{Given, Space, Wrote, Begins, DoesWithin, memberIn, afterAttributes}
 use Rattle.structure.specs.Attributes.{attributeNamed, attributesPlan}
-use Rattle.structure.proofs.Loops.{given-index, viewed-space, value-short, value-ready}
+use Rattle.structure.proofs.Loops.{given-index, viewed-space, value-short, value-ready, value-placed, row-whole}
 use Rattle.structure.proofs.Loops.{idle-wrote, wrote-as, within-done, within-refused, OneByOne, one-start, one-ends, one-stops}
 use Rattle.structure.proofs.Loops.{one-goes}
 
@@ -52,16 +52,15 @@ module _ (body t : List ℕ) (n : ℕ) (s : StartRow) (member : ℕ) (name : Lis
       → Wrote (attributeNamed (startAt body t s .attributes) member name) e x w e x (Step.Done w)
   attribute-nothing e x w p = idle-wrote e x w (as-found (ap (valueIn body t) p))
 
-  pub attribute-row : {k : ℕ} {l e x e′ x′ : List ℕ} {w : Written} {got : Step} → r ≡ Attribute.Row k → Space body t w → l
-      ≡ valueAt body t k
-      → Does (text member l) e x w e′ x′ got
+  pub attribute-row : {k from : ℕ} {l e x e′ x′ : List ℕ} {w : Written} {got : Step} → r ≡ Attribute.Row k → Space body t w
+      → from ≡ getD t (k * 8 + 5) 0 → l ≡ valueAt body t k → Does (text member from l) e x w e′ x′ got
       → Wrote (attributeNamed (startAt body t s .attributes) member name) e x w e′ x′ got
   unfolding text
-  attribute-row {k} {l} p q f d =
+  attribute-row {k} {from} {l} p q g f d =
       let v : unescaped l ≡ bytes (meaning (unescaped (valueAt body t k))) = rw f ((rw p at (y .row)) .1) in
-      wrote-as (as-found (ap (valueIn body t) p) ∙ sym (rw v)) (value-short q k f) (text-adds member l) d
+      wrote-as (as-found (ap (valueIn body t) p) ∙ sym (rw v)) (value-short q k f) (text-adds member from l) d
 
-pub ruleset attribute-laws = (needs, value-span, value-ready, attribute-in, attribute-nothing, attribute-row)
+pub ruleset attribute-laws = (needs, value-span, value-ready, value-placed, row-whole, attribute-in, attribute-nothing, attribute-row)
 
 -- ---- of a member
 module _ {body t : List ℕ} {v : View} {sheet members : List ℕ} (s : StartRow) {i : ℕ} {m : Member} (g : Given body t v sheet members)

@@ -6,11 +6,12 @@ use mathlib.Core.List.{List, [], _∷_}
 use native.Mathlib.Omega.{arith}
 use mir.Val.{Fits}
 use mir.Syntax.{w32}
-use lib.ListN.{length, getD}
+use lib.ListN.{length, getD, drop, length-take}
 use Rattle.refusal.specs.declared.Refusal.{Refusal}
+use Rattle.refusal.specs.Numbers.{SmallPlace}
 use Rattle.document.proofs.Laws.Short.{cut-short}
 use Rattle.readings.specs.Plan.{Plan, end, perform, oneByOne}
-use Rattle.decode.specs.Rows.{valueAt}
+use Rattle.decode.specs.Rows.{InTable, valueAt}
 use Rattle.decode.specs.declared.view.View.{View}
 use Rattle.decode.specs.View.{Viewed}
 use Rattle.output.specs.declared.Written.{Written}
@@ -18,6 +19,7 @@ use Rattle.output.specs.declared.Step.{Step}
 use Rattle.output.specs.Held.{Does, Ready, Adds}
 use Rattle.output.proofs.Then.{Midway, midway-start, each-goes, each-stops, each-ends, does-as}
 use Rattle.output.proofs.Sound.{sound-next, used-next}
+use Rattle.output.proofs.Texts.{placed-short}
 use Rattle.structure.specs.Steps.{Given, Space, Wrote, Begins, DoesWithin}
 
 -- ---- what is given
@@ -35,6 +37,16 @@ module _ {body t : List ℕ} {w : Written} (q : Space body t w) where
 
   pub value-ready : (k : ℕ) {l : List ℕ} → l ≡ valueAt body t k → Ready w (length l)
   value-ready k e = record { small = omega (arith, q .small, value-short k e) }
+
+  -- each place in it, as a body offset, is a 32-bit number
+  pub value-placed : (k : ℕ) {from : ℕ} {l : List ℕ} → InTable t k → from ≡ getD t (k * 8 + 5) 0 → l ≡ valueAt body t k
+      → SmallPlace from (length l)
+  value-placed k i f e =
+      let m = length-take (getD t (k * 8 + 6) 0) (drop (getD t (k * 8 + 5) 0) body) in
+      rw (f, e) (placed-short (omega (arith, q .short, m, q .readable .each k (i .row) .value)))
+
+pub row-whole : {t : List ℕ} {k : ℕ} → InTable t k → k * 8 + 8 ≤ length t
+row-whole i = i .row
 
 -- ---- one plan
 pub adds-as : {f g : Plan} {n : ℕ} → f ≡ g → n ≤ 65536 → Adds g n → Adds f 65536

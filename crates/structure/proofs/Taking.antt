@@ -6,7 +6,7 @@ use mathlib.Core.List.{List, [], _∷_, append-nil}
 use mathlib.Core.Option.{Option, none}
 use native.Mathlib.Omega.{arith}
 use borrow.Author.Needs.{needs}
-use lib.ListN.{length}
+use lib.ListN.{length, getD}
 use lib.Seq.{sets, length-take-le}
 use Rattle.lists.specs.Tests.{pick}
 use Rattle.refusal.specs.declared.Refusal.{Refusal}
@@ -31,7 +31,7 @@ use Rattle.decode.specs.declared.text.Text.{Text}
 use Rattle.decode.specs.declared.piece.Piece.{Piece}
 use Rattle.decode.specs.Reader.{Outside, NextIs, childAt, DroppedIs}
 use Rattle.decode.specs.Text.{textAt, TextIn, TextIs}
-use Rattle.decode.specs.View.{failureAt, viewAt, Viewed}
+use Rattle.decode.specs.View.{viewAt, Viewed}
 use Rattle.decode.specs.Piece.{PieceIs}
 use Rattle.decode.proofs.Names.{value-span, local-span}
 use Rattle.decode.proofs.Places.{start-scope}
@@ -44,6 +44,7 @@ use Rattle.output.specs.declared.Step.{Step}
 use Rattle.output.specs.Plans.{piece, scalar, failed}
 use Rattle.output.specs.Held.{Does, Enters, Adds}
 use Rattle.output.proofs.Then.{does-as}
+use Rattle.output.proofs.Texts.{placed-short}
 use Rattle.output.proofs.Sound.{scalar-adds, piece-adds}
 use Rattle.output.proofs.Siblings.{KeepsSiblings, keeps-start, keeps-other, keeps-more, keeps-flat, keeps-has}
 use Rattle.opening.specs.Level.{left}
@@ -52,8 +53,8 @@ use Rattle.structure.specs.declared.children.Taken.{Taken}
 use Rattle.structure.specs.Steps.{Given, Space, Wrote, Begins, afterAttributes, afterChildren}
 use Rattle.structure.specs.Children.{scalarOf, memberOf, takenOf, stepOf, KeptRoom, flatIf, Keeping, passed, kept, TakenAs, AllTaken}
 use Rattle.structure.specs.Children.{ChildrenTaken}
-use Rattle.structure.proofs.Loops.{given-index, viewed-space, value-short, value-ready, adds-as, idle-does, idle-adds, wrote-as}
-use Rattle.structure.proofs.Loops.{OneByOne, one-start, one-ends, one-stops, one-goes}
+use Rattle.structure.proofs.Loops.{given-index, viewed-space, value-short, value-ready, value-placed, adds-as, idle-does, idle-adds}
+use Rattle.structure.proofs.Loops.{row-whole, wrote-as, OneByOne, one-start, one-ends, one-stops, one-goes}
 
 -- ---- a step, and how many are kept
 pub with-done : (s : Step) (count : ℕ) {w : Written} → s ≡ Step.Done w → Taken.Done w count ≡ takenOf s count
@@ -87,14 +88,14 @@ pub text-row : {t : List ℕ} {text : Text} {k : ℕ} → TextIn t text → text
 text-row i e = rw e at i
 
 module _ {body t : List ℕ} {w : Written} (q : Space body t w) (text : Text) (member : ℕ) {e x e′ x′ : List ℕ} {r : Step} where
-  pub put-row : {k : ℕ} {l : List ℕ} → text ≡ Text.Row k → l ≡ valueAt body t k → Does (scalar member l) e x w e′ x′ r
-      → Wrote (scalarOf member (textAt body t text)) e x w e′ x′ r
+  pub put-row : {k from : ℕ} {l : List ℕ} → text ≡ Text.Row k → from ≡ getD t (k * 8 + 5) 0 → l ≡ valueAt body t k
+      → Does (scalar member from l) e x w e′ x′ r → Wrote (scalarOf member (textAt body t text)) e x w e′ x′ r
   unfolding scalarOf scalar
-  put-row {k} {l} p f d = rw (p, ← f) (wrote-as refl (value-short q k f) (scalar-adds member l) d)
+  put-row {k} {from} {l} p g f d = rw (p, ← f, ← g) (wrote-as refl (value-short q k f) (scalar-adds member from l) d)
 
-  pub put-empty : text ≡ Text.Empty → Does (scalar member []) e x w e′ x′ r → Wrote (scalarOf member (textAt body t text)) e x w e′ x′ r
+  pub put-empty : text ≡ Text.Empty → Does (scalar member 0 []) e x w e′ x′ r → Wrote (scalarOf member (textAt body t text)) e x w e′ x′ r
   unfolding scalarOf scalar unescaped decode
-  put-empty p d = rw p (wrote-as refl (omega arith) (scalar-adds member []) d)
+  put-empty p d = rw p (wrote-as refl (omega arith) (scalar-adds member 0 []) d)
 
 pub put-refused : (body t : List ℕ) (text : Text) (member : ℕ) {e e′ : List ℕ} (x : List ℕ) {w : Written} {r : Step} {why : Refusal} → text
     ≡ Text.Refused why
@@ -102,7 +103,7 @@ pub put-refused : (body t : List ℕ) (text : Text) (member : ℕ) {e e′ : Lis
 unfolding scalarOf failed
 put-refused body t text member x {why = why} p d = rw p (wrote-as refl (omega arith) (failed-adds member why) (d .is x))
 
-pub ruleset put-laws = (needs, value-span, value-ready, text-row, put-row, put-empty, put-refused)
+pub ruleset put-laws = (needs, value-span, value-ready, value-placed, placed-short, text-row, row-whole, put-row, put-empty, put-refused)
 
 pub scalar-read : {body t : List ℕ} {text : Text} {a : Answer (List ℕ)} (member : ℕ) {e x e′ x′ : List ℕ} {w : Written} {r : Step}
     → TextIs body t text a
@@ -163,7 +164,7 @@ module _ (body t : List ℕ) (v : View) (s : StartRow) (c : Cursor) (index : ℕ
         (piece-adds index (p .start) (p .len)) (d .is x)))
 
     pub member-text : m .aggregate ≡ false
-        → Wrote (scalarOf index (textOf (failureAt (v .failure)) (childAt body t (v .count) s c))) e x w e′ x′ step
+        → Wrote (scalarOf index (textOf (viewAt t v) (childAt body t (v .count) s c))) e x w e′ x′ step
         → TakenAs body t v s c (memberOf body (viewAt t v) (childAt body t (v .count) s c) index (m .aggregate) (m .flattened))
         (flatIf (m .aggregate) (m .flattened) index)
         e x w l count e′ x′ l r

@@ -36,7 +36,7 @@ scalarOf index a = scalarPlan index a
 unfoldable pub memberOf : List ℕ → doc.View → Child → ℕ → Bool → Bool → Plan
 memberOf body v c index aggregate flattened =
     let piece = one (pieceEntry index (pieceOf body v c)) [] in
-    let text = scalarPlan index (textOf (v .failure) c) in
+    let text = scalarPlan index (textOf v c) in
     pick aggregate (pick flattened end piece) text
 
 -- ---- what is answered: a step, and how many are kept

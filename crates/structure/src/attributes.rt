@@ -15,6 +15,7 @@ use decode::reader::attr;
 use decode::view::View;
 use output::Step;
 use output::Written;
+use table::field;
 use table::number::VALUE;
 
 // Writes the attribute of a root that a name asks for, if there is one.
@@ -36,13 +37,11 @@ fn read_attribute(
         (now (entries .entry)) (now (texts .entry)) w (now (entries .exit)) (now (texts .exit)) r ⌝ }
 {
     match attr(body, rows, n, root, name) {
-        Attribute::Row(k) => output::write_text(
-            span(body, rows, k, VALUE),
-            member,
-            entries,
-            texts,
-            w,
-        ),
+        Attribute::Row(k) => {
+            let from = field(rows, k, VALUE);
+            let value = span(body, rows, k, VALUE);
+            output::write_text(value, from, member, entries, texts, w)
+        }
         Attribute::Nothing => Step::Done(w),
     }
 }

@@ -10,7 +10,7 @@ ghost use Rattle.decode.specs.Rows.{InTable, Readable, nameAt};
 ghost use Rattle.sheet.specs.Names.{resolve};
 ghost use Rattle.readings.specs.Structure.{childPlan, flatMember};
 ghost use Rattle.decode.specs.Text.{TextIn, textAt};
-ghost use Rattle.decode.specs.View.{Viewed, failureAt, viewAt};
+ghost use Rattle.decode.specs.View.{Viewed, viewAt};
 ghost use Rattle.codec.specs.Structure.{saidBy, MembersSaid, Resolved};
 ghost use Rattle.opening.specs.Level.{left};
 ghost use Rattle.structure.specs.Steps.{Given, Space, Wrote, Begins, afterAttributes};
@@ -30,6 +30,7 @@ use decode::view::View;
 use output::Step;
 use output::Written;
 use refusal::Refusal;
+use table::field;
 use table::number::LOCAL;
 use table::number::VALUE;
 
@@ -49,7 +50,7 @@ fn with_count(step: Step, count: usize) -> Taken
     }
 }
 
-// Writes what a first text came to, for a member: the text, or that it failed.
+// Writes what a first text came to, for a member: the text, or that it failed, with the place of a failing `&` in the body.
 fn put_text(
     body: &[u8],
     rows: &[u32],
@@ -65,8 +66,12 @@ fn put_text(
         (now (entries .entry)) (now (texts .entry)) w (now (entries .exit)) (now (texts .exit)) r ⌝ }
 {
     match text {
-        Text::Row(k) => output::write_scalar(span(body, rows, k, VALUE), member, entries, texts, w),
-        Text::Empty => output::write_scalar(b"", member, entries, texts, w),
+        Text::Row(k) => {
+            let from = field(rows, k, VALUE);
+            let value = span(body, rows, k, VALUE);
+            output::write_scalar(value, from, member, entries, texts, w)
+        }
+        Text::Empty => output::write_scalar(b"", 0, member, entries, texts, w),
         Text::Refused(why) => output::write_failed(entries, w, member, why),
     }
 }
@@ -86,12 +91,11 @@ fn read_scalar(
     requires { ⌜ Viewed (now body) (now rows) view ⌝ }
     requires { ⌜ StartIn (now body) (now rows) (view .count) start ⌝ }
     requires { ⌜ Space (now body) (now rows) w ⌝ }
-    ensures { λ r. ⌜ Wrote (scalarOf member (textOf (failureAt (view .failure))
+    ensures { λ r. ⌜ Wrote (scalarOf member (textOf (viewAt (now (rows .entry)) view)
         (childAt (now (body .entry)) (now (rows .entry)) (view .count) start at)))
         (now (entries .entry)) (now (texts .entry)) w (now (entries .exit)) (now (texts .exit)) r ⌝ }
 {
-    let failure = view.failure;
-    let text = decode::text::try_data(body, rows, view.count, failure, start, at);
+    let text = decode::text::try_data(body, rows, view, start, at);
     put_text(body, rows, text, member, entries, texts, w)
 }
 

@@ -1,6 +1,6 @@
 -- Laws of writing what a text comes to: that the bytes stay within the room, what each store leaves, and the answer.
 use Prim.Native.Nat.{ℕ, _+_, _≤_, _<_}
-use mathlib.Core.Path.{_≡_, refl, sym, _∙_, subst}
+use mathlib.Core.Path.{_≡_, refl, sym, _∙_, ap, subst}
 use mathlib.Core.Bool.{Bool, true, false}
 use mathlib.Core.List.{List, [], _++_}
 use native.Mathlib.Nat.{zero-add}
@@ -21,6 +21,7 @@ use Rattle.reference.specs.Text.{reference, Out, before, decode, answer, filled
 use Rattle.reference.specs.Text.Out.{bytes, bad}
 use Rattle.reference.proofs.Result.{plain-unescapes}
 use Rattle.reference.proofs.Taken.{taken}
+use Rattle.reference.proofs.Place.{bad-is, fails-within}
 use Rattle.reference.proofs.Walk.{DecodeAt, decode-start, decode-plain, decode-end, decode-bad, decode-ref}
 use Rattle.unescape.specs.Loops.{sizeOf}
 use Rattle.unescape.proofs.Loops.{seek-laws, next-fits, next-less, run-less}
@@ -122,10 +123,10 @@ unfolding sizeOf
 length-is (bytes l) {r} {n} q e = let k : length l ≡ n = cc in (l, refl, k)
 length-is (bad at) {r} {n} q e = let z : _≡_ {A = ℕ} 0 1 = cc in absurd (omega arith)
 
-bad-is : (o : Out) {r : Unescaped} → r ≡ sizeOf o → r ≡ Unescaped.BadReference → (at : ℕ) × (o ≡ bad at)
+place-is : (o : Out) {r : Unescaped} {k : ℕ} → r ≡ sizeOf o → r ≡ Unescaped.BadReference k → o ≡ bad k
 unfolding sizeOf
-bad-is (bytes l) q e = let z : _≡_ {A = ℕ} 0 1 = cc in absurd (omega arith)
-bad-is (bad at) q e = (at, refl)
+place-is (bytes l) q e = let z : _≡_ {A = ℕ} 0 1 = cc in absurd (omega arith)
+place-is (bad at) {r} {k} q e = let z : at ≡ k = cc in ap bad z
 
 never : (o : Out) {r : Unescaped} → r ≡ sizeOf o → r ≡ Unescaped.NoRoom → ⊥
 unfolding sizeOf
@@ -149,11 +150,16 @@ module _ (t : List ℕ) {r : Unescaped} (q : r ≡ sizeOf (unescaped t)) where
       let x = length-is (unescaped t) q e in
       record { number = rw (x .1, x .2, lt-leb n (length old) h); buffer = rw (x .1, x .2, lt-leb n (length old) h) }
 
-  pub measured-bad : {old : List ℕ} → r ≡ Unescaped.BadReference → Unescape t old old Unescaped.BadReference
+  pub measured-bad : {k : ℕ} {old : List ℕ} → r ≡ Unescaped.BadReference k → Unescape t old old (Unescaped.BadReference k)
   unfolding answer filled
-  measured-bad e = let x = bad-is (unescaped t) q e in record { number = rw (x .1); buffer = rw (x .1) }
+  measured-bad e = let x = place-is (unescaped t) q e in record { number = rw x; buffer = rw x }
 
-  pub measured-never : {old : List ℕ} → r ≡ Unescaped.NoRoom → Unescape t old old Unescaped.BadReference
+  -- the place lies in the text
+  pub measured-within : {k : ℕ} → r ≡ Unescaped.BadReference k → k < length t
+  unfolding unescaped
+  measured-within e = fails-within false t (bad-is false t _ .0 (place-is (unescaped t) q e))
+
+  pub measured-never : {old : List ℕ} → r ≡ Unescaped.NoRoom → Unescape t old old Unescaped.NoRoom
   measured-never e = absurd (never (unescaped t) q e)
 
 pub ruleset answer-laws = (needs, measured-room, measured-length, measured-none, measured-bad, measured-never)

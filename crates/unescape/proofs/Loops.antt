@@ -15,8 +15,7 @@ use Rattle.lists.specs.Parts.{part}
 use Rattle.lists.specs.Find.{Clear, NextAt}
 use Rattle.utf8.specs.Encode.{encode, EncodedLen}
 use Rattle.reference.specs.Text.{reference, references, verdict, validated, unescaped}
-use Rattle.reference.proofs.Taken.{taken}
-use Rattle.reference.proofs.Grammar.{reference-no-amp}
+use Rattle.reference.proofs.Taken.{taken, reference-no-amp}
 use Rattle.reference.proofs.Walk.{DecodeAt, decode-start, decode-plain, decode-end, decode-bad, decode-ref}
 use Rattle.reference.specs.declared.Reference.{Reference}
 use Rattle.reference.specs.declared.Validated.{Validated}
@@ -103,7 +102,7 @@ module _ {t : List ℕ} {i : ℕ} (v : ValidAt t i) where
   valid-end h = rw (decode-end (v .at) h)
 
   module _ {r : Reference} (h : i < length t) (amp : getD t i 0 ≡ 38) (q : r ≡ reference true (drop (i + 1) t)) where
-    pub valid-bad : r ≡ Reference.Bad → Validated.BadReference ≡ validated t
+    pub valid-bad : r ≡ Reference.Bad → Validated.BadReference i ≡ validated t
     unfolding validated verdict references
     valid-bad e = rw (decode-bad (v .at) h amp q e)
 
@@ -140,7 +139,7 @@ module _ {t : List ℕ} {n i : ℕ} (m : MeasureAt t n i) where
   measure-end h = rw (decode-end (m .at) h, ← m .size)
 
   module _ {r : Reference} (h : i < length t) (amp : getD t i 0 ≡ 38) (q : r ≡ reference false (drop (i + 1) t)) where
-    pub measure-bad : r ≡ Reference.Bad → Unescaped.BadReference ≡ sizeOf (unescaped t)
+    pub measure-bad : r ≡ Reference.Bad → Unescaped.BadReference i ≡ sizeOf (unescaped t)
     unfolding unescaped sizeOf
     measure-bad e = rw (decode-bad (m .at) h amp q e)
 

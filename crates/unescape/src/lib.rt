@@ -312,8 +312,8 @@ fn reference_from(strict: bool, text: &[u8], from: usize) -> Reference
     named_at(text, from)
 }
 
-// Whether each reference of a text is right. The next `&` is looked for from right after the last one, so that the search waits for no
-// reference to be read.
+// Whether each reference of a text is right, or the place of the first `&` that begins none. The next `&` is looked for from right after
+// the last one, so that the search waits for no reference to be read.
 pub fn validate_references(text: &[u8]) -> Validated
     ensures { λ r. ⌜ r ≡ validated (now (text .entry)) ⌝ }
 {
@@ -328,7 +328,7 @@ pub fn validate_references(text: &[u8]) -> Validated
                     i = from + len;
                 }
                 Reference::Bad => {
-                    return Validated::BadReference;
+                    return Validated::BadReference { at: i };
                 }
             }
         } else {
@@ -338,7 +338,7 @@ pub fn validate_references(text: &[u8]) -> Validated
     Validated::Valid
 }
 
-// How many bytes a text comes to, or that a reference is bad.
+// How many bytes a text comes to, or the place of the first `&` that begins no reference.
 pub fn measure(text: &[u8]) -> Unescaped
     ensures { λ r. ⌜ r ≡ sizeOf (unescaped (now (text .entry))) ⌝ }
 {
@@ -355,7 +355,7 @@ pub fn measure(text: &[u8]) -> Unescaped
                     i = from + len;
                 }
                 Reference::Bad => {
-                    return Unescaped::BadReference;
+                    return Unescaped::BadReference { at: i };
                 }
             }
         } else {
@@ -420,9 +420,9 @@ fn replace(text: &[u8], out: &mut [u8]) -> Unescaped
                 Unescaped::NoRoom
             }
         }
-        Unescaped::BadReference => Unescaped::BadReference,
+        Unescaped::BadReference { at } => Unescaped::BadReference { at },
         // `measure` never answers this: it has no room to run out of.
-        Unescaped::NoRoom => Unescaped::BadReference,
+        Unescaped::NoRoom => Unescaped::NoRoom,
     }
 }
 

@@ -134,7 +134,7 @@ toks-drop body zero rows = refl
 toks-drop body (suc k) [] = refl
 toks-drop body (suc k) (r ∷ rows) = toks-drop body k rows
 
-toks-take : (body : List ℕ) (c : ℕ) (rows : List Row) → toksOf body (take c rows) ≡ take c (toksOf body rows)
+pub toks-take : (body : List ℕ) (c : ℕ) (rows : List Row) → toksOf body (take c rows) ≡ take c (toksOf body rows)
 toks-take body zero rows = refl
 toks-take body (suc c) [] = refl
 toks-take body (suc c) (r ∷ rows) = rw (toks-take body c rows)

@@ -76,7 +76,7 @@ module _ (b : List Tok) (k : ℕ) where
       none : (c : Cause) → Fault b (attr m v) c → ⊥
       none c (repeated-attribute i) = not-member m (attributes [] b) p i
       none c (bad-attribute f r) = not-both q r
-  attr-step m v false Validated.BadReference p q = stops (bad-attribute (not-member m (attributes [] b) p) q)
+  attr-step m v false (Validated.BadReference at) p q = stops (bad-attribute (not-member m (attributes [] b) p) q)
 
   text-step : (v : List ℕ) (y : Validated) → validated v ≡ y
       → Stepped b (matter (text v)) k (withValue y k (going (opens [] b) (attributes [] b)))
@@ -84,7 +84,7 @@ module _ (b : List Tok) (k : ℕ) where
     where
       none : (c : Cause) → Fault b (matter (text v)) c → ⊥
       none c (bad-text r) = not-both q r
-  text-step v Validated.BadReference q = stops (bad-text q)
+  text-step v (Validated.BadReference at) q = stops (bad-text q)
 
   close-step : (m : Name) (s : List Name) → opens [] b ≡ s → Stepped b (close m) k (closed m s (attributes [] b) k)
   close-step m [] e = stops (mismatched-end (λ s p. cons≢nil (sym p ∙ e)))

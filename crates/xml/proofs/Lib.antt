@@ -1,6 +1,7 @@
 pub mod Tests
 pub mod Fault
 pub mod First
+pub mod Place
 pub mod Means
 pub mod Order
 pub mod Pass

@@ -46,17 +46,17 @@ module _ {toks : List Tok} (h : Faultless toks) where
     where
       go : (y : Validated) (x : Bool) → validated v ≡ y → hasName m (attributes [] a) ≡ x → validated v ≡ Validated.Valid
       go Validated.Valid x p q = p
-      go Validated.BadReference true p q =
+      go (Validated.BadReference at) true p q =
           absurd (h .none a (attr m v) b Cause.RepeatedAttribute e (repeated-attribute (seen-member m (attributes [] a) q)))
-      go Validated.BadReference false p q =
+      go (Validated.BadReference at) false p q =
           absurd (h .none a (attr m v) b Cause.BadReference e (bad-attribute (not-member m (attributes [] a) q) p))
 
-  text-value : (a : List Tok) (v : List ℕ) (b : List Tok) → toks ≡ a ++ (matter (text v) ∷ b) → validated v ≡ Validated.Valid
+  pub text-value : (a : List Tok) (v : List ℕ) (b : List Tok) → toks ≡ a ++ (matter (text v) ∷ b) → validated v ≡ Validated.Valid
   text-value a v b e = go (validated v) refl
     where
       go : (y : Validated) → validated v ≡ y → validated v ≡ Validated.Valid
       go Validated.Valid p = p
-      go Validated.BadReference p = absurd (h .none a (matter (text v)) b Cause.BadReference e (bad-text p))
+      go (Validated.BadReference at) p = absurd (h .none a (matter (text v)) b Cause.BadReference e (bad-text p))
 
   faultless-well-formed : opens [] toks ≡ [] → WellFormed toks
   faultless-well-formed n =

@@ -166,7 +166,7 @@ module _ (k : ℕ) (l : List Tok)
   attribute-back n s a m v true y p q h e = failed-ends (suc k) k Cause.RepeatedAttribute l e
   attribute-back n s a m v false Validated.Valid p q h e =
       more-attribute (not-member m a p) (validate-sound v q) (rest (tag n s) (m ∷ a) h e)
-  attribute-back n s a m v false Validated.BadReference p q h e = failed-ends (suc k) k Cause.BadReference l e
+  attribute-back n s a m v false (Validated.BadReference at) p q h e = failed-ends (suc k) k Cause.BadReference l e
 
   tag-back : (n : Name) (s a : List Name) (t : Tok) → ruled (inTag (length s)) (t ∷ l) ≡ true → Ends (walk (suc k) (step k (n ∷ s) a t) l)
       → InTag n s a (t ∷ l)
@@ -184,7 +184,7 @@ module _ (k : ℕ) (l : List Tok)
       → Ends (walk (suc k) (withValue y k (going (n ∷ s) a)) l) → Closes (n ∷ s) (matter b ∷ l)
   matter-back n s a b Validated.Valid q h e =
       let c : Closes (n ∷ s) l = rest (content n s) a h e in (c .0, between-tags (validate-sound (referencesIn b) q) (c .1), c .2)
-  matter-back n s a b Validated.BadReference q h e = failed-ends (suc k) k Cause.BadReference l e
+  matter-back n s a b (Validated.BadReference at) q h e = failed-ends (suc k) k Cause.BadReference l e
 
   close-back : (n : Name) (s a : List Name) (m : Name) (x : Bool) → sameName m n ≡ x → ruled (back (length s)) l ≡ true
       → Ends (walk (suc k) (pick x (going s a) (failed k Cause.MismatchedEnd)) l) → Closes (n ∷ s) (close m ∷ l)

@@ -62,5 +62,5 @@ pub not-named : (m n : Name) → sameName m n ≡ false → m ≡ n → ⊥
 not-named m n e q = false-true (sym e ∙ (rw q (name-same n)))
 
 -- a value is not both
-pub not-both {ℓ} : {A : Type ℓ} {x : Validated} → x ≡ Validated.Valid → x ≡ Validated.BadReference → A
+pub not-both {ℓ} : {A : Type ℓ} {x : Validated} {at : ℕ} → x ≡ Validated.Valid → x ≡ Validated.BadReference at → A
 not-both p q = let z : _≡_ {A = ℕ} 0 1 = cc in absurd (omega arith)

@@ -1,14 +1,15 @@
 -- The strict drain (01, "Drain"): the rules, and then a walk over the tokens that keeps the names of the open elements and the attribute
 -- names of the last start tag.
-use Prim.Native.Nat.{ℕ, zero, suc}
+use Prim.Native.Nat.{ℕ, zero, suc, _+_}
 use mathlib.Core.Bool.{Bool, true, false}
 use mathlib.Core.List.{List, [], _∷_}
 use lib.ListN.{length}
 use Rattle.lists.specs.Tests.{pick}
 use Rattle.lists.specs.Bytes.{sameb}
 use Rattle.reference.specs.Text.{validated}
+use Rattle.reference.specs.Place.{failingAt}
 use Rattle.reference.specs.declared.Validated.{Validated}
-use Rattle.table.specs.Row.{Name, Tok, start, attr, gt, close, slash, matter, referencesIn, bad, rowsOf, toksOf}
+use Rattle.table.specs.Row.{Row, Name, Tok, start, attr, gt, close, slash, matter, referencesIn, bad, valueOf, rowsOf, toksOf}
 use Rattle.table.specs.Test.{decTable}
 use Rattle.xml.specs.declared.Cause.{Cause}
 use Rattle.xml.specs.declared.Drained.{Drained}
@@ -30,7 +31,7 @@ pub data State : Type 0 where
 -- an attribute's or a text's value, in row k
 abbrev pub withValue : Validated → ℕ → State → State
 withValue Validated.Valid k st = st
-withValue Validated.BadReference k st = failed k Cause.BadReference
+withValue (Validated.BadReference at) k st = failed k Cause.BadReference
 
 -- "repeated attribute, reference (tested after repetition)"
 abbrev pub withAttribute : Bool → ℕ → State → State
@@ -81,3 +82,26 @@ drainedBy (no broken) l = Drained.Table
 unfoldable pub drained : List ℕ → List ℕ → ℕ → Drained
 unfolding decTable
 drained body table final = drainedBy (decTable body table final) (toksOf body (rowsOf table))
+
+-- ---- the place of the drain's cause (change request 1: "Every reading above that answers 7 passes it on as a body offset; so do the
+-- drain's cause ..")
+-- the place of the failing `&` in row k, an offset in the body: the start of the row's value, and where validating that value fails
+unfoldable pub referencePlace : List ℕ → List Row → ℕ → ℕ
+referencePlace body [] k = 0
+referencePlace body (r ∷ rest) zero = r .valueStart + failingAt (validated (valueOf body r))
+referencePlace body (r ∷ rest) (suc k) = referencePlace body rest k
+
+-- of a cause that the drain answers with row k: only a reference has a place, the others have 0
+abbrev pub causePlace : List ℕ → List Row → ℕ → Cause → ℕ
+causePlace body rows k Cause.TokenError = 0
+causePlace body rows k Cause.MismatchedEnd = 0
+causePlace body rows k Cause.UnclosedElement = 0
+causePlace body rows k Cause.RepeatedAttribute = 0
+causePlace body rows k Cause.BadReference = referencePlace body rows k
+
+-- of what the drain answers
+unfoldable pub drainPlace : List ℕ → List Row → Drained → ℕ
+unfolding referencePlace
+drainPlace body rows Drained.Passes = 0
+drainPlace body rows Drained.Table = 0
+drainPlace body rows (Drained.IllFormed k cause) = causePlace body rows k cause

@@ -57,9 +57,9 @@ pub data Fault (before : List Tok) : Tok → Cause → Type 0 where
   token-error : Fault before bad Cause.TokenError
   mismatched-end : {m : Name} → ((s : List Name) → opens [] before ≡ m ∷ s → ⊥) → Fault before (close m) Cause.MismatchedEnd
   repeated-attribute : {m : Name} {v : List ℕ} → List·Memᴰ m (attributes [] before) → Fault before (attr m v) Cause.RepeatedAttribute
-  bad-attribute : {m : Name} {v : List ℕ} → (List·Memᴰ m (attributes [] before) → ⊥) → validated v ≡ Validated.BadReference
+  bad-attribute : {m : Name} {v : List ℕ} {at : ℕ} → (List·Memᴰ m (attributes [] before) → ⊥) → validated v ≡ Validated.BadReference at
       → Fault before (attr m v) Cause.BadReference
-  bad-text : {v : List ℕ} → validated v ≡ Validated.BadReference → Fault before (matter (text v)) Cause.BadReference
+  bad-text : {v : List ℕ} {at : ℕ} → validated v ≡ Validated.BadReference at → Fault before (matter (text v)) Cause.BadReference
 
 pub record Faultless (toks : List Tok) : Type 0 where
   pub none : (a : List Tok) (t : Tok) (b : List Tok) (c : Cause) → toks ≡ a ++ (t ∷ b) → Fault a t c → ⊥

@@ -1,6 +1,8 @@
 //! The line of a fault with a caret under the place, and limits in words.
 
-use crate::common::{piped, says};
+use crate::common::{piped, says, upload};
+use std::ffi::OsStr;
+use std::os::unix::ffi::OsStrExt;
 
 /// The lines of what is said of a body.
 fn lines(body: impl AsRef<[u8]>) -> Vec<String> {
@@ -67,6 +69,50 @@ fn lines_end_in_lf_cr_lf_or_cr() {
             ["  2 | ", "    | ^", "opened here:", "  1 | <a>", "    | ^"]
         );
     }
+}
+
+/// Of several references the caret stands at the `&` of the first that is bad.
+#[test]
+fn a_caret_under_the_bad_reference() {
+    let said = lines("<a>\n <b x='&lt; &#+5; &zz;'/>\n</a>");
+    assert_eq!(said[0], "-:2:13: the reference &#+5; is bad");
+    let line = "  2 |  <b x='&lt; &#+5; &zz;'/>";
+    assert_eq!(said[1..], [line, "    |             ^"]);
+    let said = lines("<a>\n &amp; R&D &zz;\n</a>");
+    assert_eq!(said[0], "-:2:9: the reference &D is bad");
+    let line = "  2 |  &amp; R&D &zz;";
+    assert_eq!(said[1..], [line, "    |         ^"]);
+}
+
+/// What `--text` says of a text with a bad reference.
+fn of_text(text: &[u8]) -> Vec<String> {
+    let ran = upload(&[OsStr::new("--text"), OsStr::from_bytes(text)]);
+    assert_eq!((ran.status, ran.err.as_str()), (1, ""), "{}", ran.out);
+    ran.out.lines().map(String::from).collect()
+}
+
+#[test]
+fn a_caret_under_a_reference_of_a_text() {
+    // for validity at the one, for unescaping at the other
+    let said = of_text("forty\nlines &lt;\n &#+65; µ &zz; &".as_bytes());
+    let line = "  3 |  &#+65; µ &zz; &";
+    assert_eq!(
+        said,
+        [
+            "references: not valid: line 3, column 2: a reference is bad",
+            line,
+            "    |  ^",
+            "unescaped: refused: line 3, column 11: a reference is bad",
+            line,
+            "    |           ^",
+        ]
+    );
+    // what is not UTF-8 has the columns in which it is shown, also a byte that would go on with a
+    // character
+    let said = of_text(b"7 \xB5m \xC3& b");
+    assert_eq!(said[1], "  1 | 7 \u{FFFD}m \u{FFFD}& b");
+    assert_eq!(said[2], "    |       ^");
+    assert!(said[0].contains(": line 1, column 7: "), "{}", said[0]);
 }
 
 #[test]

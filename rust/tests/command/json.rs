@@ -170,6 +170,8 @@ fn numbers_causes_and_rows() {
             "{cause}"
         );
     }
+    let value = told("<a>\n &lt;\n<b x='µ &#+5; &zz;'/></a>");
+    assert_eq!(place(&value), Some([19, 3, 9]));
     let value = told(b"<a>\n\xFF");
     assert_eq!(value.of("cause"), &"not-utf-8".into());
     assert_eq!(
@@ -235,11 +237,33 @@ fn references_of_a_text() {
         (value.of("valid"), value.of("number")),
         (&Value::Bool(true), &0.into())
     );
-    let (status, value) = told("&#0;");
-    assert_eq!((status, value.of("unescaped")), (1, &"\0".into()));
+    assert_eq!((place(&value), value.of("refusal")), (None, &Value::Null));
+    let (status, value) = told("µ\n &#0;");
+    assert_eq!((status, value.of("unescaped")), (1, &"µ\n \0".into()));
     assert_eq!(value.of("number"), &7.into());
-    let (status, value) = told("a & b");
+    assert_eq!(place(&value), Some([4, 2, 2]));
+    assert_eq!(value.of("refusal"), &Value::Null);
+    // unescaping takes the sign, and fails behind it
+    let (status, value) = told("µ\n&#+65;&zz;");
     assert_eq!((status, value.of("unescaped")), (1, &Value::Null));
+    assert_eq!(place(&value), Some([3, 2, 1]));
+    let refusal = value.of("refusal");
+    assert_eq!(refusal.of("number"), &7.into());
+    assert_eq!(place(refusal), Some([9, 2, 7]));
+}
+
+/// The byte, line and column that an object tells; all are null where there is no place.
+fn place(value: &Value) -> Option<[usize; 3]> {
+    let Value::Object(fields) = value else {
+        panic!("{value:?} is no object");
+    };
+    match ["byte", "line", "column"].map(|key| &fields[key]) {
+        [Value::Null, Value::Null, Value::Null] => None,
+        parts => Some(parts.map(|part| match part {
+            Value::Number(number) => *number,
+            other => panic!("{other:?} is no number"),
+        })),
+    }
 }
 
 /// What is said of the sample, read by its sheet.

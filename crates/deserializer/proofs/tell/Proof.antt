@@ -1,4 +1,4 @@
--- Of fewer than two numbers nothing is promised; otherwise both are stored, and 0 or the refusal's number is the step's.
+-- Of fewer than three numbers nothing is promised; otherwise all are stored, and 0 or the refusal's number is the step's.
 use Rattle.deserializer.proofs.Entered.{tells-laws}
 use borrow.Author.Needs.{needs}
 use Rattle.deserializer.proofs.tell.Statement.{statement}
@@ -14,16 +14,28 @@ slice-write-told : tie.Need-slice-write-told
 slice-write-told c = search needs
 
 slice-write-told-2 : tie.Need-slice-write-told-2
-slice-write-told-2 c = search needs
-
-enum-known-step-2 : tie.Need-enum-known-step-2
-enum-known-step-2 c = search needs
+slice-write-told-2 c = search tells-laws
 
 slice-write-told-3 : tie.Need-slice-write-told-3
 slice-write-told-3 c = search needs
 
+enum-known-step-2 : tie.Need-enum-known-step-2
+enum-known-step-2 c = search needs
+
 slice-write-told-4 : tie.Need-slice-write-told-4
 slice-write-told-4 c = search needs
+
+slice-write-told-5 : tie.Need-slice-write-told-5
+slice-write-told-5 c = search tells-laws
+
+place-of-requires : tie.Need-place-of-requires
+place-of-requires c κs = search needs
+
+cast-told : tie.Need-cast-told
+cast-told c = search needs
+
+slice-write-told-6 : tie.Need-slice-write-told-6
+slice-write-told-6 c = search needs
 
 number-of-requires : tie.Need-number-of-requires
 number-of-requires c κs = search needs
@@ -48,9 +60,13 @@ tell-spec =
     enum-known-step
     slice-write-told
     slice-write-told-2
-    enum-known-step-2
     slice-write-told-3
+    enum-known-step-2
     slice-write-told-4
+    slice-write-told-5
+    place-of-requires
+    cast-told
+    slice-write-told-6
     number-of-requires
     same-length
     returns-2

@@ -86,7 +86,7 @@ view-in {body} {table} {final} t strict = go strict
           within = t .rules .within;
         }
 
-    strictly : (x : Drained) → ViewIn body (rowsOf table) final (strictView (rowsOf table) final x)
+    strictly : (x : Drained) → ViewIn body (rowsOf table) final (strictView body (rowsOf table) final x)
     strictly Drained.Passes = all
     strictly Drained.Table = all
     strictly (Drained.IllFormed k cause) =

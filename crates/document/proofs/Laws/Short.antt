@@ -18,10 +18,11 @@ use Rattle.table.specs.Row.{Row, Name, Tok, start, attr, gt, close, slash, text
 use Rattle.table.specs.Row.{toksOf}
 use Rattle.table.proofs.Classes.{Kind, of-start, of-attr, of-gt, of-close, of-slash, of-matter, of-error, kind-of}
 use Rattle.document.specs.declared.Depth.{Depth}
+use Rattle.document.specs.View.{View}
 use Rattle.document.specs.Reader.{Reader, reader, fresh, shallower, depthAfter, Scope, document, isEnd, Past, Attribute, StartEl}
 use Rattle.document.specs.Reader.{blank, addAttribute, onAttribute, onClose, Next, found, gone, takeTurn, next}
 use Rattle.document.specs.Scope.{Child, scopeOf, shut, done, onNext, level, levelIn, children, onRoot, rootOf}
-use Rattle.document.specs.Text.{unescapedText, atEnd, textTurn, takeFirst, firstText, textOf}
+use Rattle.document.specs.Text.{valueStartAt, unescapedFrom, atEnd, textTurn, takeFirst, firstText, textOf}
 use Rattle.document.proofs.Laws.Onward.{Leaves, leaves-found, leaves-none, next-leaves}
 use Rattle.document.proofs.Laws.Fuel.{Shortens}
 
@@ -110,36 +111,38 @@ module _ (most : ℕ) where
   at-end-short none = short-text {b = []} (omega arith)
   at-end-short (some r) = no-text
 
-  unescaped-short : (v : List ℕ) → length v ≤ most → ShortText most (unescapedText (unescaped v))
-  unescaped-short v h = go (unescaped v) refl
+  unescaped-short : (from : ℕ) (v : List ℕ) → length v ≤ most → ShortText most (unescapedFrom from (unescaped v))
+  unescaped-short from v h = go (unescaped v) refl
     where
-      go : (u : Out) → unescaped v ≡ u → ShortText most (unescapedText u)
+      go : (u : Out) → unescaped v ≡ u → ShortText most (unescapedFrom from u)
       go (bytes x) q = short-text {b = x} (omega (arith, unescaped-shorter v x q, h))
       go (text.bad at) q = no-text
 
-  turn-short : (s : Scope) (d : Depth) (t : Tok) → ShortValue most t → (more : Answer (List ℕ)) → ShortText most more
-      → ShortText most (textTurn takeFirst s d t more)
-  turn-short s d (start n) h more m = no-text
-  turn-short s d (attr n v) h more m = m
-  turn-short s d gt h more m = m
-  turn-short s d (close n) h more m = pick-all (ShortText most) (isEnd s d n) (gives []) more (short-text {b = []} (omega arith)) m
-  turn-short s d slash h more m = m
-  turn-short s d (matter (text v)) h more m = unescaped-short v h
-  turn-short s d (matter misc) h more m = m
-  turn-short s d bad h more m = m
+  turn-short : (from : ℕ) (s : Scope) (d : Depth) (t : Tok) → ShortValue most t → (more : Answer (List ℕ)) → ShortText most more
+      → ShortText most (textTurn (takeFirst from) s d t more)
+  turn-short from s d (start n) h more m = no-text
+  turn-short from s d (attr n v) h more m = m
+  turn-short from s d gt h more m = m
+  turn-short from s d (close n) h more m = pick-all (ShortText most) (isEnd s d n) (gives []) more (short-text {b = []} (omega arith)) m
+  turn-short from s d slash h more m = m
+  turn-short from s d (matter (text v)) h more m = unescaped-short from v h
+  turn-short from s d (matter misc) h more m = m
+  turn-short from s d bad h more m = m
 
-  first-text-short : (failure : Option Refusal) (s : Scope) (d : Depth) {l : List Tok} → Every (ShortValue most) l
-      → ShortText most (firstText failure s d l)
+  first-text-short : (rows : List Row) (failure : Option Refusal) (s : Scope) (d : Depth) (k : ℕ) {l : List Tok}
+      → Every (ShortValue most) l → ShortText most (firstText rows failure s d k l)
   unfolding firstText
-  first-text-short failure s d none = at-end-short failure
-  first-text-short failure s d (and {x = t} {l = l} h e) =
-      turn-short s (depthAfter t d) t h (firstText failure s (depthAfter t d) l) (first-text-short failure s (depthAfter t d) e)
+  first-text-short rows failure s d k none = at-end-short failure
+  first-text-short rows failure s d k (and {x = t} {l = l} h e) =
+      turn-short (valueStartAt rows k) s (depthAfter t d) t h (firstText rows failure s (depthAfter t d) (suc k) l)
+      (first-text-short rows failure s (depthAfter t d) (suc k) e)
 
-  pub text-short : (failure : Option Refusal) (c : Child) → Every (ShortValue most) (c .inner .rest) → ShortText most (textOf failure c)
+  pub text-short : (v : View) (c : Child) → Every (ShortValue most) (c .inner .rest) → ShortText most (textOf v c)
   unfolding textOf
-  text-short failure c e =
-      pick-all (ShortText most) (c .start .closed) (gives []) (firstText failure (scopeOf (c .start)) (c .inner .depth) (c .inner .rest))
-      (short-text {b = []} (omega arith)) (first-text-short failure (scopeOf (c .start)) (c .inner .depth) e)
+  text-short v c e =
+      pick-all (ShortText most) (c .start .closed) (gives [])
+      (firstText (v .rows) (v .failure) (scopeOf (c .start)) (c .inner .depth) (c .inner .row) (c .inner .rest))
+      (short-text {b = []} (omega arith)) (first-text-short (v .rows) (v .failure) (scopeOf (c .start)) (c .inner .depth) (c .inner .row) e)
 
 -- ---- each child takes a token at least
 pub few-children : (past : Child → Reader) → Shortens past → (f : ℕ) (s : Scope) (r : Reader)

@@ -6,11 +6,11 @@ use mathlib.Core.List.{List, [], _∷_}
 use mathlib.Core.Option.{Option}
 use Rattle.lists.specs.Tests.{pick}
 use Rattle.refusal.specs.declared.Refusal.{Refusal}
-use Rattle.table.specs.Row.{Tok}
+use Rattle.table.specs.Row.{Row, Tok}
 use Rattle.document.specs.declared.Depth.{Depth}
 use Rattle.document.specs.Reader.{reader, depthAfter, Scope, endsAt, skip, StartEl, turn, gone, takeTurn, next}
 use Rattle.document.specs.Scope.{shut}
-use Rattle.document.specs.Text.{atEnd, textTurn, takeFirst, firstText}
+use Rattle.document.specs.Text.{valueStartAt, atEnd, textTurn, takeFirst, firstText}
 
 -- ---- the skip to a scope's end
 pub skip-end : (s : Scope) (d : Depth) (k : ℕ) → skip s d k [] ≡ record { ended = false; reader = reader d k [] }
@@ -34,13 +34,15 @@ unfolding next
 next-token s o d k t l = refl
 
 -- ---- the first text of an element
-pub first-text-end : (failure : Option Refusal) (s : Scope) (d : Depth) → firstText failure s d [] ≡ atEnd failure
+pub first-text-end : (rows : List Row) (failure : Option Refusal) (s : Scope) (d : Depth) (k : ℕ)
+    → firstText rows failure s d k [] ≡ atEnd failure
 unfolding firstText
-first-text-end failure s d = refl
+first-text-end rows failure s d k = refl
 
-pub first-text-token : (failure : Option Refusal) (s : Scope) (d : Depth) (t : Tok) (l : List Tok)
-    → firstText failure s d (t ∷ l) ≡ textTurn takeFirst s (depthAfter t d) t (firstText failure s (depthAfter t d) l)
+pub first-text-token : (rows : List Row) (failure : Option Refusal) (s : Scope) (d : Depth) (k : ℕ) (t : Tok) (l : List Tok)
+    → firstText rows failure s d k (t ∷ l) ≡
+    textTurn (takeFirst (valueStartAt rows k)) s (depthAfter t d) t (firstText rows failure s (depthAfter t d) (suc k) l)
 unfolding firstText
-first-text-token failure s d t l = refl
+first-text-token rows failure s d k t l = refl
 
 -- ---- all the texts directly in an element

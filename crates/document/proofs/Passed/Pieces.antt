@@ -9,7 +9,7 @@ use borrow.Author.Tests.{eq-eqb}
 use lib.ListN.{drop}
 use Rattle.refusal.specs.declared.Refusal.{Refusal}
 use Rattle.refusal.specs.Answer.{Answer, gives, refuses}
-use Rattle.table.specs.Row.{Name, text, misc, Tok, close, rowsOf, toksOf}
+use Rattle.table.specs.Row.{Row, Name, text, misc, Tok, close, rowsOf, toksOf}
 use Rattle.xml.specs.declared.Drained.{Drained}
 use Rattle.xml.specs.Grammar.{Element, empty-element, full-element, Content, no-content, between-tags, child, Miscs, no-misc, one-misc}
 use Rattle.xml.specs.Grammar.{Document}
@@ -20,7 +20,7 @@ use Rattle.xml.proofs.Past.{pastAttributes, pastElement, pastMiscs, at-next, in
 use Rattle.xml.specs.Piece.{PieceAt}
 use Rattle.xml.proofs.Piece.{element-piece}
 use Rattle.document.specs.declared.Depth.{Depth}
-use Rattle.document.specs.View.{whole}
+use Rattle.document.specs.View.{View, whole}
 use Rattle.document.specs.Reader.{depth, deeper, document, element, StartEl, blank, begun, next}
 use Rattle.document.specs.Scope.{Child, childrenOf, rootOf, Piece, pieceOf}
 use Rattle.document.specs.Text.{firstText, textOf}
@@ -75,24 +75,28 @@ pub data TextOrElement : Answer (List ℕ) → Type 0 where
   is-text : (t : List ℕ) → TextOrElement (gives t)
   is-element : TextOrElement (refuses Refusal.ElementInText)
 
-module _ (own : Depth) (n : Name) where
-  first-element : {l r : List Tok} (e : Element l r) (d : Depth) → firstText none (element own n) d l ≡ refuses Refusal.ElementInText
+module _ (rows : List Row) (failure : Option Refusal) (own : Depth) (n : Name) where
+  first-element : {l r : List Tok} (e : Element l r) (d : Depth) (k : ℕ)
+      → firstText rows failure (element own n) d k l ≡ refuses Refusal.ElementInText
   unfolding firstText
-  first-element (empty-element m a) d = refl
-  first-element (full-element m a c) d = refl
+  first-element (empty-element m a) d k = refl
+  first-element (full-element m a c) d k = refl
 
-  first-content : {l r : List Tok} → Content l (close n ∷ r) → TextOrElement (firstText none (element own n) (deeper own) l)
+  first-content : {l r : List Tok} → Content l (close n ∷ r) → (k : ℕ)
+      → TextOrElement (firstText rows failure (element own n) (deeper own) k l)
   unfolding firstText
-  first-content no-content = rw (eq-eqb (own .0) (own .0) refl, name-same n) (is-text [])
-  first-content (between-tags {b = text v} e c) = rw (unescapes v e) (is-text _)
-  first-content (between-tags {b = misc} e c) = first-content c
-  first-content (child e c) = rw (first-element e (deeper own)) is-element
+  first-content no-content k = rw (eq-eqb (own .0) (own .0) refl, name-same n) (is-text [])
+  first-content (between-tags {b = text v} e c) k = rw (unescapes v e) (is-text _)
+  first-content (between-tags {b = misc} e c) k = first-content c (suc k)
+  first-content (child e c) k = rw (first-element e (deeper own) k) is-element
 
-pub text-met : {all : List Tok} (c : Child) → Met all c → TextOrElement (textOf none c)
+-- whatever the view: the reader does not come to the end of its rows
+pub text-met : {all : List Tok} (w : View) (c : Child) → Met all c → TextOrElement (textOf w c)
 unfolding textOf asChild
-text-met c (met (empty-element n a) d k h) = is-text []
-text-met c (met (full-element n a x) d k h) =
-    rw (with-name a (begun blank n d k), with-depth a (begun blank n d k), with-closed a (begun blank n d k)) (first-content d n x)
+text-met w c (met (empty-element n a) d k h) = is-text []
+text-met w c (met (full-element n a x) d k h) =
+    rw (with-name a (begun blank n d k), with-depth a (begun blank n d k), with-closed a (begun blank n d k))
+    (first-content (w .rows) (w .failure) d n x (suc (pastAttributes a (suc k))))
 
 -- ---- pieces
 pub element-row : {l r : List Tok} (e : Element l r) (d : Depth) (k : ℕ) → asChild e d k .start .row ≡ k

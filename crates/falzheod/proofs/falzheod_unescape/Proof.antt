@@ -1,4 +1,5 @@
--- The three answers, each told by its number; only the first has a length, and the buffer is as unescaping left it.
+-- The three answers, each told by its number; only the first has a length and only the second a place, and the buffer is as unescaping
+-- left it.
 use Rattle.falzheod.proofs.Numbers.{call-laws}
 use borrow.Author.Needs.{needs}
 use Rattle.falzheod.proofs.falzheod_unescape.Statement.{statement}
@@ -10,11 +11,11 @@ unescape-requires c κs = search needs
 enum-known-n : tie.Need-enum-known-n
 enum-known-n c = search needs
 
+enum-known-first : tie.Need-enum-known-first
+enum-known-first c = search needs
+
 enum-told : tie.Need-enum-told
 enum-told c = search needs
-
-enum-told-2 : tie.Need-enum-told-2
-enum-told-2 c = search needs
 
 same-length : tie.Need-same-length
 same-length c = search needs
@@ -40,8 +41,8 @@ falzheod-unescape-spec =
     (tie.spec
     unescape-requires
     enum-known-n
+    enum-known-first
     enum-told
-    enum-told-2
     same-length
     returns
     same-length-2

@@ -1,4 +1,4 @@
--- Two verdicts: right is told by 0, a bad reference by 7.
+-- Two verdicts: right is told by 0, a bad reference by 7 and its place.
 use Rattle.falzheod.proofs.Numbers.{call-laws}
 use borrow.Author.Needs.{needs}
 use Rattle.falzheod.proofs.falzheod_validate_references.Statement.{statement}
@@ -10,8 +10,8 @@ validate-references-requires c κs = search needs
 enum-told : tie.Need-enum-told
 enum-told c = search needs
 
-enum-told-2 : tie.Need-enum-told-2
-enum-told-2 c = search needs
+enum-known-at : tie.Need-enum-known-at
+enum-known-at c = search needs
 
 returns : tie.Need-returns
 returns c = search call-laws
@@ -21,4 +21,4 @@ returns-2 c = search call-laws
 
 pub falzheod-validate-references-spec : {M : Type 1} → statement M
 falzheod-validate-references-spec =
-    tie.close (tie.spec validate-references-requires enum-told enum-told-2 returns returns-2)
+    tie.close (tie.spec validate-references-requires enum-told enum-known-at returns returns-2)

@@ -1,4 +1,4 @@
--- A text that measures is written, a bad reference is an entry that says so, and measuring never lacks room.
+-- A text that measures is written, a bad reference is an entry that says so, with its place, and measuring never lacks room.
 use Rattle.output.proofs.Texts.{measured-laws}
 use borrow.Author.Needs.{needs}
 use Rattle.output.proofs.write_scalar.Statement.{statement}
@@ -13,14 +13,17 @@ enum-known-n c = search needs
 write-measured-requires : tie.Need-write-measured-requires
 write-measured-requires c κs = (search measured-laws, search measured-laws)
 
-enum-told : tie.Need-enum-told
-enum-told c = search needs
+enum-known-at : tie.Need-enum-known-at
+enum-known-at c = search needs
+
+bad-at-requires : tie.Need-bad-at-requires
+bad-at-requires c κs = search measured-laws
 
 write-failed-requires : tie.Need-write-failed-requires
 write-failed-requires c κs = search needs
 
-enum-told-2 : tie.Need-enum-told-2
-enum-told-2 c = search needs
+enum-told : tie.Need-enum-told
+enum-told c = search needs
 
 same-length : tie.Need-same-length
 same-length c = search needs
@@ -47,9 +50,10 @@ write-scalar-spec =
     measure-requires
     enum-known-n
     write-measured-requires
-    enum-told
+    enum-known-at
+    bad-at-requires
     write-failed-requires
-    enum-told-2
+    enum-told
     same-length
     same-length-2
     returns

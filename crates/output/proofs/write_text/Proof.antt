@@ -1,4 +1,4 @@
--- A text that measures is written, a bad reference is refused before room is tested, and measuring never lacks room.
+-- A text that measures is written, a bad reference is refused with its place before room is tested, and measuring never lacks room.
 use Rattle.output.proofs.Texts.{measured-laws}
 use borrow.Author.Needs.{needs}
 use Rattle.output.proofs.write_text.Statement.{statement}
@@ -13,11 +13,14 @@ enum-known-n c = search needs
 write-measured-requires : tie.Need-write-measured-requires
 write-measured-requires c κs = (search measured-laws, search measured-laws)
 
+enum-known-at : tie.Need-enum-known-at
+enum-known-at c = search needs
+
+bad-at-requires : tie.Need-bad-at-requires
+bad-at-requires c κs = search measured-laws
+
 enum-told : tie.Need-enum-told
 enum-told c = search needs
-
-enum-told-2 : tie.Need-enum-told-2
-enum-told-2 c = search needs
 
 same-length : tie.Need-same-length
 same-length c = search needs
@@ -26,7 +29,7 @@ same-length-2 : tie.Need-same-length-2
 same-length-2 c = search needs
 
 returns : tie.Need-returns
-returns c = search needs
+returns c = search measured-laws
 
 returns-2 : tie.Need-returns-2
 returns-2 c = search measured-laws
@@ -41,8 +44,9 @@ write-text-spec =
     measure-requires
     enum-known-n
     write-measured-requires
+    enum-known-at
+    bad-at-requires
     enum-told
-    enum-told-2
     same-length
     same-length-2
     returns

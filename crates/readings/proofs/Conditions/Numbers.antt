@@ -6,7 +6,7 @@ use mathlib.Core.List.{List, [], _∷_}
 use Rattle.refusal.specs.declared.Refusal.{Refusal}
 use Rattle.refusal.specs.Answer.{refuses}
 use Rattle.refusal.specs.Numbers.{number}
-use Rattle.table.specs.Row.{Tok}
+use Rattle.table.specs.Row.{Row, Tok}
 use Rattle.table.specs.Rules.{among}
 use Rattle.xml.specs.declared.Cause.{Cause}
 use Rattle.document.specs.declared.Depth.{Depth}
@@ -39,26 +39,27 @@ Only numbers r = among numbers (number r) ≡ true
 -- ---- 6, 7, 8 and 9, of a text
 data OfText : Refusal → Type 0 where
   six : OfText Refusal.ElementInText
-  seven : OfText Refusal.BadReference
+  seven : {at : ℕ} → OfText (Refusal.BadReference at)
   eight : OfText Refusal.TokenError
   nine : OfText Refusal.IllFormed
 
-by-cause : (c : Cause) → OfText (failureOf c)
-by-cause Cause.TokenError = eight
-by-cause Cause.MismatchedEnd = nine
-by-cause Cause.UnclosedElement = nine
-by-cause Cause.RepeatedAttribute = nine
-by-cause Cause.BadReference = seven
+by-cause : (at : ℕ) (c : Cause) → OfText (failureOf at c)
+by-cause at Cause.TokenError = eight
+by-cause at Cause.MismatchedEnd = nine
+by-cause at Cause.UnclosedElement = nine
+by-cause at Cause.RepeatedAttribute = nine
+by-cause at Cause.BadReference = seven
 
 module _ {u : Upload} {strict : Bool} where
   stopped-number : {r : Refusal} → Stopped u strict r → OfText r
   stopped-number w = go w
     where
       go : {b : Bool} {q : Refusal} → Stopped u b q → OfText q
-      go (at-drain {cause = c} e) = by-cause c
+      go (at-drain {cause = c} e) = by-cause _ c
       go (at-error e) = eight
 
-  text-number : {s : Scope} {d : Depth} {l : List Tok} {r : Refusal} → NoText (Stopped u strict) s d l r → OfText r
+  text-number : {rows : List Row} {s : Scope} {d : Depth} {k : ℕ} {l : List Tok} {r : Refusal} → NoText (Stopped u strict) rows s d k l r
+      → OfText r
   text-number element-inside = six
   text-number (bad-reference e) = seven
   text-number (rows-end w) = stopped-number w

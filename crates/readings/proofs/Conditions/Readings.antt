@@ -26,7 +26,7 @@ use Rattle.readings.proofs.Plans.Readings.{read-is, askedPlan, PlanIs, 
 -- ---- why a plan stops that goes on with what was asked
 pub data Stops (settings : Settings) (depth : ShapeDepth) (shape : Shape) (a : Asked (SheetOf shape)) : Refusal → Type 0 where
   root-differs : RootDiffers settings depth shape a → Stops settings depth shape a Refusal.RootName
-  no-text : (c : Child) {r : Refusal} → TextWanted settings shape a c → textOf (a .opened .seen .failure) c ≡ refuses r
+  no-text : (c : Child) {r : Refusal} → TextWanted settings shape a c → textOf (a .opened .seen) c ≡ refuses r
       → Stops settings depth shape a r
   ill-formed : a .opened .seen .illFormed ≡ true → Stops settings depth shape a Refusal.IllFormed
 
@@ -41,7 +41,7 @@ any-source body o =
       piece = λ c h. tt {0};
     }
 
-any-shape : (body : List ℕ) (shape : Shape) (a : Asked (SheetOf shape))
+pub any-shape : (body : List ℕ) (shape : Shape) (a : Asked (SheetOf shape))
     → ShapeSources Anything Anything (λ (i : ℕ). Anything) Anything body shape a
 any-shape body (structure order) a =
     record { member = λ m i. tt {0}; ordered = λ i j. tt {0}; attribute = λ name v e. tt {0}; group = λ i. tt {0}; root = tt {0} }

@@ -29,19 +29,20 @@ module _ (u : Upload) (settings : Settings) (depth : ShapeDepth) where
   -- "1, 4; 6 to 9 as met; 9 after the rest"
   pub data ScalarRefused : Refusal → Type 0 where
     not-opened : {r : Refusal} → OpenedRefused u strict r → ScalarRefused r
-    no-text : {o : Opened} {r : Refusal} → OpenedAs u strict o → NoTextIn (Stopped u strict) (o .root) r → ScalarRefused r
-    after-the-rest : {o : Opened} {text : List ℕ} → OpenedAs u strict o → textOf (o .seen .failure) (o .root) ≡ gives text →
+    no-text : {o : Opened} {r : Refusal} → OpenedAs u strict o → NoTextIn (Stopped u strict) (o .seen .rows) (o .root) r
+        → ScalarRefused r
+    after-the-rest : {o : Opened} {text : List ℕ} → OpenedAs u strict o → textOf (o .seen) (o .root) ≡ gives text →
         DrainFails u strict → ScalarRefused Refusal.IllFormed
 
   scalar-is : Is Anything ScalarRefused (scalarText u settings depth)
   unfolding scalarText
   scalar-is =
       onward-is _ (opened-is u strict)
-      (λ o w. onward-is _ (itself (textOf (o .seen .failure) (o .root))) (λ t e. end w e (o .seen .illFormed) refl)
+      (λ o w. onward-is _ (itself (textOf (o .seen) (o .root))) (λ t e. end w e (o .seen .illFormed) refl)
       (λ r e. no-text w (opened-text-refusal u w (o .root) r .0 e)))
       (λ r w. not-opened w)
     where
-      end : {o : Opened} {t : List ℕ} → OpenedAs u strict o → textOf (o .seen .failure) (o .root) ≡ gives t → (b : Bool)
+      end : {o : Opened} {t : List ℕ} → OpenedAs u strict o → textOf (o .seen) (o .root) ≡ gives t → (b : Bool)
           → o .seen .illFormed ≡ b
           → Is Anything ScalarRefused (unlessIllFormed b t)
       end w e true p = is-refused (after-the-rest w e (opened-fails u w .0 p))

@@ -12,7 +12,7 @@ use Rattle.table.specs.Rules.{TableRules}
 use Rattle.table.specs.Test.{decTable}
 use Rattle.xml.specs.declared.Cause.{Cause}
 use Rattle.xml.specs.declared.Drained.{Drained}
-use Rattle.xml.specs.Drain.{walked, drained, drainedBy}
+use Rattle.xml.specs.Drain.{walked, drained, drainedBy, causePlace}
 use Rattle.xml.proofs.First.{not-ill}
 use Rattle.document.specs.View.{view, failureOf, strictView, lenientView, errorAt}
 use Rattle.readings.specs.Call.{Upload}
@@ -28,14 +28,6 @@ isTable (Drained.IllFormed k c) = false
 table-not-ill : {A : Type 0} {k : ℕ} {c : Cause} → Drained.Table ≡ Drained.IllFormed k c → A
 table-not-ill e = false-true (sym (ap isTable e))
 
-abbrev causeIn : Cause → Drained → Cause
-causeIn other Drained.Passes = other
-causeIn other Drained.Table = other
-causeIn other (Drained.IllFormed k c) = c
-
-ill-same : {j k : ℕ} {c d : Cause} → Drained.IllFormed j c ≡ Drained.IllFormed k d → c ≡ d
-ill-same {c = c} e = ap (causeIn c) e
-
 module _ (u : Upload) where
   -- "9 ill-formed": the reading is strict, and the drain of the table answers 9
   pub record DrainFails (strict : Bool) : Type 0 where
@@ -44,10 +36,11 @@ module _ (u : Upload) where
     pub cause : Cause
     pub drain : drained (u .body) (u .rows) (u .end) ≡ Drained.IllFormed row cause
 
-  -- what a text meets where the rows run out: under strict reading the cause that the drain gives, 8, 9 or 7; otherwise 8, at a token error
+  -- what a text meets where the rows run out: under strict reading the cause that the drain gives, 8, 9 or 7, with its place; otherwise 8,
+  -- at a token error
   pub data Stopped : Bool → Refusal → Type 0 where
     at-drain : {row : ℕ} {cause : Cause} → drained (u .body) (u .rows) (u .end) ≡ Drained.IllFormed row cause
-        → Stopped true (failureOf cause)
+        → Stopped true (failureOf (causePlace (u .body) (rowsOf (u .rows)) row cause) cause)
     at-error : {k : ℕ} → errorAt (toksOf (u .body) (rowsOf (u .rows))) ≡ some k → Stopped false Refusal.TokenError
 
   -- the walk is the drain, where the rules hold
@@ -69,14 +62,14 @@ module _ (u : Upload) where
     λ w. back (walked (toksOf (u .body) (rowsOf (u .rows)))) (drained-walk t) w,
   )
     where
-      go : (x : Drained) → drained (u .body) (u .rows) (u .end) ≡ x → strictView (rowsOf (u .rows)) (u .end) x .illFormed ≡ true
+      go : (x : Drained) → drained (u .body) (u .rows) (u .end) ≡ x → strictView (u .body) (rowsOf (u .rows)) (u .end) x .illFormed ≡ true
           → DrainFails true
       go Drained.Passes p e = false-true e
       go Drained.Table p e = false-true e
       go (Drained.IllFormed k c) p e = record { strictly = refl; row = k; cause = c; drain = p }
 
       back : (x : Drained) → drained (u .body) (u .rows) (u .end) ≡ x → DrainFails true
-          → strictView (rowsOf (u .rows)) (u .end) x .illFormed ≡ true
+          → strictView (u .body) (rowsOf (u .rows)) (u .end) x .illFormed ≡ true
       back Drained.Passes p w = not-ill (sym p ∙ w .drain)
       back Drained.Table p w = table-not-ill (sym p ∙ w .drain)
       back (Drained.IllFormed k c) p w = refl
@@ -94,18 +87,15 @@ module _ (u : Upload) where
     back (walked (toksOf (u .body) (rowsOf (u .rows)))) (drained-walk t),
   )
     where
-      go : (x : Drained) → drained (u .body) (u .rows) (u .end) ≡ x → strictView (rowsOf (u .rows)) (u .end) x .failure ≡ some r
+      go : (x : Drained) → drained (u .body) (u .rows) (u .end) ≡ x → strictView (u .body) (rowsOf (u .rows)) (u .end) x .failure ≡ some r
           → Stopped true r
       go Drained.Passes p e = absurd (Option·none-ne-some r e)
       go Drained.Table p e = absurd (Option·none-ne-some r e)
       go (Drained.IllFormed k c) p e = subst (Stopped true) (Option·some-injective _ _ e) (at-drain p)
 
       back : (x : Drained) → drained (u .body) (u .rows) (u .end) ≡ x → {n : Refusal} → Stopped true n
-          → strictView (rowsOf (u .rows)) (u .end) x .failure ≡ some n
-      back Drained.Passes p (at-drain e) = not-ill (sym p ∙ e)
-      back Drained.Table p (at-drain e) = table-not-ill (sym p ∙ e)
-      back (Drained.IllFormed k c) p (at-drain {cause = d} e) = let q : c ≡ d = ill-same (sym p ∙ e) in
-          ap (λ (x : Cause). some (failureOf x)) q
+          → strictView (u .body) (rowsOf (u .rows)) (u .end) x .failure ≡ some n
+      back x p (at-drain e) = ap (λ (y : Drained). strictView (u .body) (rowsOf (u .rows)) (u .end) y .failure) (sym p ∙ e)
   view-stops false t r = (go (errorAt (toksOf (u .body) (rowsOf (u .rows)))) refl, back)
     where
       go : (x : Option ℕ) → errorAt (toksOf (u .body) (rowsOf (u .rows))) ≡ x → lenientView (rowsOf (u .rows)) (u .end) x .failure ≡ some r

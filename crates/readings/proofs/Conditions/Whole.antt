@@ -14,7 +14,8 @@ use Rattle.refusal.specs.Answer.{Answer, gives, refuses, onward}
 use Rattle.reference.specs.Text.{Out, unescaped}
 use Rattle.reference.specs.Text as text
 use Rattle.reference.proofs.Lenient.{valid-unescapes}
-use Rattle.table.specs.Row.{Name, Tok, start, attr, gt, close, slash, text, misc, matter, bad, rowsOf, toksOf}
+use Rattle.reference.proofs.Place.{no-bytes}
+use Rattle.table.specs.Row.{Row, Name, Tok, start, attr, gt, close, slash, text, misc, matter, bad, rowsOf, toksOf}
 use Rattle.xml.specs.declared.Cause.{Cause}
 use Rattle.xml.specs.declared.Drained.{Drained}
 use Rattle.xml.specs.Drain.{drained}
@@ -24,7 +25,7 @@ use Rattle.document.specs.declared.Depth.{Depth}
 use Rattle.document.specs.Reader.{Reader, reader, fresh, depthAfter, Scope, document, isEnd, endsAt, StartEl, blank, Turn, goes, complete}
 use Rattle.document.specs.Reader.{over, turn, Next, found, gone, takeTurn, next}
 use Rattle.document.specs.Scope.{Child, scopeOf, rootOf, onRoot, nextFrom}
-use Rattle.document.specs.Text.{unescapedText, textTurn, takeEach, joined, wholeOf}
+use Rattle.document.specs.Text.{valueStartAt, unescapedFrom, textTurn, takeEach, joined, wholeOf}
 use Rattle.readings.specs.Call.{Upload}
 use Rattle.readings.specs.Opening.{present}
 use Rattle.readings.specs.Scalar.{stringIn, passing, wholeText}
@@ -36,13 +37,6 @@ use Rattle.readings.proofs.Conditions.Values.{StringTooLong, too-long, 
 abbrev restIn : List Tok → Next → List Tok
 restIn other (found el r) = r .rest
 restIn other (gone p) = other
-
-abbrev isBytes : Out → Bool
-isBytes (text.bytes b) = true
-isBytes (text.bad at) = false
-
-not-bytes : {A : Type 0} {at : ℕ} {b : List ℕ} → text.bad at ≡ text.bytes b → A
-not-bytes e = false-true (ap isBytes e)
 
 abbrev isFound : Next → Bool
 isFound (found el r) = true
@@ -89,78 +83,90 @@ pub data ElementAhead (s : Scope) : Depth → List Tok → Type 0 where
   element-later : {d : Depth} {t : Tok} {l : List Tok} → endsAt s (depthAfter t d) t ≡ false → ElementAhead s (depthAfter t d) l
       → ElementAhead s d (t ∷ l)
 
-joined-refused : (s : Scope) (d : Depth) (l : List Tok) → Unescapes l → {r : Refusal} → joined s d l ≡ refuses r
+joined-refused : (rows : List Row) (s : Scope) (d : Depth) (k : ℕ) (l : List Tok) → Unescapes l → {r : Refusal}
+    → joined rows s d k l ≡ refuses r
     → (r ≡ Refusal.ElementInText) × ElementAhead s d l
 unfolding joined
-joined-refused s d [] u e = given-refused e
-joined-refused s d (start n ∷ l) u e = (sym (refuses-same e), element-here)
-joined-refused s d (attr m v ∷ l) u e = let w = joined-refused s d l (λ x i. u x (List·Memᴰ·tail i)) e in (w .0, element-later refl (w .1))
-joined-refused s d (gt ∷ l) u e = let w = joined-refused s d l (λ x i. u x (List·Memᴰ·tail i)) e in (w .0, element-later refl (w .1))
-joined-refused s d (close m ∷ l) u {r} e =
-    go (isEnd s (depthAfter (close m) d) m) refl e (λ q. joined-refused s (depthAfter (close m) d) l (λ x i. u x (List·Memᴰ·tail i)) q)
+joined-refused rows s d k [] u e = given-refused e
+joined-refused rows s d k (start n ∷ l) u e = (sym (refuses-same e), element-here)
+joined-refused rows s d k (attr m v ∷ l) u e =
+    let w = joined-refused rows s d (suc k) l (λ x i. u x (List·Memᴰ·tail i)) e in (w .0, element-later refl (w .1))
+joined-refused rows s d k (gt ∷ l) u e =
+    let w = joined-refused rows s d (suc k) l (λ x i. u x (List·Memᴰ·tail i)) e in (w .0, element-later refl (w .1))
+joined-refused rows s d k (close m ∷ l) u {r} e =
+    go (isEnd s (depthAfter (close m) d) m) refl e
+    (λ q. joined-refused rows s (depthAfter (close m) d) (suc k) l (λ x i. u x (List·Memᴰ·tail i)) q)
   where
-    go : (b : Bool) → isEnd s (depthAfter (close m) d) m ≡ b → pick b (gives []) (joined s (depthAfter (close m) d) l) ≡ refuses r →
-        (joined s (depthAfter (close m) d) l ≡ refuses r → (r ≡ Refusal.ElementInText) × ElementAhead s (depthAfter (close m) d) l) →
+    go : (b : Bool) → isEnd s (depthAfter (close m) d) m ≡ b
+        → pick b (gives []) (joined rows s (depthAfter (close m) d) (suc k) l) ≡ refuses r →
+        (joined rows s (depthAfter (close m) d) (suc k) l ≡ refuses r
+        → (r ≡ Refusal.ElementInText) × ElementAhead s (depthAfter (close m) d) l) →
         (r ≡ Refusal.ElementInText) × ElementAhead s d (close m ∷ l)
     go true p e ih = given-refused e
     go false p e ih = let w = ih e in (w .0, element-later p (w .1))
-joined-refused s d (slash ∷ l) u e =
-    let w = joined-refused s (depthAfter slash d) l (λ x i. u x (List·Memᴰ·tail i)) e in (w .0, element-later refl (w .1))
-joined-refused s d (matter (text v) ∷ l) u {r} e =
-    go (unescaped v) (u v (List·Memᴰ·head refl)) e (λ q. joined-refused s d l (λ x i. u x (List·Memᴰ·tail i)) q)
+joined-refused rows s d k (slash ∷ l) u e =
+    let w = joined-refused rows s (depthAfter slash d) (suc k) l (λ x i. u x (List·Memᴰ·tail i)) e in (w .0, element-later refl (w .1))
+joined-refused rows s d k (matter (text v) ∷ l) u {r} e =
+    go (unescaped v) (u v (List·Memᴰ·head refl)) e (λ q. joined-refused rows s d (suc k) l (λ x i. u x (List·Memᴰ·tail i)) q)
   where
     more : (a : Answer (List ℕ)) (front : List ℕ) → onward a (λ (rest : List ℕ). gives (front ++ rest)) ≡ refuses r → a ≡ refuses r
     more (gives rest) front e = given-refused e
     more (refuses q) front e = ap refuses (refuses-same e)
 
     go : (o : Out) → (b : List ℕ) × (o ≡ text.bytes b) →
-        onward (unescapedText o) (λ (front : List ℕ). onward (joined s d l) (λ (rest : List ℕ). gives (front ++ rest))) ≡ refuses r →
-        (joined s d l ≡ refuses r → (r ≡ Refusal.ElementInText) × ElementAhead s d l)
+        onward (unescapedFrom (valueStartAt rows k) o)
+        (λ (front : List ℕ). onward (joined rows s d (suc k) l) (λ (rest : List ℕ). gives (front ++ rest))) ≡ refuses r →
+        (joined rows s d (suc k) l ≡ refuses r → (r ≡ Refusal.ElementInText) × ElementAhead s d l)
         → (r ≡ Refusal.ElementInText) × ElementAhead s d (matter (text v) ∷ l)
-    go (text.bytes b) p e ih = let w = ih (more (joined s d l) b e) in (w .0, element-later refl (w .1))
-    go (text.bad at) p e ih = not-bytes (p .1)
-joined-refused s d (matter misc ∷ l) u e =
-    let w = joined-refused s d l (λ x i. u x (List·Memᴰ·tail i)) e in (w .0, element-later refl (w .1))
-joined-refused s d (bad ∷ l) u e = let w = joined-refused s d l (λ x i. u x (List·Memᴰ·tail i)) e in (w .0, element-later refl (w .1))
+    go (text.bytes b) p e ih = let w = ih (more (joined rows s d (suc k) l) b e) in (w .0, element-later refl (w .1))
+    go (text.bad at) p e ih = no-bytes (p .1)
+joined-refused rows s d k (matter misc ∷ l) u e =
+    let w = joined-refused rows s d (suc k) l (λ x i. u x (List·Memᴰ·tail i)) e in (w .0, element-later refl (w .1))
+joined-refused rows s d k (bad ∷ l) u e =
+    let w = joined-refused rows s d (suc k) l (λ x i. u x (List·Memᴰ·tail i)) e in (w .0, element-later refl (w .1))
 
 -- a token that is no end hands on the refusal of those after it
-hands-on : (s : Scope) (d : Depth) (t : Tok) (more : Answer (List ℕ))
+hands-on : (from : ℕ) (s : Scope) (d : Depth) (t : Tok) (more : Answer (List ℕ))
     → ((v : List ℕ) → t ≡ matter (text v) → (b : List ℕ) × (unescaped v ≡ text.bytes b)) → endsAt s d t ≡ false →
-    more ≡ refuses Refusal.ElementInText → textTurn takeEach s d t more ≡ refuses Refusal.ElementInText
-hands-on s d (start n) more u e q = refl
-hands-on s d (attr m v) more u e q = q
-hands-on s d gt more u e q = q
-hands-on s d (close m) more u e q = rw e q
-hands-on s d slash more u e q = q
-hands-on s d (matter (text v)) more u e q = rw (u v refl .1, q)
-hands-on s d (matter misc) more u e q = q
-hands-on s d bad more u e q = q
+    more ≡ refuses Refusal.ElementInText → textTurn (takeEach from) s d t more ≡ refuses Refusal.ElementInText
+hands-on from s d (start n) more u e q = refl
+hands-on from s d (attr m v) more u e q = q
+hands-on from s d gt more u e q = q
+hands-on from s d (close m) more u e q = rw e q
+hands-on from s d slash more u e q = q
+hands-on from s d (matter (text v)) more u e q = rw (u v refl .1, q)
+hands-on from s d (matter misc) more u e q = q
+hands-on from s d bad more u e q = q
 
-refused-joined : {s : Scope} {d : Depth} {l : List Tok} → Unescapes l → ElementAhead s d l → joined s d l ≡ refuses Refusal.ElementInText
+refused-joined : (rows : List Row) {s : Scope} {d : Depth} (k : ℕ) {l : List Tok} → Unescapes l → ElementAhead s d l
+    → joined rows s d k l ≡ refuses Refusal.ElementInText
 unfolding joined
-refused-joined u element-here = refl
-refused-joined {s = s} u (element-later {d = d} {t = t} {l = l} e w) =
-    hands-on s (depthAfter t d) t (joined s (depthAfter t d) l) (λ (v : List ℕ) q. u v (List·Memᴰ·head (sym q))) e
-    (refused-joined (λ x i. u x (List·Memᴰ·tail i)) w)
+refused-joined rows k u element-here = refl
+refused-joined rows {s = s} k u (element-later {d = d} {t = t} {l = l} e w) =
+    hands-on (valueStartAt rows k) s (depthAfter t d) t (joined rows s (depthAfter t d) (suc k) l)
+    (λ (v : List ℕ) q. u v (List·Memᴰ·head (sym q))) e
+    (refused-joined rows (suc k) (λ x i. u x (List·Memᴰ·tail i)) w)
 
 -- an element that did not end in `/>`, with an element inside it
 pub record HasElement (c : Child) : Type 0 where
   pub notClosed : c .start .closed ≡ false
   pub inside : ElementAhead (scopeOf (c .start)) (c .inner .depth) (c .inner .rest)
 
-whole-element : (c : Child) (r : Refusal) → Unescapes (c .inner .rest) → wholeOf c ≡ refuses r → (r ≡ Refusal.ElementInText) × HasElement c
+whole-element : (rows : List Row) (c : Child) (r : Refusal) → Unescapes (c .inner .rest) → wholeOf rows c ≡ refuses r
+    → (r ≡ Refusal.ElementInText) × HasElement c
 unfolding wholeOf
-whole-element c r u e = go (c .start .closed) refl e
+whole-element rows c r u e = go (c .start .closed) refl e
   where
-    go : (b : Bool) → c .start .closed ≡ b → pick b (gives []) (joined (scopeOf (c .start)) (c .inner .depth) (c .inner .rest)) ≡ refuses r
+    go : (b : Bool) → c .start .closed ≡ b
+        → pick b (gives []) (joined rows (scopeOf (c .start)) (c .inner .depth) (c .inner .row) (c .inner .rest)) ≡ refuses r
         → (r ≡ Refusal.ElementInText) × HasElement c
     go true p e = given-refused e
-    go false p e = let w = joined-refused (scopeOf (c .start)) (c .inner .depth) (c .inner .rest) u e in
+    go false p e = let w = joined-refused rows (scopeOf (c .start)) (c .inner .depth) (c .inner .row) (c .inner .rest) u e in
         (w .0, record { notClosed = p; inside = w .1 })
 
-element-whole : (c : Child) → Unescapes (c .inner .rest) → HasElement c → wholeOf c ≡ refuses Refusal.ElementInText
+element-whole : (rows : List Row) (c : Child) → Unescapes (c .inner .rest) → HasElement c → wholeOf rows c ≡ refuses Refusal.ElementInText
 unfolding wholeOf
-element-whole c u w = rw (w .notClosed) (refused-joined u (w .inside))
+element-whole rows c u w = rw (w .notClosed) (refused-joined rows (c .inner .row) u (w .inside))
 
 module _ (u : Upload) (room : ℕ) where
   abbrev root : Option Child
@@ -179,7 +185,7 @@ module _ (u : Upload) (room : ℕ) where
         → WholeRefused Refusal.ElementInText
     -- "10"
     whole-no-room : {c : Child} {text : List ℕ} → drained (u .body) (u .rows) (u .end) ≡ Drained.Passes → root ≡ some c
-        → wholeOf c ≡ gives text → room < length text →
+        → wholeOf (rowsOf (u .rows)) c ≡ gives text → room < length text →
         WholeRefused Refusal.NoRoom
 
   pub whole-text-refusal : (r : Refusal) → (wholeText u room ≡ refuses r) ↔ WholeRefused r
@@ -189,33 +195,37 @@ module _ (u : Upload) (room : ℕ) where
       inner : drained (u .body) (u .rows) (u .end) ≡ Drained.Passes → {c : Child} → root ≡ some c → Unescapes (c .inner .rest)
       inner p {c} q v i = passed-unescapes u p v (root-rest (toksOf (u .body) (rowsOf (u .rows))) c q (matter (text v)) i)
 
-      long : {c : Child} {t : List ℕ} → drained (u .body) (u .rows) (u .end) ≡ Drained.Passes → root ≡ some c → wholeOf c ≡ gives t
+      long : {c : Child} {t : List ℕ} → drained (u .body) (u .rows) (u .end) ≡ Drained.Passes → root ≡ some c
+          → wholeOf (rowsOf (u .rows)) c ≡ gives t
           → {q : Refusal} → StringTooLong room t q → WholeRefused q
       long p c w (too-long h) = whole-no-room p c w h
 
-      onText : (c : Child) (a : Answer (List ℕ)) → wholeOf c ≡ a → drained (u .body) (u .rows) (u .end) ≡ Drained.Passes → root ≡ some c
+      onText : (c : Child) (a : Answer (List ℕ)) → wholeOf (rowsOf (u .rows)) c ≡ a → drained (u .body) (u .rows) (u .end) ≡ Drained.Passes
+          → root ≡ some c
           → onward a (stringIn room) ≡ refuses r → WholeRefused r
       onText c (gives t) w p q e = long p q w (string-text-refusal room t r .0 e)
       onText c (refuses n) w p q e =
-          let k = whole-element c n (inner p q) w in
+          let k = whole-element (rowsOf (u .rows)) c n (inner p q) w in
           subst WholeRefused (sym (k .0) ∙ refuses-same e) (whole-has-element p q (k .1))
 
       onRoots : (o : Option Child) → root ≡ o → drained (u .body) (u .rows) (u .end) ≡ Drained.Passes →
-          onward (present Refusal.NoRoot o) (λ (c : Child). onward (wholeOf c) (stringIn room)) ≡ refuses r → WholeRefused r
+          onward (present Refusal.NoRoot o) (λ (c : Child). onward (wholeOf (rowsOf (u .rows)) c) (stringIn room)) ≡ refuses r
+          → WholeRefused r
       onRoots none q p e = subst WholeRefused (refuses-same e) (whole-no-root p q)
-      onRoots (some c) q p e = onText c (wholeOf c) refl p q e
+      onRoots (some c) q p e = onText c (wholeOf (rowsOf (u .rows)) c) refl p q e
 
       onDrain : (x : Drained) → drained (u .body) (u .rows) (u .end) ≡ x →
-          passing x (onward (present Refusal.NoRoot root) (λ (c : Child). onward (wholeOf c) (stringIn room))) ≡ refuses r → WholeRefused r
+          passing x (onward (present Refusal.NoRoot root) (λ (c : Child). onward (wholeOf (rowsOf (u .rows)) c) (stringIn room)))
+          ≡ refuses r → WholeRefused r
       onDrain Drained.Passes p e = onRoots root refl p e
       onDrain Drained.Table p e = subst WholeRefused (refuses-same e) (whole-table (drained-table-is (u .body) (u .rows) (u .end) .0 p))
       onDrain (Drained.IllFormed k c) p e = subst WholeRefused (refuses-same e) (whole-ill-formed p)
 
       back : {n : Refusal} → WholeRefused n
           → passing (drained (u .body) (u .rows) (u .end))
-          (onward (present Refusal.NoRoot root) (λ (c : Child). onward (wholeOf c) (stringIn room))) ≡ refuses n
+          (onward (present Refusal.NoRoot root) (λ (c : Child). onward (wholeOf (rowsOf (u .rows)) c) (stringIn room))) ≡ refuses n
       back (whole-table b) = rw (drained-table-is (u .body) (u .rows) (u .end) .1 b)
       back (whole-ill-formed p) = rw p
       back (whole-no-root p q) = rw (p, q)
-      back (whole-has-element {c = c} p q h) = rw (p, q, element-whole c (inner p q) h)
+      back (whole-has-element {c = c} p q h) = rw (p, q, element-whole (rowsOf (u .rows)) c (inner p q) h)
       back (whole-no-room {text = t} p q w h) = rw (p, q, w) (string-text-refusal room t Refusal.NoRoom .1 (too-long h))

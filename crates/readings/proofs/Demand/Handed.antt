@@ -9,7 +9,7 @@ use lib.Seq.{take-append-le, drop-append-le, drop-append-seam, take-length}
 use Rattle.lists.specs.Every.{Every, none}
 use Rattle.lists.proofs.Every.{every-snoc, every-map}
 use Rattle.refusal.specs.declared.Refusal.{Refusal}
-use Rattle.refusal.specs.Numbers.{number}
+use Rattle.refusal.specs.Numbers.{number, place}
 use Rattle.table.specs.Row.{cut}
 use Rattle.xml.specs.Piece.{ElementPiece}
 use Rattle.document.specs.Scope.{Piece}
@@ -92,7 +92,7 @@ module _ (u : Upload) (sheet : List ℕ) where
         text = λ p. absurd (omega arith);
         piece = λ p. absurd (omega arith);
         group = λ p. absurd (omega arith);
-        failed = λ p. (ap number r, refl);
+        failed = λ p. (ap number r, ap place r);
       }
   source-handed texts (of-piece m x) = piece-handed _ refl (omega arith) x
   source-handed texts (of-group {i = i} {b = b} m g) = group-handed texts i b g

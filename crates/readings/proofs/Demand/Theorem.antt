@@ -4,7 +4,7 @@ use Prim.Native.Nat.{ℕ}
 use mathlib.Core.Path.{_≡_, refl, sym, _∙_, subst}
 use mathlib.Core.Bool.{Bool, true, false}
 use mathlib.Core.List.{List, [], _∷_, _++_, List·Memᴰ, List·Memᴰ·head, List·Memᴰ·tail}
-use mathlib.Core.Option.{Option, none, some, Option·none-ne-some, Option·some-injective}
+use mathlib.Core.Option.{Option, some, Option·none-ne-some, Option·some-injective}
 use Rattle.lists.specs.Tests.{pick}
 use Rattle.lists.proofs.Tests.{false-true}
 use Rattle.lists.specs.Every.{Every}
@@ -92,9 +92,9 @@ module _ (u : Upload) (passes : drained (u .body) (u .rows) (u .end) ≡ Drained
   entries-met name root (met e d k h) c i = inside-met toks e d k h c (rw (level-in (afterEntry name) (after-entry-past name) e d k) at i)
 
   -- a text that is refused is refused with 6
-  only-six : (c : Child) → Met toks c → (r : Refusal) → textOf none c ≡ refuses r → r ≡ Refusal.ElementInText
+  only-six : (v : View) (c : Child) → Met toks c → (r : Refusal) → textOf v c ≡ refuses r → r ≡ Refusal.ElementInText
   unfolding toks
-  only-six c m r e = go (text-met c m) e
+  only-six v c m r e = go (text-met v c m) e
     where
       go : {a : Answer (List ℕ)} → TextOrElement a → a ≡ refuses r → r ≡ Refusal.ElementInText
       go (is-text t) e = given-refused e
@@ -124,7 +124,7 @@ module _ (u : Upload) (passes : drained (u .body) (u .rows) (u .end) ≡ Drained
           children = children-met toks;
           entries = entries-met;
           text = λ c m b e. tt {0};
-          failed = λ c m r e. only-six c m r (rw (w .seen) at e);
+          failed = λ c m r e. only-six (a .opened .seen) c m r e;
           piece = λ c m. record { row = c .start .row; is = rw (w .seen) (piece-of c m) };
         }
 
@@ -179,11 +179,10 @@ module _ (u : Upload) (passes : drained (u .body) (u .rows) (u .end) ≡ Drained
     -- a text that is wanted is refused with 6
     six : (shape : Shape) (a : Asked (SheetOf shape)) → ReadOf u (call .sheet) shape a → (c : Child) → TextWanted (call .settings) shape a c
         → Met toks c → {out : Output} {r : Refusal}
-        → textOf (a .opened .seen .failure) c ≡ refuses r → MayRefuse u call room shape out r
+        → textOf (a .opened .seen) c ≡ refuses r → MayRefuse u call room shape out r
     six shape a w c wanted m {out} {r} e =
-        let first : textOf none c ≡ refuses r = rw (w .seen) at e in
-        let q = only-six c m r first in
-        rw q (element-in-text a c w wanted (rw q at first))
+        let q = only-six (a .opened .seen) c m r e in
+        rw q (element-in-text a c w wanted (rw q at e))
 
     -- a child of which a text is wanted is met
     wanted-met : (shape : Shape) (a : Asked (SheetOf shape)) → ReadOf u (call .sheet) shape a → (c : Child)

@@ -138,10 +138,10 @@ pub failed-texts : Answered ask (
     -- 6
     case (reading (structure []) "<r><a>1</a><b><c/></b></r>" nested-empty 26 scalarsAB lenient 0 enough)
     (answer 0 2 (1 ∷ 0 ∷ 0 ∷ 0 ∷ 0 ∷ 1 ∷ 4 ∷ 1 ∷ 0 ∷ 0 ∷ 6 ∷ 0 ∷ []) "1")
-    -- 7, and the next child is read; strict it is the last that is met, and the refusal keeps it
+    -- 7, with its place as length, and the next child is read; strict it is the last that is met, and the refusal keeps it
     ∷ case (reading (structure []) "<r><a>&</a><b>2</b></r>" two 23 scalarsAB lenient 0 enough)
-    (answer 0 2 (4 ∷ 0 ∷ 0 ∷ 0 ∷ 7 ∷ 0 ∷ 1 ∷ 1 ∷ 0 ∷ 0 ∷ 0 ∷ 1 ∷ []) "2")
-    ∷ case (reading (structure []) "<r><a>&</a><b>2</b></r>" two 23 scalarsAB strict 0 enough) (answer 9 1 (4 ∷ 0 ∷ 0 ∷ 0 ∷ 7 ∷ 0 ∷ []) "")
+    (answer 0 2 (4 ∷ 0 ∷ 0 ∷ 0 ∷ 7 ∷ 6 ∷ 1 ∷ 1 ∷ 0 ∷ 0 ∷ 0 ∷ 1 ∷ []) "2")
+    ∷ case (reading (structure []) "<r><a>&</a><b>2</b></r>" two 23 scalarsAB strict 0 enough) (answer 9 1 (4 ∷ 0 ∷ 0 ∷ 0 ∷ 7 ∷ 6 ∷ []) "")
     -- 8, lenient and strict
     ∷ case (reading (structure []) "<r><a>1</a><b><" second-error 15 scalarsAB lenient 0 enough)
     (answer 0 2 (1 ∷ 0 ∷ 0 ∷ 0 ∷ 0 ∷ 1 ∷ 4 ∷ 1 ∷ 0 ∷ 0 ∷ 8 ∷ 0 ∷ []) "1")
@@ -267,7 +267,7 @@ pub room-for-entries : Answered ask (
     (answer 10 1 (2 ∷ 0 ∷ 0 ∷ 0 ∷ 3 ∷ 8 ∷ []) "")
     -- so does a text that failed
     ∷ case (reading (structure []) "<r><a>&lt </a></r>" one-text4 18 scalarA lenient 0 (room 1 0))
-    (answer 0 1 (4 ∷ 0 ∷ 0 ∷ 0 ∷ 7 ∷ 0 ∷ []) "")
+    (answer 0 1 (4 ∷ 0 ∷ 0 ∷ 0 ∷ 7 ∷ 6 ∷ []) "")
     ∷ case (reading (structure []) "<r><a>&lt </a></r>" one-text4 18 scalarA lenient 0 (room 0 0)) (answer 10 0 [] "")
     -- and "10 as met" comes before 9
     ∷ case (reading (structure []) "<r><a>1</a><b>2</b></x>" two 23 scalarA strict 0 (room 0 0)) (answer 10 0 [] "")

@@ -72,9 +72,14 @@ abbrev pub ask : Question → Told
 ask (reading s body table final sheet settings depth room) =
     told (read s (uploaded (ascii body) table final) (calling sheet settings (shape depth)) room)
 
--- an answer: the number, the count, the six numbers of each entry, and the text bytes
+-- an answer: the number, the place beside it, the count, the six numbers of each entry, and the text bytes
+abbrev pub answerAt : ℕ → ℕ → ℕ → List ℕ → String → Told
+answerAt number place count entries texts =
+    record { number = number; place = place; count = count; entries = entries; texts = ascii texts }
+
+-- one that is not 7: the place is 0
 abbrev pub answer : ℕ → ℕ → List ℕ → String → Told
-answer number count entries texts = record { number = number; count = count; entries = entries; texts = ascii texts }
+answer number count entries texts = answerAt number 0 count entries texts
 
 pub data Case (Q A : Type 0) : Type 0 where
   case : Q → A → Case Q A

@@ -4,7 +4,7 @@ use mathlib.Core.Path.{refl}
 use mathlib.Core.List.{[], _∷_, _++_}
 use Rattle.readings.specs.Shape.{list, map, strings}
 use Rattle.readings.proofs.Examples.Asking.{reading, ask, answer, case, Answered, lenient, strict, itemNames, room, enough, named}
-use Rattle.readings.proofs.Examples.Asking.{keyed}
+use Rattle.readings.proofs.Examples.Asking.{answerAt, keyed}
 use Rattle.readings.proofs.Examples.Tables.{empty, one, two, nested, nested-text, nested-empty, two-unclosed, comment, prefixed-item}
 use Rattle.readings.proofs.Examples.Tables.{attribute-second, second-error, entry1, entry1-closed, entry1-names, entry1-prefixed}
 use Rattle.readings.proofs.Examples.Tables.{entry1-fields, entry1-empty, entry1-nested, entry1-error, entry2, entry2-prefixed}
@@ -89,7 +89,8 @@ pub string-lists : Answered ask (
     -- an item that is not asked for is not read
     ∷ case (reading strings "<r><a>1</a><b><c/></b></r>" nested-empty 26 (5 ∷ named "a") itemNames 0 enough)
     (answer 0 1 (1 ∷ 0 ∷ 0 ∷ 0 ∷ 0 ∷ 1 ∷ []) "1")
-    ∷ case (reading strings "<r><a>1</a><b>&</b></r>" two 23 (0 ∷ []) lenient 0 enough) (answer 7 1 (1 ∷ 0 ∷ 0 ∷ 0 ∷ 0 ∷ 1 ∷ []) "1")
+    ∷ case (reading strings "<r><a>1</a><b>&</b></r>" two 23 (0 ∷ []) lenient 0 enough)
+    (answerAt 7 14 1 (1 ∷ 0 ∷ 0 ∷ 0 ∷ 0 ∷ 1 ∷ []) "1")
     -- 8, lenient; and strict as met, before 9
     ∷ case (reading strings "<r><a>1</a><b><" second-error 15 (0 ∷ []) lenient 0 enough) (answer 8 1 (1 ∷ 0 ∷ 0 ∷ 0 ∷ 0 ∷ 1 ∷ []) "1")
     ∷ case (reading strings "<r><a>1</a><b><" second-error 15 (0 ∷ []) strict 0 enough) (answer 8 1 (1 ∷ 0 ∷ 0 ∷ 0 ∷ 0 ∷ 1 ∷ []) "1")
@@ -176,8 +177,8 @@ pub map-refusals : Answered ask (
     (answer 6 1 (1 ∷ 0 ∷ 0 ∷ 1 ∷ 1 ∷ 1 ∷ []) "12")
     ∷ case (reading map "<m><e><k><w/></k></e></m>" entry1-nested 25 keyed lenient 0 enough) (answer 6 0 [] "")
     -- 7, where the entry has no key; strict the same, before 9
-    ∷ case (reading map "<m><e><v>&</v></e></m>" nested-text 22 keyed lenient 0 enough) (answer 7 0 [] "")
-    ∷ case (reading map "<m><e><v>&</v></e></m>" nested-text 22 keyed strict 0 enough) (answer 7 0 [] "")
+    ∷ case (reading map "<m><e><v>&</v></e></m>" nested-text 22 keyed lenient 0 enough) (answerAt 7 9 0 [] "")
+    ∷ case (reading map "<m><e><v>&</v></e></m>" nested-text 22 keyed strict 0 enough) (answerAt 7 9 0 [] "")
     -- 8 and 9
     ∷ case (reading map "<m><e><k><" entry1-error 10 keyed lenient 0 enough) (answer 8 0 [] "")
     ∷ case (reading map "<m><e><k></v></e></m>" nested 21 keyed strict 0 enough) (answer 9 0 [] "")
@@ -198,7 +199,8 @@ pub map-refusals : Answered ask (
     (answer 0 1 (2 ∷ 0 ∷ 0 ∷ 1 ∷ 14 ∷ 8 ∷ []) "1")
     ∷ case (reading map "<m><e><k>1</k><v>2</v></e></m>" entry1 30 (30 ∷ named "k" ++ named "v") lenient 0 (room 1 0)) (answer 10 0 [] "")
     -- 7 before 10, and 10 before 9
-    ∷ case (reading map "<m><e><k>1</k><v>2</v><v>3</v><k>&</k></e></m>" entry1-fields 46 keyed lenient 0 (room 0 0)) (answer 7 0 [] "")
+    ∷ case (reading map "<m><e><k>1</k><v>2</v><v>3</v><k>&</k></e></m>" entry1-fields 46 keyed lenient 0 (room 0 0))
+    (answerAt 7 33 0 [] "")
     ∷ case (reading map "<m><e><k>1</k><v>2</v></e></x>" entry1 30 keyed strict 0 (room 0 0)) (answer 10 0 [] "")
     -- 1 (no Rust reference), 2, 3, 4
     ∷ case (reading map "<r/>" (1 ∷ []) 4 (32 ∷ []) strict 128 enough) (answer 1 0 [] "")

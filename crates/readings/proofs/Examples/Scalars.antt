@@ -78,8 +78,8 @@ pub integers-of-bodies : Answered askInteger (
     ∷ case (scalar "<r><a/>1</r>" element-text 12 lenient 0) (refuses Refusal.ElementInText)
     ∷ case (scalar "<r>1<a/></r>" text-element 12 lenient 0) (gives (pos 1))
     -- 7, lenient and strict
-    ∷ case (scalar "<r>&</r>" text1 8 lenient 0) (refuses Refusal.BadReference)
-    ∷ case (scalar "<r>&</r>" text1 8 strict 0) (refuses Refusal.BadReference)
+    ∷ case (scalar "<r>&</r>" text1 8 lenient 0) (refuses (Refusal.BadReference 3))
+    ∷ case (scalar "<r>&</r>" text1 8 strict 0) (refuses (Refusal.BadReference 3))
     -- 8, lenient and strict
     ∷ case (scalar "<r><" error 4 lenient 0) (refuses Refusal.TokenError)
     ∷ case (scalar "<r><" error 4 strict 0) (refuses Refusal.TokenError)
@@ -120,7 +120,7 @@ pub strings-that-fit : Answered (askString 3) (
     -- one byte too many
     ∷ case (scalar "<r>abcd</r>" text4 11 lenient 0) (refuses Refusal.NoRoom)
     -- 7 and 9 go before 10
-    ∷ case (scalar "<r>abc&</r>" text4 11 lenient 0) (refuses Refusal.BadReference)
+    ∷ case (scalar "<r>abc&</r>" text4 11 lenient 0) (refuses (Refusal.BadReference 6))
     ∷ case (scalar "<r>abcd</x>" text4 11 strict 0) (refuses Refusal.IllFormed)
     ∷ [])
 unfolding computed
@@ -228,7 +228,7 @@ pub numbers :
     ∷ Refusal.NoRoot
     ∷ Refusal.RootName
     ∷ Refusal.ElementInText
-    ∷ Refusal.BadReference
+    ∷ Refusal.BadReference 3
     ∷ Refusal.TokenError
     ∷ Refusal.IllFormed
     ∷ Refusal.NoRoom

@@ -32,15 +32,16 @@ use Rattle.readings.specs.Structure.{attributeOf}
 use Rattle.readings.specs.Collection.{afterEntry, entriesOf}
 use Rattle.readings.proofs.Conditions.Answers.{given-refused, gives-same}
 use Rattle.readings.proofs.Conditions.Opening.{OpenedAs, AskedAs}
+use Rattle.readings.proofs.Conditions.Place.{text-tells, told-within}
 use Rattle.readings.specs.Shape.{Shape, structure, list, map, strings, SheetOf, sheetOf, read}
 use Rattle.readings.proofs.Laws.Fuel.{after-entry-shortens}
 use Rattle.readings.proofs.Laws.Few.{index-below, FewGroups}
 use Rattle.readings.proofs.Laws.Siblings.{group-short}
 use Rattle.readings.proofs.Laws.Inside.{root-piece-inside}
-use Rattle.readings.proofs.Laws.Fits.{EntryFits, Fits, FewBytes, PieceFits, fits-kept}
+use Rattle.readings.proofs.Laws.Fits.{EntryFits, Fits, FewBytes, PlaceFits, PieceFits, fits-kept}
 use Rattle.readings.proofs.Plans.Readings.{mostMet, mostGroups, output-carried, may-stop, plan-made, askedPlan}
 use Rattle.readings.proofs.Plans.Made.{made-kept}
-use Rattle.readings.proofs.Plans.Sources.{Anything, Sources, StructureSources, ShapeSources}
+use Rattle.readings.proofs.Plans.Sources.{Sources, StructureSources, ShapeSources}
 use Rattle.readings.proofs.Plans.Placed.{OpenedIn, opened-in, placed-sources}
 
 -- ---- what there is to be written
@@ -74,16 +75,17 @@ module _ {u : Upload} {strict : Bool} {o : Opened} (w : OpenedAs u strict o) whe
   values : Every (ShortValue (length (u .body))) (toksOf (u .body) (o .seen .rows))
   values = values-short (u .body) (o .seen .rows)
 
-  fits-sources : Sources (Placed (toksOf (u .body) (o .seen .rows))) (FewBytes mostBytes) Anything (PieceFits (u .body)) (u .body) o
+  fits-sources :
+      Sources (Placed (toksOf (u .body) (o .seen .rows))) (FewBytes mostBytes) (PlaceFits (u .body)) (PieceFits (u .body)) (u .body) o
   fits-sources =
       placed-sources seen
       (λ c h b e. omega (
         arith,
         few-bytes,
-        given-short (text-short (length (u .body)) (o .seen .failure) c (rw (h .inner .at) at (every-dropped (c .inner .row) values))) b
+        given-short (text-short (length (u .body)) (o .seen) c (rw (h .inner .at) at (every-dropped (c .inner .row) values))) b
             e,
       ))
-      (λ c h r e. tt {0}) (λ c h. piece-inside (seen .view) c h .within)
+      (λ c h r e. told-within u r (text-tells u w c h r e)) (λ c h. piece-inside (seen .view) c h .within)
 
   -- the rows bound the children
   few-rows : length (o .root .inner .rest) ≤ mostRows
@@ -150,7 +152,7 @@ entry-small body t h few e w =
     span (suc zero) q l m = omega (arith, h, w .text q)
     span (suc (suc zero)) q l m = omega (arith, few, w .piece q)
     span (suc (suc (suc zero))) q l m = omega (arith, h, w .group q)
-    span (suc (suc (suc (suc zero)))) q l m = let f = w .failed q in omega (arith, f .0, f .1)
+    span (suc (suc (suc (suc zero)))) q l m = let f = w .failed q in omega (arith, few, f .0, f .1)
     span (suc (suc (suc (suc (suc k))))) q l m = absurd (omega (arith, m))
 
 none-small : (body : List ℕ) → Small body nothing

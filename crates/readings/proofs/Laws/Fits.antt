@@ -8,13 +8,13 @@ use lib.ListN.{length, length-append}
 use Rattle.lists.specs.Every.{Every, none}
 use Rattle.lists.proofs.Every.{every-snoc, every-map}
 use Rattle.refusal.specs.declared.Refusal.{Refusal}
-use Rattle.refusal.specs.Numbers.{number}
+use Rattle.refusal.specs.Numbers.{number, place}
 use Rattle.table.specs.Rules.{mostBytes}
 use Rattle.document.specs.Scope.{Piece}
 use Rattle.sheet.specs.Sheet.{mostMembers}
 use Rattle.readings.specs.Output.{Entry, textKind, pieceKind, groupKind, failedKind, Room, Output, appended}
 use Rattle.readings.proofs.Plans.Made.{Keeps}
-use Rattle.readings.proofs.Plans.Sources.{Source, of-text, of-failed, of-piece, of-group, of-key-text, of-key-piece, Anything}
+use Rattle.readings.proofs.Plans.Sources.{Source, of-text, of-failed, of-piece, of-group, of-key-text, of-key-piece}
 
 -- ---- what is said of an output after n steps
 -- the spans of an entry, where there are so many text bytes
@@ -25,7 +25,7 @@ pub record EntryFits (body : List ℕ) (texts : ℕ) (e : Entry) : Type 0 where
   pub text : e .kind ≡ textKind → e .start + e .len ≤ texts
   pub piece : e .kind ≡ pieceKind → e .start + e .len ≤ length body
   pub group : e .kind ≡ groupKind → e .start + e .len ≤ texts
-  pub failed : e .kind ≡ failedKind → (e .start ≤ 13) × (e .len ≡ 0)
+  pub failed : e .kind ≡ failedKind → (e .start ≤ 13) × (e .len ≤ length body)
 
 -- the most that one step writes: a key and a value, or a group
 abbrev pub mostWritten : ℕ
@@ -42,7 +42,7 @@ refusal-small Refusal.Depth = omega arith
 refusal-small Refusal.NoRoot = omega arith
 refusal-small Refusal.RootName = omega arith
 refusal-small Refusal.ElementInText = omega arith
-refusal-small Refusal.BadReference = omega arith
+refusal-small (Refusal.BadReference at) = omega arith
 refusal-small Refusal.TokenError = omega arith
 refusal-small Refusal.IllFormed = omega arith
 refusal-small Refusal.NoRoom = omega arith
@@ -52,6 +52,10 @@ refusal-small Refusal.NoSuchElement = omega arith
 
 abbrev pub FewBytes : ℕ → List ℕ → Type 0
 FewBytes most b = length b ≤ most
+
+-- the place of a refusal lies in the body
+abbrev pub PlaceFits : List ℕ → Refusal → Type 0
+PlaceFits body r = place r ≤ length body
 
 abbrev pub PieceFits : List ℕ → Piece → Type 0
 PieceFits body p = p .start + p .len ≤ length body
@@ -121,7 +125,7 @@ module _ (body : List ℕ) where
       }
 
   failed-fits : {t : ℕ} (e : Entry) → e .kind ≡ failedKind → e .member < mostMembers → e .keyStart + e .keyLen ≤ t
-      → (e .start ≤ 13) × (e .len ≡ 0) → EntryFits body t e
+      → (e .start ≤ 13) × (e .len ≤ length body) → EntryFits body t e
   failed-fits e k m key h =
       record {
         kind = (omega (arith, k), omega (arith, k));
@@ -135,14 +139,15 @@ module _ (body : List ℕ) where
 
   -- members of a sheet, texts and pieces of the body, and groups
   abbrev pub FitSource : (ℕ → Entry) → List ℕ → Type 0
-  FitSource = Source (λ (i : ℕ). i < mostMembers) (FewBytes mostBytes) Anything (λ (i : ℕ). FewBytes (mostBytes + 17)) (PieceFits body)
+  FitSource =
+      Source (λ (i : ℕ). i < mostMembers) (FewBytes mostBytes) (PlaceFits body) (λ (i : ℕ). FewBytes (mostBytes + 17)) (PieceFits body)
 
   write-fits : (n : ℕ) (out : Output) {entry : ℕ → Entry} {bytes : List ℕ} → FitSource entry bytes → Fits body n out
       → Fits body (suc n) (appended entry bytes out)
   write-fits n out (of-text {b = b} m t) w = more n out b _ w (omega (arith, t)) (text-fits _ refl m (omega arith) (omega arith))
   write-fits n out (of-piece m h) w = more n out [] _ w (omega arith) (piece-fits _ refl m (omega arith) h)
   write-fits n out (of-group {b = b} m t) w = more n out b _ w (omega (arith, t)) (group-fits _ refl m (omega arith) (omega arith))
-  write-fits n out (of-failed {r = r} m h) w = more n out [] _ w (omega arith) (failed-fits _ refl m (omega arith) (refusal-small r, refl))
+  write-fits n out (of-failed {r = r} m h) w = more n out [] _ w (omega arith) (failed-fits _ refl m (omega arith) (refusal-small r, h))
   write-fits n out (of-key-text {k = y} {b = b} s t) w =
       more n out (y ++ b) _ w (omega (arith, s, t, length-append y b))
       (text-fits _ refl (omega arith) (omega (arith, length-append y b)) (omega (arith, length-append y b)))

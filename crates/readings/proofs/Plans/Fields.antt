@@ -19,19 +19,19 @@ use Rattle.readings.specs.Demand.{TextField, is-key, is-value}
 module _ (body : List ℕ) (v : View) (m : MapSheet) (all : List Child) where
   pub data KeyFrom : Option (List ℕ) → Type 0 where
     no-key : KeyFrom none
-    key : {c : Child} {k : List ℕ} → List·Memᴰ c all → textOf (v .failure) c ≡ gives k → KeyFrom (some k)
+    key : {c : Child} {k : List ℕ} → List·Memᴰ c all → textOf v c ≡ gives k → KeyFrom (some k)
 
   pub data ValueFrom : Option MapValue → Type 0 where
     no-value : ValueFrom none
-    text-value : {c : Child} {t : List ℕ} → List·Memᴰ c all → textOf (v .failure) c ≡ gives t → ValueFrom (some (text t))
+    text-value : {c : Child} {t : List ℕ} → List·Memᴰ c all → textOf v c ≡ gives t → ValueFrom (some (text t))
     piece-value : {c : Child} → List·Memᴰ c all → ValueFrom (some (piece (pieceOf body v c)))
 
   pub data FieldsFrom : Answer Fields → Type 0 where
     fields : {f : Fields} → KeyFrom (f .key) → ValueFrom (f .value) → FieldsFrom (gives f)
-    no-text : {c : Child} {r : Refusal} → List·Memᴰ c all → TextField m c → textOf (v .failure) c ≡ refuses r → FieldsFrom (refuses r)
+    no-text : {c : Child} {r : Refusal} → List·Memᴰ c all → TextField m c → textOf v c ≡ refuses r → FieldsFrom (refuses r)
 
   key-from : (f : Fields) → ValueFrom (f .value) → (c : Child) → List·Memᴰ c all → TextField m c → (a : Answer (List ℕ))
-      → textOf (v .failure) c ≡ a
+      → textOf v c ≡ a
       → FieldsFrom (onward a (λ (t : List ℕ). gives (record { key = some t; value = f .value })))
   key-from f x c i w (gives k) e = fields (key i e) x
   key-from f x c i w (refuses r) e = no-text i w e
@@ -39,9 +39,9 @@ module _ (body : List ℕ) (v : View) (m : MapSheet) (all : List Child) where
   value-from : (f : Fields) → KeyFrom (f .key) → (c : Child) → List·Memᴰ c all → (aggregate : Bool) → (aggregate ≡ false → TextField m c)
       → FieldsFrom (onward (valueIn body v aggregate c) (λ (y : MapValue). gives (record { key = f .key; value = some y })))
   value-from f k c i true w = fields k (piece-value i)
-  value-from f k c i false w = go (textOf (v .failure) c) refl
+  value-from f k c i false w = go (textOf v c) refl
     where
-      go : (a : Answer (List ℕ)) → textOf (v .failure) c ≡ a
+      go : (a : Answer (List ℕ)) → textOf v c ≡ a
           → FieldsFrom (onward (onward a (λ (t : List ℕ). gives (text t)))
           (λ (y : MapValue). gives (record { key = f .key; value = some y })))
       go (gives t) e = fields k (text-value i e)
@@ -50,7 +50,7 @@ module _ (body : List ℕ) (v : View) (m : MapSheet) (all : List Child) where
   field-from : (f : Fields) → KeyFrom (f .key) → ValueFrom (f .value) → (c : Child) → List·Memᴰ c all → FieldsFrom (readField body v m f c)
   unfolding readField
   field-from f k x c i =
-      pick-cases FieldsFrom (sameb (c .start .name .local) (keyName m)) _ _ (λ e. key-from f x c i (is-key e) (textOf (v .failure) c) refl)
+      pick-cases FieldsFrom (sameb (c .start .name .local) (keyName m)) _ _ (λ e. key-from f x c i (is-key e) (textOf v c) refl)
       (λ e. pick-cases FieldsFrom (sameb (c .start .name .local) (valueName m)) _ _
       (λ h. value-from f k c i (valueAggregate m) (is-value e h)) (λ h. fields {f = f} k x))
 

@@ -48,8 +48,8 @@ entries-placed all name c p = every-in (level-in-placed all (afterEntry name) (a
 
 -- what there is to be written, of such children
 pub placed-sources : {u : Upload} {o : Opened} {T : List ℕ → Type 0} {F : Refusal → Type 0} {P : Piece → Type 0} → OpenedIn u o
-    → ((c : Child) → Placed (toksOf (u .body) (o .seen .rows)) c → (b : List ℕ) → textOf (o .seen .failure) c ≡ gives b → T b)
-    → ((c : Child) → Placed (toksOf (u .body) (o .seen .rows)) c → (r : Refusal) → textOf (o .seen .failure) c ≡ refuses r → F r)
+    → ((c : Child) → Placed (toksOf (u .body) (o .seen .rows)) c → (b : List ℕ) → textOf (o .seen) c ≡ gives b → T b)
+    → ((c : Child) → Placed (toksOf (u .body) (o .seen .rows)) c → (r : Refusal) → textOf (o .seen) c ≡ refuses r → F r)
     → ((c : Child) → Placed (toksOf (u .body) (o .seen .rows)) c → P (pieceOf (u .body) (o .seen) c))
     → Sources (Placed (toksOf (u .body) (o .seen .rows))) T F P (u .body) o
 placed-sources {u} {o = o} w text failed piece =

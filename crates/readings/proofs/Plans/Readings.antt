@@ -126,7 +126,7 @@ pub record MayStop (settings : Settings) (depth : ShapeDepth) (Here : Child → 
     (a : Asked (SheetOf shape)) : Type 0 where
   pub illFormed : a .opened .seen .illFormed ≡ true → S Refusal.IllFormed
   pub rootName : RootDiffers settings depth shape a → S Refusal.RootName
-  pub text : (c : Child) → Here c → TextWanted settings shape a c → (r : Refusal) → textOf (a .opened .seen .failure) c ≡ refuses r → S r
+  pub text : (c : Child) → Here c → TextWanted settings shape a c → (r : Refusal) → textOf (a .opened .seen) c ≡ refuses r → S r
 
 -- nothing is said of where it stops
 pub may-stop : {Here : Child → Type 0} (settings : Settings) (depth : ShapeDepth) (shape : Shape) (a : Asked (SheetOf shape))
@@ -136,11 +136,11 @@ may-stop settings depth shape a = record { illFormed = λ e. tt {0}; rootName = 
 module _ {Here : Child → Type 0} {M : ℕ → Type 0} {T : List ℕ → Type 0} {F : Refusal → Type 0} {G : ℕ → List ℕ → Type 0}
     {P : Piece → Type 0} {S : Refusal → Type 0} {body : List ℕ} where
   text-made : {o : Opened} → Sources Here T F P body o → M 0 → (c : Child) → Here c
-      → ((r : Refusal) → textOf (o .seen .failure) c ≡ refuses r → S r)
-      → Made (Source M T F G P) S 1 (textPlan (textOf (o .seen .failure) c))
-  text-made {o} x m c h stops = go (textOf (o .seen .failure) c) refl
+      → ((r : Refusal) → textOf (o .seen) c ≡ refuses r → S r)
+      → Made (Source M T F G P) S 1 (textPlan (textOf (o .seen) c))
+  text-made {o} x m c h stops = go (textOf (o .seen) c) refl
     where
-      go : (a : Answer (List ℕ)) → textOf (o .seen .failure) c ≡ a → Made (Source M T F G P) S 1 (textPlan a)
+      go : (a : Answer (List ℕ)) → textOf (o .seen) c ≡ a → Made (Source M T F G P) S 1 (textPlan a)
       go (gives b) e = made-put (of-text m (x .text c h b e)) made-end
       go (refuses r) e = made-stop (stops r e)
 
@@ -152,9 +152,9 @@ module _ {Here : Child → Type 0} {M : ℕ → Type 0} {T : List ℕ → Type 0
       pick-all (Made (Source M T F G P) S 1) (m .member .aggregate) _ _
       (pick-all (Made (Source M T F G P) S 1) (m .member .flattened) _ _ made-end
       (made-put (of-piece (f m refl) (x .piece c h)) made-end))
-      (go (textOf (o .seen .failure) c) refl)
+      (go (textOf (o .seen) c) refl)
     where
-      go : (a : Answer (List ℕ)) → textOf (o .seen .failure) c ≡ a → Made (Source M T F G P) S 1 (scalarPlan (m .index) a)
+      go : (a : Answer (List ℕ)) → textOf (o .seen) c ≡ a → Made (Source M T F G P) S 1 (scalarPlan (m .index) a)
       go (gives b) e = made-put (of-text (f m refl) (x .text c h b e)) made-end
       go (refuses r) e = made-put (of-failed (f m refl) (x .failed c h r e)) made-end
 

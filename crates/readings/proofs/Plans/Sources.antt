@@ -36,8 +36,8 @@ pub record Sources (Here : Child → Type 0) (T : List ℕ → Type 0) (F : Refu
   pub root : Here (o .root)
   pub children : (c : Child) → Here c → (x : Child) → List·Memᴰ x (childrenOf c) → Here x
   pub entries : (name : Option (List ℕ)) (c : Child) → Here c → (x : Child) → List·Memᴰ x (entriesOf name c) → Here x
-  pub text : (c : Child) → Here c → (b : List ℕ) → textOf (o .seen .failure) c ≡ gives b → T b
-  pub failed : (c : Child) → Here c → (r : Refusal) → textOf (o .seen .failure) c ≡ refuses r → F r
+  pub text : (c : Child) → Here c → (b : List ℕ) → textOf (o .seen) c ≡ gives b → T b
+  pub failed : (c : Child) → Here c → (r : Refusal) → textOf (o .seen) c ≡ refuses r → F r
   pub piece : (c : Child) → Here c → P (pieceOf body (o .seen) c)
 
 -- of a structure besides

@@ -13,11 +13,11 @@ enum-known-n c = search needs
 fill-requires : tie.Need-fill-requires
 fill-requires c κs = search answer-laws
 
+enum-known-at : tie.Need-enum-known-at
+enum-known-at c = search needs
+
 enum-told : tie.Need-enum-told
 enum-told c = search needs
-
-enum-told-2 : tie.Need-enum-told-2
-enum-told-2 c = search needs
 
 same-length : tie.Need-same-length
 same-length c = search needs
@@ -41,8 +41,8 @@ replace-spec =
     measure-requires
     enum-known-n
     fill-requires
+    enum-known-at
     enum-told
-    enum-told-2
     same-length
     returns
     returns-2

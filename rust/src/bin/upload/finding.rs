@@ -74,7 +74,7 @@ fn cause(error: &CheckError) -> &'static str {
         (_, Some(Cause::Mismatched)) => "mismatched",
         (_, Some(Cause::Unclosed)) => "unclosed",
         (_, Some(Cause::Repeated)) => "repeated",
-        (_, Some(Cause::Reference)) => "reference",
+        (_, Some(Cause::Reference { .. })) => "reference",
         (CheckError::Empty, _) => "empty",
         (CheckError::NotUtf8 { .. }, _) => "not-utf-8",
         (CheckError::NoElement { .. }, _) => "no-element",

@@ -25,6 +25,14 @@ impl Object {
     pub fn add(&mut self, key: &'static str, value: Json) {
         self.0.push((key, value));
     }
+
+    /// The byte, line and column of a place; null where there is none.
+    pub fn add_place(&mut self, place: Option<Place>) {
+        let part = |part: fn(Place) -> usize| Json::number(place.map(part));
+        self.add("byte", part(|place| place.byte));
+        self.add("line", part(|place| place.line));
+        self.add("column", part(|place| place.column));
+    }
 }
 
 impl Json {
@@ -110,15 +118,12 @@ pub fn read(source: &Source, body: &[u8], finding: &Finding, level: Option<&Leve
 
 fn found(source: &Source, finding: &Finding) -> Object {
     let mut object = Object::default();
-    let place = |part: fn(&Place) -> usize| Json::number(finding.place.as_ref().map(part));
     object.add("file", Json::bytes(source.name()));
     object.add("passes", Json::Bool(finding.passes()));
     object.add("number", Json::Number(finding.number as usize));
     object.add("cause", Json::text(finding.cause));
     object.add("row", Json::number(finding.row));
-    object.add("byte", place(|place| place.byte));
-    object.add("line", place(|place| place.line));
-    object.add("column", place(|place| place.column));
+    object.add_place(finding.place);
     object.add("message", Json::Text(finding.message.clone()));
     object
 }

@@ -10,6 +10,12 @@ walk-requires c κs = search view-laws
 enum-known-row : tie.Need-enum-known-row
 enum-known-row c = search needs
 
+cause-place-requires : tie.Need-cause-place-requires
+cause-place-requires c κs = search view-laws
+
+cast-failure-of : tie.Need-cast-failure-of
+cast-failure-of c = search view-laws
+
 failure-of-requires : tie.Need-failure-of-requires
 failure-of-requires c κs = search needs
 
@@ -43,6 +49,8 @@ strict-view-spec =
     (tie.spec
     walk-requires
     enum-known-row
+    cause-place-requires
+    cast-failure-of
     failure-of-requires
     position-at-requires
     enum-told

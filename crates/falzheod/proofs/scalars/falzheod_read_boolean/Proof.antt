@@ -10,12 +10,12 @@ settings-by-requires c κs = search needs
 read-boolean-requires : tie.Need-read-boolean-requires
 read-boolean-requires c κs = search needs
 
-give-boolean-requires : tie.Need-give-boolean-requires
-give-boolean-requires c κs = search needs
+give-read-boolean-requires : tie.Need-give-read-boolean-requires
+give-read-boolean-requires c κs = search needs
 
 returns : tie.Need-returns
 returns c = search flag-laws
 
 pub falzheod-read-boolean-spec : {M : Type 1} → statement M
 falzheod-read-boolean-spec =
-    tie.close (tie.spec settings-by-requires read-boolean-requires give-boolean-requires returns)
+    tie.close (tie.spec settings-by-requires read-boolean-requires give-read-boolean-requires returns)

@@ -10,12 +10,12 @@ settings-by-requires c κs = search needs
 read-integer-requires : tie.Need-read-integer-requires
 read-integer-requires c κs = search needs
 
-give-integer-requires : tie.Need-give-integer-requires
-give-integer-requires c κs = search needs
+give-read-integer-requires : tie.Need-give-read-integer-requires
+give-read-integer-requires c κs = search needs
 
 returns : tie.Need-returns
 returns c = search flag-laws
 
 pub falzheod-read-integer-spec : {M : Type 1} → statement M
 falzheod-read-integer-spec =
-    tie.close (tie.spec settings-by-requires read-integer-requires give-integer-requires returns)
+    tie.close (tie.spec settings-by-requires read-integer-requires give-read-integer-requires returns)

@@ -10,8 +10,8 @@ settings-by-requires c κs = search needs
 read-string-requires : tie.Need-read-string-requires
 read-string-requires c κs = search needs
 
-give-length-requires : tie.Need-give-length-requires
-give-length-requires c κs = search needs
+give-read-length-requires : tie.Need-give-read-length-requires
+give-read-length-requires c κs = search needs
 
 same-length : tie.Need-same-length
 same-length c = search needs
@@ -22,4 +22,4 @@ returns c = search flag-laws
 pub falzheod-read-string-spec : {M : Type 1} → statement M
 falzheod-read-string-spec =
     tie.close
-    (tie.spec settings-by-requires read-string-requires give-length-requires same-length returns)
+    (tie.spec settings-by-requires read-string-requires give-read-length-requires same-length returns)

@@ -16,10 +16,10 @@ read-requires c κs = search needs
 read-pieces-requires : tie.Need-read-pieces-requires
 read-pieces-requires c κs = (
   import-passed _ _ _ (c .before .before .before .before .before .before .before .before .before .before .before .before .before .before
-      .falzheod-drain .ensures) (search needs),
+      .falzheod-drain .ensures .0) (search needs),
   import-pieces (c .before .before .before .before .before .before .before .before .read .ensures .1)
       (c .before .before .before .before .before .before .before .before .before .before .before .before .before .before .falzheod-drain
-      .ensures) (search needs),
+      .ensures .0) (search needs),
 )
 
 same-length : tie.Need-same-length

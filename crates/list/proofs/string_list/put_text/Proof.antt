@@ -7,11 +7,14 @@ use Rattle.list.proofs.string_list.put_text.Tie as tie
 enum-known-txt : tie.Need-enum-known-txt
 enum-known-txt c = search needs
 
+field-requires : tie.Need-field-requires
+field-requires c κs = (search put-laws, search put-laws)
+
 span-requires : tie.Need-span-requires
 span-requires c κs = search put-laws
 
 write-text-requires : tie.Need-write-text-requires
-write-text-requires c κs = search put-laws
+write-text-requires c κs = (search put-laws, search put-laws)
 
 enum-told : tie.Need-enum-told
 enum-told c = search needs
@@ -20,7 +23,7 @@ slice-aggregate-write-text : tie.Need-slice-aggregate-write-text
 slice-aggregate-write-text c = search needs
 
 write-text-requires-2 : tie.Need-write-text-requires-2
-write-text-requires-2 c κs = search needs
+write-text-requires-2 c κs = (search put-laws, search put-laws)
 
 enum-known-txt-2 : tie.Need-enum-known-txt-2
 enum-known-txt-2 c = search needs
@@ -51,6 +54,7 @@ put-text-spec =
     tie.close
     (tie.spec
     enum-known-txt
+    field-requires
     span-requires
     write-text-requires
     enum-told

@@ -13,14 +13,14 @@ abbrev μ-loop : tie.MeasureT-loop
 loop-holds : tie.Need-loop-holds Inv-loop μ-loop
 loop-holds c = search needs
 
-number-or-requires : tie.Need-number-or-requires Inv-loop μ-loop
-number-or-requires c κs = search needs
+mul-agrees : tie.Need-mul-agrees Inv-loop μ-loop
+mul-agrees c = search needs
 
-mul-if1 : tie.Need-mul-if1 Inv-loop μ-loop
-mul-if1 c = search needs
+element-copy-out-agrees : tie.Need-element-copy-out-agrees Inv-loop μ-loop
+element-copy-out-agrees c = search needs
 
-element-copy-out-if1 : tie.Need-element-copy-out-if1 Inv-loop μ-loop
-element-copy-out-if1 c = search needs
+agrees-requires : tie.Need-agrees-requires Inv-loop μ-loop
+agrees-requires c κs = search needs
 
 returns : tie.Need-returns Inv-loop μ-loop
 returns c = search needs
@@ -44,9 +44,9 @@ holds-numbers-spec =
     Inv-loop
     μ-loop
     loop-holds
-    number-or-requires
-    mul-if1
-    element-copy-out-if1
+    mul-agrees
+    element-copy-out-agrees
+    agrees-requires
     returns
     add-i
     loop-less

@@ -10,8 +10,11 @@ enum-known-text c = search needs
 span-requires : tie.Need-span-requires
 span-requires c κs = search boolean-at-laws
 
+field-requires : tie.Need-field-requires
+field-requires c κs = (search boolean-at-laws, search needs)
+
 boolean-in-requires : tie.Need-boolean-in-requires
-boolean-in-requires c κs = search needs
+boolean-in-requires c κs = search boolean-at-laws
 
 enum-told : tie.Need-enum-told
 enum-told c = search needs
@@ -34,6 +37,7 @@ boolean-at-spec =
     (tie.spec
     enum-known-text
     span-requires
+    field-requires
     boolean-in-requires
     enum-told
     enum-known-text-2

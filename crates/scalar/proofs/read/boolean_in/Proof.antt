@@ -25,11 +25,14 @@ part-boolean-of-end c = search boolean-in-laws
 boolean-of-requires : tie.Need-boolean-of-requires
 boolean-of-requires c κs = search needs
 
+enum-known-at : tie.Need-enum-known-at
+enum-known-at c = search needs
+
+bad-at-requires : tie.Need-bad-at-requires
+bad-at-requires c κs = search boolean-in-laws
+
 enum-told : tie.Need-enum-told
 enum-told c = search needs
-
-enum-told-2 : tie.Need-enum-told-2
-enum-told-2 c = search needs
 
 returns : tie.Need-returns
 returns c = search boolean-in-laws
@@ -51,8 +54,9 @@ boolean-in-spec =
     part-boolean-of-start
     part-boolean-of-end
     boolean-of-requires
+    enum-known-at
+    bad-at-requires
     enum-told
-    enum-told-2
     returns
     returns-2
     returns-3)

@@ -10,6 +10,9 @@ enum-known-text c = search needs
 span-requires : tie.Need-span-requires
 span-requires c κs = search integer-at-laws
 
+field-requires : tie.Need-field-requires
+field-requires c κs = (search integer-at-laws, search needs)
+
 integer-in-requires : tie.Need-integer-in-requires
 integer-in-requires c κs = search integer-at-laws
 
@@ -34,6 +37,7 @@ integer-at-spec =
     (tie.spec
     enum-known-text
     span-requires
+    field-requires
     integer-in-requires
     enum-told
     enum-known-text-2

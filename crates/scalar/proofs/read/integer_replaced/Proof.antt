@@ -27,11 +27,14 @@ part-integer-of-end c = search integer-replaced-laws
 integer-of-requires : tie.Need-integer-of-requires
 integer-of-requires c κs = search needs
 
+enum-known-at : tie.Need-enum-known-at
+enum-known-at c = search needs
+
+bad-at-requires : tie.Need-bad-at-requires
+bad-at-requires c κs = search integer-replaced-laws
+
 enum-told : tie.Need-enum-told
 enum-told c = search needs
-
-enum-told-2 : tie.Need-enum-told-2
-enum-told-2 c = search needs
 
 returns : tie.Need-returns
 returns c = search integer-replaced-laws
@@ -53,8 +56,9 @@ integer-replaced-spec =
     part-integer-of-start
     part-integer-of-end
     integer-of-requires
+    enum-known-at
+    bad-at-requires
     enum-told
-    enum-told-2
     returns
     returns-2
     returns-3)

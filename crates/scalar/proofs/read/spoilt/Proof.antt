@@ -7,23 +7,17 @@ use Rattle.scalar.proofs.read.spoilt.Tie as tie
 enum-known-text : tie.Need-enum-known-text
 enum-known-text c = search needs
 
-span-requires : tie.Need-span-requires
-span-requires c κs = search spoilt-laws
-
-measure-requires : tie.Need-measure-requires
-measure-requires c κs = search needs
+row-length-requires : tie.Need-row-length-requires
+row-length-requires c κs = (search spoilt-laws, (search spoilt-laws, search spoilt-laws))
 
 enum-told : tie.Need-enum-told
 enum-told c = search needs
 
+enum-known-why : tie.Need-enum-known-why
+enum-known-why c = search needs
+
 enum-told-2 : tie.Need-enum-told-2
 enum-told-2 c = search needs
-
-enum-told-3 : tie.Need-enum-told-3
-enum-told-3 c = search needs
-
-enum-told-4 : tie.Need-enum-told-4
-enum-told-4 c = search needs
 
 enum-known-text-2 : tie.Need-enum-known-text-2
 enum-known-text-2 c = search needs
@@ -40,23 +34,17 @@ returns-3 c = search spoilt-laws
 returns-4 : tie.Need-returns-4
 returns-4 c = search spoilt-laws
 
-returns-5 : tie.Need-returns-5
-returns-5 c = search spoilt-laws
-
 pub spoilt-spec : {M : Type 1} → statement M
 spoilt-spec =
     tie.close
     (tie.spec
     enum-known-text
-    span-requires
-    measure-requires
+    row-length-requires
     enum-told
+    enum-known-why
     enum-told-2
-    enum-told-3
-    enum-told-4
     enum-known-text-2
     returns
     returns-2
     returns-3
-    returns-4
-    returns-5)
+    returns-4)

@@ -10,8 +10,11 @@ enum-known-text c = search needs
 span-requires : tie.Need-span-requires
 span-requires c κs = search string-at-laws
 
+field-requires : tie.Need-field-requires
+field-requires c κs = (search string-at-laws, search needs)
+
 string-in-requires : tie.Need-string-in-requires
-string-in-requires c κs = search needs
+string-in-requires c κs = search string-at-laws
 
 enum-told : tie.Need-enum-told
 enum-told c = search needs
@@ -37,6 +40,7 @@ string-at-spec =
     (tie.spec
     enum-known-text
     span-requires
+    field-requires
     string-in-requires
     enum-told
     enum-known-text-2

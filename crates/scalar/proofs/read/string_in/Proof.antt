@@ -10,11 +10,14 @@ unescape-requires c κs = search needs
 enum-known-n : tie.Need-enum-known-n
 enum-known-n c = search needs
 
+enum-known-at : tie.Need-enum-known-at
+enum-known-at c = search needs
+
+bad-at-requires : tie.Need-bad-at-requires
+bad-at-requires c κs = search string-in-laws
+
 enum-told : tie.Need-enum-told
 enum-told c = search needs
-
-enum-told-2 : tie.Need-enum-told-2
-enum-told-2 c = search needs
 
 same-length : tie.Need-same-length
 same-length c = search needs
@@ -40,8 +43,9 @@ string-in-spec =
     (tie.spec
     unescape-requires
     enum-known-n
+    enum-known-at
+    bad-at-requires
     enum-told
-    enum-told-2
     same-length
     returns
     same-length-2

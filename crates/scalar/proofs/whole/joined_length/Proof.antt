@@ -41,29 +41,23 @@ loop-again c =
     (c .before .before .before .before .before .before .turn-of .ensures) (search needs)
     (c .before .before .before .row-length .ensures) (search needs)
 
-enum-told-2 : tie.Need-enum-told-2 Inv-loop μ-loop
-enum-told-2 c = search length-laws
+enum-known-why : tie.Need-enum-known-why Inv-loop μ-loop
+enum-known-why c = search length-laws
 
 returns : tie.Need-returns Inv-loop μ-loop
 returns c = search length-laws
 
-enum-told-3 : tie.Need-enum-told-3 Inv-loop μ-loop
-enum-told-3 c = search length-laws
+enum-told-2 : tie.Need-enum-told-2 Inv-loop μ-loop
+enum-told-2 c = search length-laws
 
 returns-2 : tie.Need-returns-2 Inv-loop μ-loop
 returns-2 c = search length-laws
 
-enum-told-4 : tie.Need-enum-told-4 Inv-loop μ-loop
-enum-told-4 c = search length-laws
+enum-told-3 : tie.Need-enum-told-3 Inv-loop μ-loop
+enum-told-3 c = search length-laws
 
 returns-3 : tie.Need-returns-3 Inv-loop μ-loop
 returns-3 c = search length-laws
-
-enum-told-5 : tie.Need-enum-told-5 Inv-loop μ-loop
-enum-told-5 c = search length-laws
-
-returns-4 : tie.Need-returns-4 Inv-loop μ-loop
-returns-4 c = search length-laws
 
 enum-known-after : tie.Need-enum-known-after Inv-loop μ-loop
 enum-known-after c = search length-laws
@@ -77,8 +71,8 @@ loop-less-2 c = search length-laws
 loop-again-2 : tie.Need-loop-again-2 Inv-loop μ-loop
 loop-again-2 c = search length-laws
 
-returns-5 : tie.Need-returns-5 Inv-loop μ-loop
-returns-5 c = search length-laws
+returns-4 : tie.Need-returns-4 Inv-loop μ-loop
+returns-4 c = search length-laws
 
 pub joined-length-spec : {M : Type 1} → statement M
 joined-length-spec =
@@ -95,16 +89,14 @@ joined-length-spec =
     add-k
     loop-less
     loop-again
-    enum-told-2
+    enum-known-why
     returns
-    enum-told-3
+    enum-told-2
     returns-2
-    enum-told-4
+    enum-told-3
     returns-3
-    enum-told-5
-    returns-4
     enum-known-after
     add-k-2
     loop-less-2
     loop-again-2
-    returns-5)
+    returns-4)

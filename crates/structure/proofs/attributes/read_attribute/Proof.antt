@@ -10,11 +10,14 @@ attr-requires c κs = search needs
 enum-known-k : tie.Need-enum-known-k
 enum-known-k c = search needs
 
+field-requires : tie.Need-field-requires
+field-requires c κs = (search attribute-laws, search attribute-laws)
+
 span-requires : tie.Need-span-requires
 span-requires c κs = search attribute-laws
 
 write-text-requires : tie.Need-write-text-requires
-write-text-requires c κs = search attribute-laws
+write-text-requires c κs = (search attribute-laws, search attribute-laws)
 
 enum-told : tie.Need-enum-told
 enum-told c = search needs
@@ -37,6 +40,7 @@ read-attribute-spec =
     (tie.spec
     attr-requires
     enum-known-k
+    field-requires
     span-requires
     write-text-requires
     enum-told

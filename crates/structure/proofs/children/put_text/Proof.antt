@@ -7,11 +7,14 @@ use Rattle.structure.proofs.children.put_text.Tie as tie
 enum-known-text : tie.Need-enum-known-text
 enum-known-text c = search needs
 
+field-requires : tie.Need-field-requires
+field-requires c κs = (search put-laws, search put-laws)
+
 span-requires : tie.Need-span-requires
 span-requires c κs = search put-laws
 
 write-scalar-requires : tie.Need-write-scalar-requires
-write-scalar-requires c κs = search put-laws
+write-scalar-requires c κs = (search put-laws, search put-laws)
 
 enum-told : tie.Need-enum-told
 enum-told c = search needs
@@ -20,7 +23,7 @@ slice-aggregate-write-scalar : tie.Need-slice-aggregate-write-scalar
 slice-aggregate-write-scalar c = search needs
 
 write-scalar-requires-2 : tie.Need-write-scalar-requires-2
-write-scalar-requires-2 c κs = search needs
+write-scalar-requires-2 c κs = (search put-laws, search put-laws)
 
 enum-known-text-2 : tie.Need-enum-known-text-2
 enum-known-text-2 c = search needs
@@ -57,6 +60,7 @@ put-text-spec =
     tie.close
     (tie.spec
     enum-known-text
+    field-requires
     span-requires
     write-scalar-requires
     enum-told
