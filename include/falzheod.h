@@ -11,6 +11,10 @@
  * Threads: there is no state, so calls may run at the same time, as long as nothing
  * that one of them writes is lent to another.
  *
+ * Versions: header and archive go together. Functions may gain parameters under the
+ * same name, as those that tell a `place` did; what was compiled with another header has
+ * to be compiled again.
+ *
  * What the library promises: any content of what is lent is taken, and any length
  * up to the size of an object; nothing about the bytes or the numbers is assumed,
  * and `out` need not be initialised. Nothing is kept after the call, nothing is

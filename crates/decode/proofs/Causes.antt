@@ -1,27 +1,24 @@
 -- Laws of the place of the drain's cause: where validating a row's value fails, in the body.
 use Prim.Native.Nat.{ℕ, zero, suc, _+_, _-_, _*_, _/_, _^_, _≤_, _<_}
 use mathlib.Core.Path.{_≡_, refl, sym, _∙_, ap}
-use mathlib.Core.Bool.{Bool, true, false}
 use mathlib.Core.List.{List, [], _∷_, cons≢nil}
 use native.Mathlib.Omega.{arith}
 use borrow.Author.Needs.{needs}
-use borrow.Author.Tests.{ltb-true, ltb-false}
 use mir.Val.{Fits}
-use mir.Syntax.{w32, w64}
-use lib.Dec.{ltb}
+use mir.Syntax.{w16, w64}
 use lib.ListN.{length, getD, drop, length-take}
 use Rattle.reference.specs.Text.{validated}
 use Rattle.reference.specs.declared.Validated.{Validated}
 use Rattle.reference.proofs.Place.{validate-within}
-use Rattle.table.specs.Row.{Row, rowsOf}
+use Rattle.table.specs.Row.{Row, rowsOf, toksOf}
 use Rattle.table.specs.Rules.{TableRules}
 use Rattle.table.specs.Flat.{rowsFrom}
 use Rattle.table.proofs.Flat.{rows-whole, unroll, rolled-out, drop-from}
 use Rattle.xml.specs.declared.Cause.{Cause}
 use Rattle.xml.specs.declared.Drained.{Drained}
-use Rattle.xml.specs.Drain.{drained, referencePlace, causePlace, drainPlace}
+use Rattle.xml.specs.Drain.{walked, drained, referencePlace, causePlace, drainPlace}
 use Rattle.xml.proofs.First.{drained-ill-formed-is}
-use Rattle.xml.proofs.Place.{reference-at}
+use Rattle.xml.proofs.Place.{reference-at, place-within, walk-place}
 use Rattle.decode.specs.Rows.{InTable, Readable, valueAt}
 use Rattle.decode.specs.Drain.{failingIn, Walkable}
 use Rattle.decode.proofs.Names.{value-span}
@@ -78,37 +75,17 @@ cause-reference body rows k c q e = rw q e
 
 pub ruleset cause-place-laws = (needs, cause-reference)
 
--- ---- it lies in the body
-failing-low : {body t : List ℕ} {k : ℕ} → Readable body t → InTable t k → failingIn body t k ≤ length body
-failing-low {body} {t} {k} b i = go (validated (valueAt body t k)) refl
-  where
-    go : (r : Validated) → validated (valueAt body t k) ≡ r → failingIn body t k ≤ length body
-    go Validated.Valid q = rw q (omega (arith, b .each k (i .row) .value))
-    go (Validated.BadReference at) q = rw q (omega (arith, place-in body t k refl refl refl q b i))
+-- ---- 16 bits hold it, where the walk stopped there
+pub cause-fits : {body t : List ℕ} {final : ℕ} (k : ℕ) (c : Cause) {x : ℕ} {r : Drained} → TableRules body t final
+    → r ≡ walked (toksOf body (rowsOf t)) → r ≡ Drained.IllFormed k c → x ≡ causePlace body (rowsOf t) k c → Fits w16 x
+cause-fits k Cause.TokenError o e q p = record { fits = omega (arith, p) }
+cause-fits k Cause.MismatchedEnd o e q p = record { fits = omega (arith, p) }
+cause-fits k Cause.UnclosedElement o e q p = record { fits = omega (arith, p) }
+cause-fits k Cause.RepeatedAttribute o e q p = record { fits = omega (arith, p) }
+cause-fits {body} {t} k Cause.BadReference o e q p =
+    record { fits = omega (arith, p, place-within (walk-place body (rowsOf t) (sym e ∙ q)), o .rules .fewBytes) }
 
-module _ {body t : List ℕ} (w : Walkable body t) (k : ℕ) where
-  reference-low : referencePlace body (rowsOf t) k ≤ length body
-  reference-low = go (ltb k (length t / 8)) refl
-    where
-      go : (b : Bool) → ltb k (length t / 8) ≡ b → referencePlace body (rowsOf t) k ≤ length body
-      go true q =
-          let h = ltb-true k (length t / 8) q in
-          rw (← reference-row w k h refl) (failing-low (w .readable) (row-in w h))
-      go false q = rw (← reference-none w k (ltb-false k (length t / 8) q)) (omega arith)
-
-  pub cause-low : (c : Cause) → causePlace body (rowsOf t) k c ≤ length body
-  cause-low Cause.TokenError = omega arith
-  cause-low Cause.MismatchedEnd = omega arith
-  cause-low Cause.UnclosedElement = omega arith
-  cause-low Cause.RepeatedAttribute = omega arith
-  cause-low Cause.BadReference = reference-low
-
--- so 32 bits hold it where the table obeys the rules
-pub cause-fits : {body t : List ℕ} {final : ℕ} (k : ℕ) (c : Cause) {x : ℕ} → TableRules body t final → x ≡ causePlace body (rowsOf t) k c
-    → Fits w32 x
-cause-fits k c o e = record { fits = omega (arith, e, cause-low (walkable o) k c, o .rules .fewBytes) }
-
--- ---- for callers of the drain: where it answers a row and a cause, the rows can be walked and the place fits; else there is none
+-- ---- for callers of the drain: where it answers a row and a cause, the rows can be walked and the place is the cause's; else there is none
 module _ (body t : List ℕ) (final : ℕ) {r : Drained} (e : r ≡ drained body t final) where
   pub place-passes : r ≡ Drained.Passes → 0 ≡ drainPlace body (rowsOf t) (drained body t final)
   unfolding drainPlace
@@ -125,12 +102,8 @@ module _ (body t : List ℕ) (final : ℕ) {r : Drained} (e : r ≡ drained body
     pub drained-walkable : Walkable body t
     drained-walkable = walkable drained-rules
 
-    module _ {x : ℕ} (p : x ≡ causePlace body (rowsOf t) k c) where
-      pub place-small : Fits w32 x
-      place-small = cause-fits k c drained-rules p
+    pub place-ill : {x : ℕ} → x ≡ causePlace body (rowsOf t) k c → x ≡ drainPlace body (rowsOf t) (drained body t final)
+    unfolding drainPlace
+    place-ill p = rw (← e, q) p
 
-      pub place-ill : x ≡ drainPlace body (rowsOf t) (drained body t final)
-      unfolding drainPlace
-      place-ill = rw (← e, q) p
-
-pub ruleset drain-place-laws = (needs, place-passes, place-table, drained-walkable, place-small, place-ill)
+pub ruleset drain-place-laws = (needs, place-passes, place-table, drained-walkable, place-ill)

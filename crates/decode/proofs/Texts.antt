@@ -1,13 +1,11 @@
 -- Laws of the walk to the first text of an element.
-use Prim.Native.Nat.{ℕ, suc, _+_, _*_, _^_, _≤_, _<_}
+use Prim.Native.Nat.{ℕ, suc, _+_, _*_, _≤_, _<_}
 use mathlib.Core.Path.{_≡_, refl, sym, _∙_, ap}
 use mathlib.Core.Bool.{Bool, true, false}
 use mathlib.Core.List.{List, []}
 use native.Mathlib.Numerals.{add-one}
 use native.Mathlib.Omega.{arith}
 use borrow.Author.Needs.{needs}
-use mir.Val.{Fits}
-use mir.Syntax.{w32, w64}
 use lib.ListN.{length, getD, drop, length-take}
 use Rattle.lists.specs.Tests.{pick}
 use Rattle.refusal.specs.declared.Refusal.{Refusal}
@@ -34,7 +32,6 @@ use Rattle.decode.specs.Rows.{InTable, Readable, nameAt, valueAt, tokAt}
 use Rattle.decode.specs.Reader.{toksFrom, scopeAt, childAt, Sees, DepthIs}
 use Rattle.decode.specs.View.{failureAt, viewAt}
 use Rattle.decode.specs.Text.{textAt, TextIn, endText, firstFrom, TextIs}
-use Rattle.decode.proofs.Names.{value-span}
 use Rattle.decode.proofs.ByKind.{other}
 use Rattle.decode.proofs.Places.{toks-next, toks-none, tok-is, row-seen, scope-seen, start-scope}
 
@@ -153,11 +150,3 @@ module _ (body t : List ℕ) (k : ℕ) {from : ℕ} (f : from ≡ getD t (k * 8 
         let n = fails-within false v (bad-is false v at .0 bad-here) in
         let m = length-take (getD t (k * 8 + 6) 0) (drop (getD t (k * 8 + 5) 0) body) in
         omega (arith, n, m, b .each k (i .row) .value)
-
-    pub text-sum : length body < 2 ^ 64 → Fits w64 (from + at)
-    text-sum h = record { fits = omega (arith, text-within) }
-
-    pub text-fits : length body ≤ 65536 → Fits w32 (from + at)
-    text-fits h = record { fits = omega (arith, text-within) }
-
-pub ruleset text-place-laws = (needs, value-span, text-bad, text-sum, text-fits)

@@ -32,7 +32,7 @@ pub struct View {
 }
 
 // What a text meets after a row that fails the drain; a reference has the place of the drain's cause.
-fn failure_of(at: u32, cause: Cause) -> Refusal
+fn failure_of(at: u16, cause: Cause) -> Refusal
     ensures { λ r. ⌜ r ≡ failureOf at cause ⌝ }
 {
     match cause {
@@ -75,7 +75,7 @@ fn strict_view(body: &[u8], rows: &[u32], end: usize) -> View
     match walk(body, rows) {
         Drained::IllFormed { row, cause } => {
             let at = cause_place(body, rows, row, cause);
-            let failure = failure_of(at as u32, cause);
+            let failure = failure_of(at as u16, cause);
             let ends = position_at(body, rows, row, end);
             View {
                 count: row,

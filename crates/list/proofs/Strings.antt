@@ -41,7 +41,7 @@ use Rattle.output.specs.Plans.{textOr, text}
 use Rattle.output.specs.Held.{Does, Ready, Adds}
 use Rattle.output.proofs.Room.{stays}
 use Rattle.output.proofs.Then.{does-as}
-use Rattle.output.proofs.Texts.{placed-short}
+use Rattle.output.proofs.Texts.{short-small}
 use Rattle.output.proofs.Sound.{text-adds}
 use Rattle.opening.specs.Wanted.{nameIf, wanted}
 use Rattle.opening.specs.Level.{ChildDoes, ElementDoes, lastOf}
@@ -61,11 +61,11 @@ module _ {body t : List ℕ} {w : Written} (q : TextPlace body t w) where
   pub row-ready : (k : ℕ) {x : List ℕ} → x ≡ valueAt body t k → Ready w (length x)
   row-ready k e = record { small = omega (arith, q .small, value-short k e) }
 
-  pub row-placed : (k : ℕ) {from : ℕ} {x : List ℕ} → InTable t k → from ≡ getD t (k * 8 + 5) 0 → x ≡ valueAt body t k
+  pub row-small : (k : ℕ) {from : ℕ} {x : List ℕ} → InTable t k → from ≡ getD t (k * 8 + 5) 0 → x ≡ valueAt body t k
       → SmallPlace from (length x)
-  row-placed k i f e =
+  row-small k i f e =
       let m = length-take (getD t (k * 8 + 6) 0) (drop (getD t (k * 8 + 5) 0) body) in
-      rw (f, e) (placed-short (omega (arith, q .short, m, q .readable .each k (i .row) .value)))
+      rw (f, e) (short-small (omega (arith, q .short, m, q .readable .each k (i .row) .value)))
 
   pub empty-ready : Ready w (length {A = ℕ} [])
   empty-ready = record { small = omega (arith, q .small) }
@@ -100,7 +100,7 @@ pub put-refused : (body t : List ℕ) (txt : Text) (en tx : List ℕ) (w : Writt
 unfolding perform
 put-refused body t txt en tx w e = rw e (record { does = record { is = λ h. stays h }; adds = record { most = λ room out. omega arith } })
 
-pub ruleset row-laws = (needs, value-span, row-in, row-whole, row-ready, row-placed, empty-ready, placed-short)
+pub ruleset row-laws = (needs, value-span, row-in, row-whole, row-ready, row-small, empty-ready, short-small)
 
 pub ruleset put-laws = (row-laws, put-row, put-empty, put-refused)
 

@@ -36,7 +36,7 @@ use Rattle.decode.specs.Text.{textAt, TextIs}
 use Rattle.decode.proofs.Texts.{row-in, text-bad, text-within}
 use Rattle.decode.proofs.Names.{local-span, value-span}
 use Rattle.decode.proofs.Places.{start-scope}
-use Rattle.output.proofs.Texts.{comes-measured, comes-empty, placed-short}
+use Rattle.output.proofs.Texts.{comes-measured, comes-empty, short-small}
 use Rattle.map.specs.declared.field.Measured.{Measured}
 use Rattle.map.specs.declared.field.FirstText.{FirstText}
 use Rattle.map.specs.declared.field.Key.{Key}
@@ -65,8 +65,8 @@ module _ {body t : List ℕ} (b : Readable body t) {k : ℕ} (i : InTable t k) {
 
   -- a text that has no length is refused, with its place in the body, which is a 32-bit number
   module _ {start at : ℕ} (f : start ≡ getD t (k * 8 + 5) 0) (q : r ≡ Unescaped.BadReference at) where
-    pub row-placed : length body ≤ 65536 → SmallPlace start at
-    row-placed h = let n = text-within body t k f p e q b i in placed-short (omega (arith, n))
+    pub row-small : length body ≤ 65536 → SmallPlace start (at + 1)
+    row-small h = let n = text-within body t k f p e q b i in short-small (omega (arith, n))
 
     pub row-bad : {why : Refusal} → why ≡ Refusal.BadReference (start + at) → MeasuredIs body (textIn body t k) (FirstText.Refused why)
     row-bad z = rw z (record { same = text-bad body t k f p e q; known = tt })
@@ -80,7 +80,7 @@ module _ {body t : List ℕ} (b : Readable body t) {k : ℕ} (i : InTable t k) {
       go (bytes l) a = let y : _≡_ {A = ℕ} 0 1 = cc in absurd (omega arith)
       go (bad at) a = let y : _≡_ {A = ℕ} 0 1 = cc in absurd (omega arith)
 
-pub ruleset row-laws = (needs, value-span, row-length, row-placed, row-bad, row-never)
+pub ruleset row-laws = (needs, value-span, row-length, row-small, row-bad, row-never)
 
 module _ (body t : List ℕ) (text : Text) where
   pub measured-row : {k : ℕ} {r : FirstText} → text ≡ Text.Row k → MeasuredIs body (textIn body t k) r

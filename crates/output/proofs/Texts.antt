@@ -189,14 +189,14 @@ module _ (member from : ℕ) (txt : List ℕ) {y : Unescaped} {at : ℕ} (m : y 
     unfolding failed
     scalar-bad t s p = scalar-as member from txt (bad at) is-bad ((rw p at s) .is t)
 
--- its place is a 32-bit number; so is each place of a text that lies in a body
-pub bad-placed : (txt : List ℕ) {y : Unescaped} {from at : ℕ} → SmallPlace from (length txt) → y ≡ sizeOf (unescaped txt)
+-- its place is a 16-bit number; so is each place of a text that lies in a body
+pub bad-small : (txt : List ℕ) {y : Unescaped} {from at : ℕ} → SmallPlace from (length txt) → y ≡ sizeOf (unescaped txt)
     → y ≡ Unescaped.BadReference at
-    → SmallPlace from at
-bad-placed txt p m q = record { small = omega (arith, p .small, measured-within txt m q) }
+    → SmallPlace from (at + 1)
+bad-small txt p m q = record { small = omega (arith, p .small, measured-within txt m q) }
 
-pub placed-short : {from n : ℕ} → from + n ≤ mostBytes → SmallPlace from n
-placed-short h = record { small = omega arith }
+pub short-small : {from n : ℕ} → from + n ≤ mostBytes → SmallPlace from n
+short-small h = record { small = omega arith }
 
 -- measuring has no room to run out of
 pub measured-never : (plan : Plan) {e t : List ℕ} {w : Written} {e′ t′ : List ℕ} {r : Step} (txt : List ℕ)
@@ -216,7 +216,7 @@ pub ruleset measured-laws = (
   ready-less,
   text-measured,
   scalar-measured,
-  bad-placed,
+  bad-small,
   text-bad,
   scalar-bad,
   measured-never,

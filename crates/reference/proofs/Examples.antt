@@ -5,6 +5,7 @@ use mathlib.Core.List.{[], _∷_, map}
 use Rattle.lists.specs.Bytes.{ascii}
 use Rattle.reference.specs.Text.{Out, validated, unescaped, answer}
 use Rattle.reference.specs.Text.Out.{bytes, bad}
+use Rattle.reference.specs.Place.{failingAt}
 use Rattle.reference.proofs.All.{computed}
 use Rattle.reference.specs.declared.Validated.{Validated}
 use Rattle.reference.specs.declared.Validated.the-variants.{Valid, BadReference}
@@ -50,6 +51,11 @@ pub places :
     ∷ []
 unfolding computed
 places = refl
+
+-- what is told as the place: 0 where each reference is right
+pub told-places : map (λ (s : String). failingAt (validated (ascii s))) ("&#+65;&zz;" ∷ "a&b" ∷ "a&lt;" ∷ "" ∷ []) ≡ 0 ∷ 1 ∷ 0 ∷ 0 ∷ []
+unfolding computed
+told-places = refl
 
 -- what `unescape` answers then, whatever the room
 pub answers-place : map (answer (unescaped (ascii "&#+65;&zz;"))) (0 ∷ 10 ∷ []) ≡ Unescaped.BadReference 6 ∷ Unescaped.BadReference 6 ∷ []

@@ -266,10 +266,6 @@ unescape-bad-is t room at =
         go false e = let z : _≡_ {A = ℕ} 0 1 = cc in absurd (omega arith)
     there (bad k) e = let z : k ≡ at = cc in ap bad z
 
--- ---- for callers: the place that is told lies in the text
+-- ---- for callers of `validate`: the place that is told lies in the text
 pub validate-within : (t : List ℕ) {r : Validated} {at : ℕ} → r ≡ validated t → r ≡ Validated.BadReference at → at < length t
 validate-within t {r} {at} q e = fails-within true t (validate-bad-is t at .0 (sym q ∙ e))
-
-pub unescape-within : (t : List ℕ) (room : ℕ) {r : Unescaped} {at : ℕ} → r ≡ answer (unescaped t) room → r ≡ Unescaped.BadReference at
-    → at < length t
-unescape-within t room {r} {at} q e = fails-within false t (unescape-bad-is t room at .0 (sym q ∙ e))

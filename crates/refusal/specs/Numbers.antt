@@ -1,5 +1,5 @@
 -- 01, "Numbers": the number of each refusal, and what it says.
-use Prim.Native.Nat.{ℕ, _+_, _^_, _<_}
+use Prim.Native.Nat.{ℕ, _+_, _^_, _≤_}
 use Rattle.refusal.specs.declared.Refusal.{Refusal}
 
 abbrev pub number : Refusal → ℕ
@@ -46,6 +46,6 @@ place Refusal.NotBoolean = 0
 place Refusal.NotInteger = 0
 place Refusal.NoSuchElement = 0
 
--- each place in a text of n bytes that begins at `from` in the body is a 32-bit number
+-- each place in a text of n bytes that begins at `from` in the body is a 16-bit number
 pub record SmallPlace (from n : ℕ) : Type 0 where
-  pub small : from + n < 2 ^ 32
+  pub small : from + n ≤ 2 ^ 16

@@ -6,7 +6,7 @@ ghost use Rattle.refusal.specs.declared.Refusal.{Refusal};
 ghost use Rattle.refusal.specs.Numbers.{number, place, SmallPlace};
 
 // Why an operation refused, in 01's words and in the order of its numbers. A reference has the place of the failing `&`, an offset in the
-// body that was lent.
+// body that was lent: 16 bits hold it, and keep the refusal small enough for every answer that may be one.
 pub enum Refusal {
     Table,
     Sheet,
@@ -14,7 +14,7 @@ pub enum Refusal {
     NoRoot,
     RootName,
     ElementInText,
-    BadReference { at: u32 },
+    BadReference { at: u16 },
     TokenError,
     IllFormed,
     NoRoom,
@@ -55,7 +55,7 @@ pub fn place_of(why: Refusal) -> u32
         Refusal::NoRoot => 0,
         Refusal::RootName => 0,
         Refusal::ElementInText => 0,
-        Refusal::BadReference { at } => at,
+        Refusal::BadReference { at } => at as u32,
         Refusal::TokenError => 0,
         Refusal::IllFormed => 0,
         Refusal::NoRoom => 0,
@@ -67,10 +67,10 @@ pub fn place_of(why: Refusal) -> u32
 
 // The refusal of a text that begins at `from` in the body and has its first failing `&` at `at` in itself.
 pub fn bad_at(from: usize, at: usize) -> Refusal
-    requires { ⌜ SmallPlace from at ⌝ }
+    requires { ⌜ SmallPlace from (at + 1) ⌝ }
     ensures { λ r. ⌜ r ≡ Refusal.BadReference (from + at) ⌝ }
 {
     Refusal::BadReference {
-        at: (from + at) as u32,
+        at: (from + at) as u16,
     }
 }

@@ -30,7 +30,7 @@ use Rattle.output.specs.Held.{Does}
 use Rattle.output.proofs.Sound.{text-adds}
 use Rattle.structure.specs.Steps.{Given, Space, Wrote, Begins, DoesWithin, memberIn, afterAttributes}
 use Rattle.structure.specs.Attributes.{attributeNamed, attributesPlan}
-use Rattle.structure.proofs.Loops.{given-index, viewed-space, value-short, value-ready, value-placed, row-whole}
+use Rattle.structure.proofs.Loops.{given-index, viewed-space, value-short, value-ready, value-small, row-whole}
 use Rattle.structure.proofs.Loops.{idle-wrote, wrote-as, within-done, within-refused, OneByOne, one-start, one-ends, one-stops}
 use Rattle.structure.proofs.Loops.{one-goes}
 
@@ -60,7 +60,7 @@ module _ (body t : List ℕ) (n : ℕ) (s : StartRow) (member : ℕ) (name : Lis
       let v : unescaped l ≡ bytes (meaning (unescaped (valueAt body t k))) = rw f ((rw p at (y .row)) .1) in
       wrote-as (as-found (ap (valueIn body t) p) ∙ sym (rw v)) (value-short q k f) (text-adds member from l) d
 
-pub ruleset attribute-laws = (needs, value-span, value-ready, value-placed, row-whole, attribute-in, attribute-nothing, attribute-row)
+pub ruleset attribute-laws = (needs, value-span, value-ready, value-small, row-whole, attribute-in, attribute-nothing, attribute-row)
 
 -- ---- of a member
 module _ {body t : List ℕ} {v : View} {sheet members : List ℕ} (s : StartRow) {i : ℕ} {m : Member} (g : Given body t v sheet members)

@@ -19,7 +19,7 @@ use Rattle.output.specs.declared.Step.{Step}
 use Rattle.output.specs.Held.{Does, Ready, Adds}
 use Rattle.output.proofs.Then.{Midway, midway-start, each-goes, each-stops, each-ends, does-as}
 use Rattle.output.proofs.Sound.{sound-next, used-next}
-use Rattle.output.proofs.Texts.{placed-short}
+use Rattle.output.proofs.Texts.{short-small}
 use Rattle.structure.specs.Steps.{Given, Space, Wrote, Begins, DoesWithin}
 
 -- ---- what is given
@@ -39,11 +39,11 @@ module _ {body t : List ℕ} {w : Written} (q : Space body t w) where
   value-ready k e = record { small = omega (arith, q .small, value-short k e) }
 
   -- each place in it, as a body offset, is a 32-bit number
-  pub value-placed : (k : ℕ) {from : ℕ} {l : List ℕ} → InTable t k → from ≡ getD t (k * 8 + 5) 0 → l ≡ valueAt body t k
+  pub value-small : (k : ℕ) {from : ℕ} {l : List ℕ} → InTable t k → from ≡ getD t (k * 8 + 5) 0 → l ≡ valueAt body t k
       → SmallPlace from (length l)
-  value-placed k i f e =
+  value-small k i f e =
       let m = length-take (getD t (k * 8 + 6) 0) (drop (getD t (k * 8 + 5) 0) body) in
-      rw (f, e) (placed-short (omega (arith, q .short, m, q .readable .each k (i .row) .value)))
+      rw (f, e) (short-small (omega (arith, q .short, m, q .readable .each k (i .row) .value)))
 
 pub row-whole : {t : List ℕ} {k : ℕ} → InTable t k → k * 8 + 8 ≤ length t
 row-whole i = i .row

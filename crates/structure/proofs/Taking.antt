@@ -44,7 +44,7 @@ use Rattle.output.specs.declared.Step.{Step}
 use Rattle.output.specs.Plans.{piece, scalar, failed}
 use Rattle.output.specs.Held.{Does, Enters, Adds}
 use Rattle.output.proofs.Then.{does-as}
-use Rattle.output.proofs.Texts.{placed-short}
+use Rattle.output.proofs.Texts.{short-small}
 use Rattle.output.proofs.Sound.{scalar-adds, piece-adds}
 use Rattle.output.proofs.Siblings.{KeepsSiblings, keeps-start, keeps-other, keeps-more, keeps-flat, keeps-has}
 use Rattle.opening.specs.Level.{left}
@@ -53,7 +53,7 @@ use Rattle.structure.specs.declared.children.Taken.{Taken}
 use Rattle.structure.specs.Steps.{Given, Space, Wrote, Begins, afterAttributes, afterChildren}
 use Rattle.structure.specs.Children.{scalarOf, memberOf, takenOf, stepOf, KeptRoom, flatIf, Keeping, passed, kept, TakenAs, AllTaken}
 use Rattle.structure.specs.Children.{ChildrenTaken}
-use Rattle.structure.proofs.Loops.{given-index, viewed-space, value-short, value-ready, value-placed, adds-as, idle-does, idle-adds}
+use Rattle.structure.proofs.Loops.{given-index, viewed-space, value-short, value-ready, value-small, adds-as, idle-does, idle-adds}
 use Rattle.structure.proofs.Loops.{row-whole, wrote-as, OneByOne, one-start, one-ends, one-stops, one-goes}
 
 -- ---- a step, and how many are kept
@@ -103,7 +103,7 @@ pub put-refused : (body t : List ℕ) (text : Text) (member : ℕ) {e e′ : Lis
 unfolding scalarOf failed
 put-refused body t text member x {why = why} p d = rw p (wrote-as refl (omega arith) (failed-adds member why) (d .is x))
 
-pub ruleset put-laws = (needs, value-span, value-ready, value-placed, placed-short, text-row, row-whole, put-row, put-empty, put-refused)
+pub ruleset put-laws = (needs, value-span, value-ready, value-small, short-small, text-row, row-whole, put-row, put-empty, put-refused)
 
 pub scalar-read : {body t : List ℕ} {text : Text} {a : Answer (List ℕ)} (member : ℕ) {e x e′ x′ : List ℕ} {w : Written} {r : Step}
     → TextIs body t text a

@@ -161,7 +161,7 @@ unfolding drainPlace
 drained-place body table final {k} e =
     rw e (first-place body (rowsOf table) (drained-ill-formed-is body table final k Cause.BadReference .0 e .1))
 
--- "0 where the number is not 7": there is a place only of a reference
+-- only a reference has a place: 0 where the cause is another, and where the drain does not answer 9
 pub no-drain-place : (body : List ℕ) (rows : List Row) (d : Drained) → ((k : ℕ) → d ≡ Drained.IllFormed k Cause.BadReference → ⊥)
     → drainPlace body rows d ≡ 0
 unfolding drainPlace

@@ -10,7 +10,7 @@ use lib.ListN.{length, getD, drop}
 use Rattle.lists.specs.Characters.{ampersand}
 use Rattle.refusal.specs.declared.Refusal.{Refusal}
 use Rattle.refusal.specs.Answer.{refuses}
-use Rattle.refusal.specs.Numbers.{place}
+use Rattle.refusal.specs.Numbers.{number, place}
 use Rattle.reference.specs.Text.{unescaped}
 use Rattle.reference.specs.Text as text
 use Rattle.reference.proofs.Lenient.{valid-unescapes}
@@ -34,6 +34,26 @@ use Rattle.readings.proofs.Conditions.Opening.{OpenedAs}
 use Rattle.readings.proofs.Conditions.View.{Stopped, at-drain, at-error}
 use Rattle.readings.proofs.Conditions.Text.{NoText, element-inside, bad-reference, rows-end, passed, opened-text-refusal}
 use Rattle.readings.proofs.Plans.Placed.{opened-in}
+
+-- ---- a refusal tells 7 and a place, or another number and none: the one law of places that goes through the numbers
+pub data Telling : Refusal → Type 0 where
+  seven : (at : ℕ) → Telling (Refusal.BadReference at)
+  other : (r : Refusal) → (number r ≡ 7 → ⊥) → place r ≡ 0 → Telling r
+
+pub telling : (r : Refusal) → Telling r
+telling Refusal.Table = other Refusal.Table (λ e. omega (arith, e)) refl
+telling Refusal.Sheet = other Refusal.Sheet (λ e. omega (arith, e)) refl
+telling Refusal.Depth = other Refusal.Depth (λ e. omega (arith, e)) refl
+telling Refusal.NoRoot = other Refusal.NoRoot (λ e. omega (arith, e)) refl
+telling Refusal.RootName = other Refusal.RootName (λ e. omega (arith, e)) refl
+telling Refusal.ElementInText = other Refusal.ElementInText (λ e. omega (arith, e)) refl
+telling (Refusal.BadReference at) = seven at
+telling Refusal.TokenError = other Refusal.TokenError (λ e. omega (arith, e)) refl
+telling Refusal.IllFormed = other Refusal.IllFormed (λ e. omega (arith, e)) refl
+telling Refusal.NoRoom = other Refusal.NoRoom (λ e. omega (arith, e)) refl
+telling Refusal.NotBoolean = other Refusal.NotBoolean (λ e. omega (arith, e)) refl
+telling Refusal.NotInteger = other Refusal.NotInteger (λ e. omega (arith, e)) refl
+telling Refusal.NoSuchElement = other Refusal.NoSuchElement (λ e. omega (arith, e)) refl
 
 module _ (u : Upload) where
   -- a place that is told with 7, by a reading that is strict or not
@@ -97,16 +117,8 @@ module _ (u : Upload) where
 
   -- so the place lies in the body, whatever the number
   pub told-within : {strict : Bool} (r : Refusal) → TellsPlace strict r → place r ≤ length (u .body)
-  told-within Refusal.Table t = omega arith
-  told-within Refusal.Sheet t = omega arith
-  told-within Refusal.Depth t = omega arith
-  told-within Refusal.NoRoot t = omega arith
-  told-within Refusal.RootName t = omega arith
-  told-within Refusal.ElementInText t = omega arith
-  told-within (Refusal.BadReference at) t = omega (arith, seven-within (t .seven at refl))
-  told-within Refusal.TokenError t = omega arith
-  told-within Refusal.IllFormed t = omega arith
-  told-within Refusal.NoRoom t = omega arith
-  told-within Refusal.NotBoolean t = omega arith
-  told-within Refusal.NotInteger t = omega arith
-  told-within Refusal.NoSuchElement t = omega arith
+  told-within {strict} r t = go (telling r) t
+    where
+      go : {q : Refusal} → Telling q → TellsPlace strict q → place q ≤ length (u .body)
+      go (seven at) t = omega (arith, seven-within (t .seven at refl))
+      go (other q n p) t = omega (arith, p)

@@ -6,6 +6,7 @@ use mathlib.Core.Logic.{_↔_}
 use mathlib.Core.Bool.{Bool, true, false, not}
 use mathlib.Core.List.{List, [], _∷_}
 use mathlib.Core.Option.{Option, none, some}
+use native.Mathlib.Omega.{arith}
 use Rattle.lists.specs.Tests.{pick}
 use Rattle.lists.proofs.Tests.{false-true}
 use Rattle.refusal.specs.declared.Refusal.{Refusal}
@@ -129,3 +130,19 @@ text-refusal Stop v stops c r =
 pub opened-text-refusal : (u : Upload) {strict : Bool} {o : Opened} → OpenedAs u strict o → (c : Child) (r : Refusal) →
     (textOf (o .seen) c ≡ refuses r) ↔ NoTextIn (Stopped u strict) (o .seen .rows) c r
 opened-text-refusal u {strict} {o} w c r = text-refusal (Stopped u strict) (o .seen) (opened-stops u w) c r
+
+-- ---- 6 asks for no place: whether an element stands where text is wanted is said by the tokens, whatever rows a view tells places by. So
+-- the condition of 6 in demand 3 says the same of each view without a failure.
+no-place-asked : {Stop : Refusal → Type 0} {rows others : List Row} {s : Scope} {d : Depth} {k j : ℕ} {l : List Tok} {r : Refusal}
+    → r ≡ Refusal.ElementInText → NoText Stop rows s d k l r → NoText Stop others s d j l r
+no-place-asked q element-inside = element-inside
+no-place-asked q (bad-reference e) = let z : _≡_ {A = ℕ} 0 1 = cc in absurd (omega arith)
+no-place-asked q (rows-end x) = rows-end x
+no-place-asked q (passed p n) = passed p (no-place-asked q n)
+
+pub six-by-tokens : (v w : View) → v .failure ≡ w .failure → (c : Child) → textOf v c ≡ refuses Refusal.ElementInText
+    → textOf w c ≡ refuses Refusal.ElementInText
+six-by-tokens v w q c e =
+    let n = text-refusal (λ (r : Refusal). w .failure ≡ some r) v (λ r. rw q (λ x. x, λ x. x)) c Refusal.ElementInText .0 e in
+    text-refusal (λ (r : Refusal). w .failure ≡ some r) w (λ r. (λ x. x, λ x. x)) c Refusal.ElementInText .1
+    (record { notClosed = n .notClosed; inside = no-place-asked refl (n .inside) })

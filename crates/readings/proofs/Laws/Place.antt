@@ -27,7 +27,7 @@ use Rattle.readings.specs.Shape.{Shape, structure, list, map, strings, S
 use Rattle.readings.specs.Demand.{TextWanted, of-item, of-field}
 use Rattle.readings.proofs.Conditions.Opening.{OpenedAs, broken-table, no-root, by-table, by-sheet, by-depth, by-root}
 use Rattle.readings.proofs.Conditions.Text.{opened-text-refusal}
-use Rattle.readings.proofs.Conditions.Place.{SevenAt, TellsPlace, text-tells}
+use Rattle.readings.proofs.Conditions.Place.{Telling, seven, other, telling, SevenAt, TellsPlace, text-tells}
 use Rattle.readings.proofs.Conditions.Readings.{Stops, root-differs, no-text, ill-formed, Refused, early, stops, full, groups-full}
 use Rattle.readings.proofs.Conditions.Numbers.{Only, later, reading-numbers}
 use Rattle.readings.proofs.Conditions.Readings.{any-shape, reading-refused}
@@ -43,19 +43,11 @@ use Rattle.readings.proofs.Plans.Readings.{output-carried, may-stop, pl
 
 -- a place stands beside 7 alone
 pub no-place : (r : Refusal) → (number r ≡ 7 → ⊥) → place r ≡ 0
-no-place Refusal.Table f = refl
-no-place Refusal.Sheet f = refl
-no-place Refusal.Depth f = refl
-no-place Refusal.NoRoot f = refl
-no-place Refusal.RootName f = refl
-no-place Refusal.ElementInText f = refl
-no-place (Refusal.BadReference at) f = absurd (f refl)
-no-place Refusal.TokenError f = refl
-no-place Refusal.IllFormed f = refl
-no-place Refusal.NoRoom f = refl
-no-place Refusal.NotBoolean f = refl
-no-place Refusal.NotInteger f = refl
-no-place Refusal.NoSuchElement f = refl
+no-place r f = go (telling r) f
+  where
+    go : {q : Refusal} → Telling q → (number q ≡ 7 → ⊥) → place q ≡ 0
+    go (seven at) f = absurd (f refl)
+    go (other q n p) f = p
 
 module _ (u : Upload) (strict : Bool) where
   -- of another number nothing is told
@@ -76,19 +68,11 @@ module _ (u : Upload) (strict : Bool) where
     pub each : Every EntryTells (out .entries)
 
   failed-seven : (r : Refusal) → TellsPlace u strict r → number r ≡ 7 → SevenAt u strict (place r)
-  failed-seven Refusal.Table t e = absurd (omega (arith, e))
-  failed-seven Refusal.Sheet t e = absurd (omega (arith, e))
-  failed-seven Refusal.Depth t e = absurd (omega (arith, e))
-  failed-seven Refusal.NoRoot t e = absurd (omega (arith, e))
-  failed-seven Refusal.RootName t e = absurd (omega (arith, e))
-  failed-seven Refusal.ElementInText t e = absurd (omega (arith, e))
-  failed-seven (Refusal.BadReference at) t e = t .seven at refl
-  failed-seven Refusal.TokenError t e = absurd (omega (arith, e))
-  failed-seven Refusal.IllFormed t e = absurd (omega (arith, e))
-  failed-seven Refusal.NoRoom t e = absurd (omega (arith, e))
-  failed-seven Refusal.NotBoolean t e = absurd (omega (arith, e))
-  failed-seven Refusal.NotInteger t e = absurd (omega (arith, e))
-  failed-seven Refusal.NoSuchElement t e = absurd (omega (arith, e))
+  failed-seven r t e = go (telling r) t e
+    where
+      go : {q : Refusal} → Telling q → TellsPlace u strict q → number q ≡ 7 → SevenAt u strict (place q)
+      go (seven at) t e = t .seven at refl
+      go (other q n p) t e = absurd (n e)
 
   -- nothing is said of members, texts, groups and pieces
   abbrev TellSource : (ℕ → Entry) → List ℕ → Type 0
