@@ -85,7 +85,7 @@ cause-fits k Cause.RepeatedAttribute o e q p = record { fits = omega (arith, p) 
 cause-fits {body} {t} k Cause.BadReference o e q p =
     record { fits = omega (arith, p, place-within (walk-place body (rowsOf t) (sym e ∙ q)), o .rules .fewBytes) }
 
--- ---- for callers of the drain: where it answers a row and a cause, the rows can be walked and the place is the cause's; else there is none
+-- ---- for callers of the drain: where it answers a row and a cause, the rows can be walked, and the place is the cause's; else it is 0
 module _ (body t : List ℕ) (final : ℕ) {r : Drained} (e : r ≡ drained body t final) where
   pub place-passes : r ≡ Drained.Passes → 0 ≡ drainPlace body (rowsOf t) (drained body t final)
   unfolding drainPlace

@@ -128,7 +128,7 @@ pub ruleset element-text-laws = (needs, text-closed, text-inside, start-scope)
 pub row-in : {t : List ℕ} {text : Text} {k : ℕ} → TextIn t text → text ≡ Text.Row k → InTable t k
 row-in w e = rw e at w
 
--- a text of row k that was measured and does not unescape: its place lies in the body, so 32 bits hold it where the body is small
+-- a text of row k that was measured and does not unescape: its place lies in the body, so 16 bits hold it where the body is small
 measured-bad : (o : Out) {r : Unescaped} {at : ℕ} → r ≡ sizeOf o → r ≡ Unescaped.BadReference at → o ≡ ref.bad at
 unfolding sizeOf
 measured-bad (bytes l) e q = let z : _≡_ {A = ℕ} 0 1 = cc in absurd (omega arith)

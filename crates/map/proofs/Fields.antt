@@ -63,7 +63,7 @@ module _ {body t : List ℕ} (b : Readable body t) {k : ℕ} (i : InTable t k) {
       let z = sym (ap (unescapedFrom (getD t (k * 8 + 5) 0)) (c .is)) in
       rw (f, g) (record { same = z; known = record { inside = b .each k (i .row) .value; comes = c } })
 
-  -- a text that has no length is refused, with its place in the body, which is a 32-bit number
+  -- a text that has no length is refused, with its place in the body, which is a 16-bit number
   module _ {start at : ℕ} (f : start ≡ getD t (k * 8 + 5) 0) (q : r ≡ Unescaped.BadReference at) where
     pub row-small : length body ≤ 65536 → SmallPlace start (at + 1)
     row-small h = let n = text-within body t k f p e q b i in short-small (omega (arith, n))

@@ -38,7 +38,7 @@ module _ {body t : List ℕ} {w : Written} (q : Space body t w) where
   pub value-ready : (k : ℕ) {l : List ℕ} → l ≡ valueAt body t k → Ready w (length l)
   value-ready k e = record { small = omega (arith, q .small, value-short k e) }
 
-  -- each place in it, as a body offset, is a 32-bit number
+  -- each place in it, as a body offset, is a 16-bit number
   pub value-small : (k : ℕ) {from : ℕ} {l : List ℕ} → InTable t k → from ≡ getD t (k * 8 + 5) 0 → l ≡ valueAt body t k
       → SmallPlace from (length l)
   value-small k i f e =

@@ -1,4 +1,4 @@
--- The span that is measured is the row's value, and a place in it lies in the body, so 32 bits hold it.
+-- The span that is measured is the row's value, and a place in it lies in the body, so 16 bits hold it.
 use Rattle.scalar.proofs.Reading.{row-laws}
 use borrow.Author.Needs.{needs}
 use Rattle.scalar.proofs.read.row_length.Statement.{statement}
