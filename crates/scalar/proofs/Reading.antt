@@ -41,19 +41,19 @@ use Rattle.opening.specs.declared.Opening.{Opening}
 use Rattle.opening.specs.Opening.{OpeningIs, openedAt}
 use Rattle.scalar.specs.declared.Copied.{Copied}
 use Rattle.scalar.specs.Answers.{lengthIn, LengthIs, CopyIs}
-use Rattle.scalar.specs.Read.{ShortSpan, RowIn, RowsAs, RowsIn, TextRead, spoiltBy, rootsText, readText}
+use Rattle.scalar.specs.Read.{RowIn, RowsAs, RowsIn, TextRead, spoiltBy, rootsText, readText}
 use Rattle.scalar.proofs.Texts.{string-nothing}
 use Rattle.scalar.proofs.Opened.{opened-laws, opened-why, opened-is}
 use Rattle.scalar.proofs.Unescaping.{size-length, size-bad, size-never, saw-length, saw-bad, saw-over, bad-within, plain}
 
 -- ---- places: the value of a row, and what lies in it
-span-short : (body t : List ℕ) (k : ℕ) → Readable body t → InTable t k → length body ≤ 65536
-    → ShortSpan (getD t (k * 8 + 5) 0) (length (valueAt body t k))
-span-short body t k b i h =
+span-small : (body t : List ℕ) (k : ℕ) → Readable body t → InTable t k → length body ≤ 65536
+    → SmallPlace (getD t (k * 8 + 5) 0) (length (valueAt body t k))
+span-small body t k b i h =
     let m = length-take (getD t (k * 8 + 6) 0) (drop (getD t (k * 8 + 5) 0) body) in
     record { small = omega (arith, m, b .each k (i .row) .value) }
 
-bad-small : (text : List ℕ) {from at : ℕ} → ShortSpan from (length text) → unescaped text ≡ bad at → SmallPlace from (at + 1)
+bad-small : (text : List ℕ) {from at : ℕ} → SmallPlace from (length text) → unescaped text ≡ bad at → SmallPlace from (at + 1)
 bad-small text p e = record { small = omega (arith, p .small, bad-within text e) }
 
 -- ---- the length of a row's value
@@ -64,7 +64,7 @@ module _ (body t : List ℕ) (k : ℕ) {v : List ℕ} (p : v ≡ valueAt body t 
 
   module _ {from at : ℕ} (f : from ≡ getD t (k * 8 + 5) 0) (e : y ≡ Unescaped.BadReference at) where
     pub row-place : Readable body t → InTable t k → length body ≤ 65536 → SmallPlace from (at + 1)
-    row-place b i h = bad-small v (rw (f, p) (span-short body t k b i h)) (size-bad (unescaped v) q e)
+    row-place b i h = bad-small v (rw (f, p) (span-small body t k b i h)) (size-bad (unescaped v) q e)
 
     pub row-bad : {why : Refusal} → why ≡ Refusal.BadReference (from + at)
         → LengthIs (Copied.Refused why) (unescapedFrom (getD t (k * 8 + 5) 0) (unescaped (valueAt body t k)))
@@ -103,8 +103,8 @@ module _ {body t : List ℕ} {r : Text} (w : RowsIn body t r) {k : ℕ} (e : r �
   pub row-small : length body ≤ 65536
   row-small = here .small
 
-  pub row-short : {from : ℕ} {v : List ℕ} → from ≡ getD t (k * 8 + 5) 0 → v ≡ valueAt body t k → ShortSpan from (length v)
-  row-short f p = rw (f, p) (span-short body t k (here .readable) (here .row) (here .small))
+  pub value-small : {from : ℕ} {v : List ℕ} → from ≡ getD t (k * 8 + 5) 0 → v ≡ valueAt body t k → SmallPlace from (length v)
+  value-small f p = rw (f, p) (span-small body t k (here .readable) (here .row) (here .small))
 
 -- ---- "9 after the rest"
 no-row : {body t : List ℕ} {a : Answer (List ℕ)} (f : Refusal) → refuses f ≡ a → TextRead body t (Text.Refused f) a
@@ -188,7 +188,7 @@ pub got-low : {text old new : List ℕ} {r : Unescaped} → Unescape text old ne
 got-low u e = saw-length u e .1
 
 pub got-place : {text old new : List ℕ} {r : Unescaped} {from at : ℕ} → Unescape text old new r → r ≡ Unescaped.BadReference at
-    → ShortSpan from (length text)
+    → SmallPlace from (length text)
     → SmallPlace from (at + 1)
 got-place {text} u e p = bad-small text p (saw-bad u e)
 
@@ -227,11 +227,11 @@ boolean-none = refl
 
 pub ruleset boolean-in-laws = (needs, got-low, got-place, value-got, value-bad, boolean-over)
 
-pub ruleset boolean-at-laws = (needs, row-span, row-bound, row-short, value-row, value-empty, value-refused, boolean-none)
+pub ruleset boolean-at-laws = (needs, row-span, row-bound, value-small, value-row, value-empty, value-refused, boolean-none)
 
 -- ---- integers: a text that is unescaped is no longer
 pub integer-over : {from : ℕ} {text old new : List ℕ} {r : Unescaped} → Unescape text old new r → length old ≡ 65536
-    → ShortSpan from (length text)
+    → SmallPlace from (length text)
     → r ≡ Unescaped.NoRoom
     → refuses Refusal.NotInteger ≡ onward (unescapedFrom from (unescaped text)) integerOf
 integer-over {text = text} u h l e =
@@ -245,7 +245,7 @@ pub ruleset integer-replaced-laws = (needs, got-low, got-place, value-got, value
 
 pub ruleset integer-in-laws = (needs, value-plain)
 
-pub ruleset integer-at-laws = (needs, row-span, row-bound, row-short, value-row, value-empty, value-refused, integer-none)
+pub ruleset integer-at-laws = (needs, row-span, row-bound, value-small, value-row, value-empty, value-refused, integer-none)
 
 -- ---- strings
 abbrev copiedOf : ℕ → Unescaped → Copied
@@ -300,7 +300,7 @@ module _ (body t : List ℕ) (r : Text) {old : List ℕ} where
       → CopyIs (onward (textAt body t r) (stringIn (length old))) old old (Copied.Refused f)
   string-refused e = record { number = rw e; buffer = rw e }
 
-pub ruleset string-at-laws = (needs, row-span, row-bound, row-short, string-row, string-empty, string-refused)
+pub ruleset string-at-laws = (needs, row-span, row-bound, value-small, string-row, string-empty, string-refused)
 
 -- ---- of a body
 module _ (body t : List ℕ) (final : ℕ) (s : sheet.Settings) (d : ShapeDepth) {strict : Bool} {r : Text} (e : strict ≡ isStrict s d)

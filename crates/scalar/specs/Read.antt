@@ -1,5 +1,5 @@
 -- The first text of a body, by its row.
-use Prim.Native.Nat.{ℕ, _+_, _≤_}
+use Prim.Native.Nat.{ℕ, _≤_}
 use mathlib.Core.Path.{_≡_}
 use mathlib.Core.Bool.{Bool, true}
 use mathlib.Core.List.{List}
@@ -26,10 +26,6 @@ RowsAs body t (Text.Refused r) = Unit {0}
 
 pub record RowsIn (body t : List ℕ) (r : Text) : Type 0 where
   pub are : RowsAs body t r
-
--- n bytes from a place on, in a body, which is short
-pub record ShortSpan (from n : ℕ) : Type 0 where
-  pub small : from + n ≤ 65536
 
 -- the promise: the definition's text, which can be read
 pub record TextRead (body t : List ℕ) (r : Text) (is : Answer (List ℕ)) : Type 0 where

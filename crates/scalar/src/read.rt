@@ -5,6 +5,7 @@ ghost use mathlib.Core.Path.{_≡_};
 ghost use Prim.Native.Nat.{_+_, _*_, _≤_};
 ghost use lib.ListN.{getD, length};
 ghost use Rattle.refusal.specs.Answer.{onward};
+ghost use Rattle.refusal.specs.Numbers.{SmallPlace};
 ghost use Rattle.reference.specs.Text.{unescaped};
 ghost use Rattle.document.specs.Text.{unescapedFrom};
 ghost use Rattle.decode.specs.Rows.{InTable, Readable, valueAt};
@@ -14,7 +15,7 @@ ghost use Rattle.readings.specs.Scalar.{booleanOf, booleanReading, integerOf, i
 ghost use Rattle.codec.specs.Settings.{settingsOf};
 ghost use Rattle.opening.specs.Opening.{RootAt, openedAt};
 ghost use Rattle.scalar.specs.Answers.{CopyIs, LengthIs, booleanAs, integerAs};
-ghost use Rattle.scalar.specs.Read.{RowsIn, ShortSpan, TextRead, readText, rootsText, spoiltBy};
+ghost use Rattle.scalar.specs.Read.{RowsIn, TextRead, readText, rootsText, spoiltBy};
 use crate::Boolean;
 use crate::Copied;
 use crate::Integer;
@@ -103,7 +104,7 @@ fn take_text(strict: bool, body: &[u8], rows: &[u32], end: u32) -> Text
 
 // A boolean from a text that is to be unescaped and begins at `from` in the body.
 fn boolean_in(text: &[u8], from: usize) -> Boolean
-    requires { ⌜ ShortSpan from (length (now text)) ⌝ }
+    requires { ⌜ SmallPlace from (length (now text)) ⌝ }
     ensures { λ r. ⌜ booleanAs r ≡ onward (unescapedFrom from (unescaped (now (text .entry)))) booleanOf ⌝ }
 {
     let mut room = [0u8; 8];
@@ -143,7 +144,7 @@ pub fn read_boolean(
 
 // An integer from a text with references that begins at `from` in the body.
 fn integer_replaced(text: &[u8], from: usize) -> Integer
-    requires { ⌜ ShortSpan from (length (now text)) ⌝ }
+    requires { ⌜ SmallPlace from (length (now text)) ⌝ }
     ensures { λ r. ⌜ integerAs r ≡ onward (unescapedFrom from (unescaped (now (text .entry)))) integerOf ⌝ }
 {
     let mut room = [0u8; 65536];
@@ -157,7 +158,7 @@ fn integer_replaced(text: &[u8], from: usize) -> Integer
 
 // An integer from a text that is to be unescaped and begins at `from` in the body.
 fn integer_in(text: &[u8], from: usize) -> Integer
-    requires { ⌜ ShortSpan from (length (now text)) ⌝ }
+    requires { ⌜ SmallPlace from (length (now text)) ⌝ }
     ensures { λ r. ⌜ integerAs r ≡ onward (unescapedFrom from (unescaped (now (text .entry)))) integerOf ⌝ }
 {
     if slices::find(text, 0, b'&') == text.len() {
@@ -195,7 +196,7 @@ pub fn read_integer(
 
 // A string from a text that is to be unescaped and begins at `from` in the body, into a lent buffer.
 fn string_in(text: &[u8], from: usize, out: &mut [u8]) -> Copied
-    requires { ⌜ ShortSpan from (length (now text)) ⌝ }
+    requires { ⌜ SmallPlace from (length (now text)) ⌝ }
     ensures { λ r. ⌜ CopyIs (onward (unescapedFrom from (unescaped (now (text .entry)))) (stringIn (length (now (out .entry)))))
         (now (out .entry)) (now (out .exit)) r ⌝ }
 {
