@@ -85,21 +85,15 @@ def entries_of(words):
 
 
 def within(number, entries, room):
-    """01: an entry and its text only if both fit, else 10; all groups together or none."""
+    """01: an entry and its text only if both fit, else 10; change request 2: of groups too, one after another."""
     written, used = [], 0
     for entry in entries:
-        if entry[0] != 3:
-            need = len(entry[2]) + len(entry[3])
-            if len(written) >= room[0] or used + need > room[1]:
-                return 10, written
-            written.append(entry)
-            used += need
-    if number != 0:
-        return number, written
-    groups = [entry for entry in entries if entry[0] == 3]
-    if len(written) + len(groups) > room[0] or used + sum(len(entry[3]) for entry in groups) > room[1]:
-        return (10 if groups else 0), written
-    return 0, written + groups
+        need = len(entry[2]) + len(entry[3])
+        if len(written) >= room[0] or used + need > room[1]:
+            return 10, written
+        written.append(entry)
+        used += need
+    return number, written
 
 
 def placeless(entries):
@@ -241,7 +235,6 @@ use mathlib.Core.Path.{_≡_, refl}
 use mathlib.Core.List.{List, [], _∷_, map}
 use Rattle.readings.specs.Call.{Upload}
 use Rattle.readings.proofs.All.{computed}
-use Rattle.readings.specs.Order.{hasGroup, grouped}
 use Rattle.faith.specs.Ask.{
   Case, at, answer, ask-struct, ask-list, ask-map, ask-strings, ask-bool, ask-int, ask-string, ask-find, ask-whole, ask-drain,
   ask-textbool, ask-textint, ask-textstring,
@@ -249,7 +242,7 @@ use Rattle.faith.specs.Ask.{
 """
 
 
-UNFOLDING = "unfolding computed hasGroup grouped"
+UNFOLDING = "unfolding computed"
 
 
 class Module:

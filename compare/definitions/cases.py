@@ -2,6 +2,8 @@
 
 A case is a question to the definitions. `Case.room` is None where there is room enough."""
 
+from itertools import permutations
+
 import gen
 
 MAXIMUM = 128
@@ -402,6 +404,23 @@ def rooms(rng):
             yield Case("targeted", "room", "textstring", text, room=(0, space))
 
 
+def groups(rng):
+    """Change request 2: by rising member index, each if it fits. Groups of three sizes, met in every order, in every room."""
+    flat = AGGREGATE | FLATTENED
+    sheet = structure([member(b"n", flat), member(b"a", flat), member(b"b"), member(b"c", flat), member(b"d", flat)])
+    siblings = {b"a": b"<a>12</a>", b"c": b"<c/>", b"d": b"<d>3</d>"}
+    sizes = [17 + 2 * len(siblings[name]) for name in sorted(siblings)]
+    ends = [1 + sum(sizes[:n]) for n in range(4)]
+    spaces = sorted({space for end in ends for space in (end - 1, end, end + min(sizes), end + max(sizes) - 1) if space >= 0})
+    for met in permutations(siblings):
+        body = b"<r>" + b"".join(siblings[name] for name in met) + b"<b>5</b>" + b"".join(siblings[name] for name in met) + b"</r>"
+        for entries in range(6):
+            yield Case("targeted", "groups", "struct", body, sheet, rng.choice([0, 1]), 0, room=(entries, 1000))
+        for space in spaces:
+            yield Case("targeted", "groups", "struct", body, sheet, rng.choice([0, 1]), 0, room=(rng.choice([3, 4, 100]), space))
+        yield Case("targeted", "groups", "struct", body[:-1] + b" ", sheet, 1, 0)
+
+
 def unwrapped(rng):
     """The root as the one member, over short bodies: each cut, each lost byte, each end tag; whatever closes the root."""
     for body in (b"<r><a>1</a></r> ", b"<!--c--><p:r x='1'><r/></p:r><!--d-->", b"<r>1<r>2</r></r>", b"<r/> "):
@@ -539,7 +558,7 @@ def places(rng):
 
 
 def targeted(seed_rng, tables):
-    for family in (chosen, names, members, broken_sheets, order, texts, rooms, unwrapped, defects, told_apart):
+    for family in (chosen, names, members, broken_sheets, order, texts, rooms, groups, unwrapped, defects, told_apart):
         yield from family(seed_rng)
     yield from broken_tables(seed_rng, tables)
     deep = [(b"<a>" * levels) + (b"</a>" * levels) for levels in (256, 257)] + [b"<a>" * 256 + b"<b/>",

@@ -114,6 +114,12 @@ pub struct Count {
     entries: u64,
     numbers: [u64; 14],
     longer_roots: u64,
+    /// Of those beside the Rust: how many had two groups or more. In less room, beside
+    /// the model: how often a group had none, with one before it written; and how often
+    /// one after it would have fitted.
+    group_sets: u64,
+    groups_kept: u64,
+    groups_barred: u64,
     /// Of all, lenient and strict: answers of 7, and entries of kind 4 whose number is 7.
     sevens: [u64; 2],
     bad_references: [u64; 2],
@@ -127,12 +133,15 @@ impl Count {
             self.derived += u64::from(derived);
             self.finished += u64::from(compared.number == 0);
             self.rust_entries += compared.entries as u64;
+            self.group_sets += u64::from(compared.groups > 1);
         } else {
             self.model[source as usize] += 1;
         }
         self.entries += compared.entries as u64;
         self.numbers[compared.number as usize] += 1;
         self.longer_roots += u64::from(compared.longer_root);
+        self.groups_kept += compared.groups_kept as u64;
+        self.groups_barred += compared.groups_barred as u64;
         let strict = usize::from(compared.strict);
         self.sevens[strict] += u64::from(compared.number == 7);
         self.bad_references[strict] += compared.bad_references as u64;
@@ -150,6 +159,9 @@ impl Count {
         self.rust_entries += other.rust_entries;
         self.entries += other.entries;
         self.longer_roots += other.longer_roots;
+        self.group_sets += other.group_sets;
+        self.groups_kept += other.groups_kept;
+        self.groups_barred += other.groups_barred;
     }
 
     pub fn beside_rust(&self) -> u64 {
@@ -188,6 +200,12 @@ impl Count {
         let [lenient, strict] = self.places(operation);
         if lenient + strict > 0 {
             parts.push(format!("places: strict {strict}, lenient {lenient}"));
+        }
+        if operation == Operation::Struct {
+            parts.push(format!(
+                "sets of groups {}, kept before one without room {}, barred by one {}",
+                self.group_sets, self.groups_kept, self.groups_barred
+            ));
         }
         parts.join("; ")
     }
@@ -278,6 +296,9 @@ pub struct Floor {
     pub lent: u64,
     /// Places, strict and lenient each, for each operation that tells one.
     pub places: u64,
+    /// Of structures: sets of groups beside the Rust; and each way in which a group may
+    /// have no room.
+    pub groups: u64,
 }
 
 /// A count and the least that it may be.
@@ -315,6 +336,11 @@ impl Floor {
             let [lenient, strict] = count.places(operation);
             claims.push(claim("lenient places", lenient, self.places));
             claims.push(claim("strict places", strict, self.places));
+        }
+        if operation == Operation::Struct {
+            claims.push(claim("sets of groups", count.group_sets, self.groups));
+            claims.push(claim("groups kept", count.groups_kept, self.groups));
+            claims.push(claim("groups barred", count.groups_barred, self.groups));
         }
         claims
     }

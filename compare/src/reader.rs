@@ -56,17 +56,13 @@ struct Output {
 }
 
 impl Output {
-    fn fits(&self, entries: usize, bytes: usize) -> bool {
-        self.entries.len() + entries <= self.room.entries
-            && self.texts.len() + bytes <= self.room.bytes
-    }
-
     fn at(&self) -> u32 {
         self.texts.len() as u32
     }
 
     fn write(&mut self, entry: [u32; 6], bytes: &[u8]) -> Result<(), Refused> {
-        if !self.fits(1, bytes.len()) {
+        let full = self.entries.len() == self.room.entries;
+        if full || self.texts.len() + bytes.len() > self.room.bytes {
             return Err(10.into());
         }
         self.entries.push(entry);
@@ -363,7 +359,7 @@ fn sheet_of(kind: Kind, bytes: &[u8]) -> Option<Sheet> {
     }
 }
 
-/// A reading of any table, in any room. Groups come by rising member index.
+/// A reading of any table, in any room.
 pub fn read(kind: Kind, lent: Lent<'_>, asked: Asked<'_>, room: Room) -> Told {
     let refused = |number| Told {
         number,
@@ -466,29 +462,15 @@ fn read_struct(
     write_groups(groups, out)
 }
 
-/// "if all groups together do not fit, 10 and none is written"
+/// "by rising member index", and "room is now tested group by group, so the groups before
+/// the one that does not fit stay written"
 fn write_groups(siblings: Vec<Vec<u8>>, out: &mut Output) -> Result<(), Refused> {
-    let mut groups = Vec::new();
-    for (index, siblings) in siblings
-        .iter()
-        .enumerate()
-        .filter(|(_, siblings)| !siblings.is_empty())
-    {
-        groups.push((
-            index as u32,
-            [b"<__flat>", siblings.as_slice(), b"</__flat>"].concat(),
-        ));
-    }
-    if !groups.is_empty()
-        && !out.fits(
-            groups.len(),
-            groups.iter().map(|(_, group)| group.len()).sum(),
-        )
-    {
-        return Err(10.into());
-    }
-    for (index, group) in groups {
-        out.write([3, index, 0, 0, out.at(), group.len() as u32], &group)?;
+    for (index, siblings) in siblings.iter().enumerate() {
+        if !siblings.is_empty() {
+            let group = [b"<__flat>", siblings.as_slice(), b"</__flat>"].concat();
+            let entry = [3, index as u32, 0, 0, out.at(), group.len() as u32];
+            out.write(entry, &group)?;
+        }
     }
     Ok(())
 }

@@ -1,7 +1,7 @@
 //! The check of one question to a reading: the static library beside the model
 //! (src/reader.rs), always, and beside the Rust, where it can be asked. The places, of a
 //! 7 and of an entry of kind 4 whose number is 7, are left out beside the Rust, which
-//! knows none.
+//! knows none; and its groups, which it keeps in a hash map, are compared as a set.
 
 use crate::calls::{self, Answer, Caller};
 use crate::model;
@@ -38,6 +38,12 @@ pub struct Compared {
     pub strict: bool,
     /// Alike but for the unwrapped piece, which by design is longer in the Rust.
     pub longer_root: bool,
+    /// With room enough.
+    pub groups: usize,
+    /// In less room: 10 at a group, with one before it written.
+    pub groups_kept: usize,
+    /// In less room: 10 at a group, where one after it would fit.
+    pub groups_barred: usize,
 }
 
 /// What differs is told in words.
@@ -64,6 +70,7 @@ impl Asker {
             entries: told.entries.len(),
             bad_references: bad_references(&told),
             strict: is_strict(asked.flags, asked.depth),
+            groups: told.entries.iter().filter(|entry| is_group(entry)).count(),
             ..Compared::default()
         };
         if !tokens || told.number == 1 && rules::answer(lent).number == 1 {
@@ -72,7 +79,8 @@ impl Asker {
         beside_rust(kind, lent.body, asked, &told, compared)
     }
 
-    /// The same in less room: just enough, one less of each, and a share of each.
+    /// The same in less room: just enough, one less of each, a share of each, and a byte
+    /// too few for the longest group.
     pub fn in_less_room(
         &mut self,
         kind: Kind,
@@ -88,6 +96,7 @@ impl Asker {
             (entries, bytes.saturating_sub(1)),
             (share % (entries + 1), bytes),
             (entries, share % (bytes + 1)),
+            (entries, short_of_a_group(&most).unwrap_or(bytes)),
         ];
         let mut compared = Compared {
             strict: is_strict(asked.flags, asked.depth),
@@ -102,6 +111,10 @@ impl Asker {
             compared.number = told.number;
             compared.entries = told.entries.len();
             compared.bad_references = bad_references(&told);
+            if told.number == 10 {
+                compared.groups_kept += usize::from(is_kept(&most, &told));
+                compared.groups_barred += usize::from(is_barred(&most, &told, entries, bytes));
+            }
         }
         Ok(compared)
     }
@@ -305,6 +318,30 @@ fn beside_rust(
     Err(format!("is {ours}, the Rust {rust}"))
 }
 
+fn is_group(entry: &[u32; 6]) -> bool {
+    entry[0] == 3
+}
+
+/// A byte too few for the longest group.
+fn short_of_a_group(most: &Told) -> Option<usize> {
+    let groups = most.entries.iter().filter(|entry| is_group(entry));
+    let [.., start, len] = groups.max_by_key(|group| group[5])?;
+    Some((start + len - 1) as usize)
+}
+
+/// The first entry that has no room is a group, and so is the one before it.
+fn is_kept(most: &Told, told: &Told) -> bool {
+    let without_room = most.entries.get(told.entries.len());
+    without_room.is_some_and(is_group) && told.entries.last().is_some_and(is_group)
+}
+
+/// It is a group, and one after it would fit.
+fn is_barred(most: &Told, told: &Told, entries: usize, bytes: usize) -> bool {
+    let mut left = most.entries[told.entries.len()..].iter();
+    let (room, fits) = (bytes - told.texts.len(), told.entries.len() < entries);
+    left.next().is_some_and(is_group) && fits && left.any(|group| group[5] as usize <= room)
+}
+
 fn is_bad_reference(entry: &[u32; 6]) -> bool {
     entry[0] == 4 && entry[4] == 7
 }
@@ -321,13 +358,18 @@ fn places_may_be_told(body: &[u8], told: &Told) -> bool {
         && model::may_be_told(body, told.number == 7, told.place)
 }
 
-/// An answer as the oracle writes it.
+/// An answer as the oracle writes it: the groups, which come last, as a set, by member.
+/// (That they come so in the library's answer is the model's to test.)
 fn line(told: &Told) -> String {
     let mut line = match told.number {
         0 => "ok".to_string(),
         number => format!("refuse {number}"),
     };
-    for [kind, member, key_start, key_len, start, len] in told.entries.iter().copied() {
+    let mut entries = told.entries.clone();
+    if let Some(first) = entries.iter().position(is_group) {
+        entries[first..].sort_by_key(|entry| entry[1]);
+    }
+    for [kind, member, key_start, key_len, start, len] in entries {
         let part = |start: u32, len: u32| hex(&told.texts[start as usize..(start + len) as usize]);
         let key = part(key_start, key_len);
         line += &match kind {

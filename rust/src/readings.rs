@@ -84,7 +84,7 @@ impl Upload<'_> {
     }
 
     /// Reads a structure: attribute members in sheet order, children in body order, then
-    /// the groups.
+    /// the groups by rising member index.
     ///
     /// ```
     /// # #[cfg(feature = "xmlparser")] {

@@ -138,6 +138,56 @@ fn readings_are_the_librarys() {
     assert!(refused > 100, "{refused}");
 }
 
+/// Sapwood notes and scan notes come in one order, whatever the upload's; and in too
+/// little room the groups before the one that does not fit stay.
+#[test]
+fn groups_by_rising_member_index() {
+    let sheet = StructSheet::builder("core")
+        .member(Member::new("sapwood").flattened().aggregate())
+        .member(Member::new("bark"))
+        .member(Member::new("scan").flattened().aggregate())
+        .build()
+        .unwrap();
+    let sapwood = "<__flat><sapwood>9</sapwood><sapwood>7</sapwood></__flat>";
+    let scan = "<__flat><scan>a</scan></__flat>";
+    for children in [
+        "<sapwood>9</sapwood><sapwood>7</sapwood><bark/><scan>a</scan>",
+        "<scan>a</scan><bark/><sapwood>9</sapwood><sapwood>7</sapwood>",
+        "<sapwood>9</sapwood><scan>a</scan><sapwood>7</sapwood><bark/>",
+    ] {
+        let body = format!("<core>{children}</core>");
+        let upload = check(body.as_bytes()).unwrap();
+        let reading = upload.read_struct(&sheet, &STRICT);
+        let all: Vec<_> = reading
+            .entries()
+            .map(|entry| (entry.member(), entry.bytes().to_vec()))
+            .collect();
+        let expected = [(1, ""), (0, sapwood), (2, scan)];
+        assert_eq!(all, expected.map(|(n, bytes)| (n, bytes.into())));
+        for room in 0..=sapwood.len() + scan.len() {
+            let mut entries = [lent::Entry::default(); 3];
+            let mut texts = vec![b'?'; room];
+            let (lent, bytes) = (upload.lent(), sheet.as_bytes());
+            let done = lent::read_struct(lent, bytes, STRICT, 0, &mut entries, &mut texts);
+            let (kept, used) = match room {
+                _ if room < sapwood.len() => (0, 0),
+                _ if room < sapwood.len() + scan.len() => (1, sapwood.len()),
+                _ => (2, room),
+            };
+            let refused = done.err().map(|refused| (refused.refusal, refused.written));
+            let written = lent::Written {
+                count: 1 + kept,
+                length: used,
+            };
+            assert_eq!(refused, (kept < 2).then_some((Refusal::NoRoom, written)));
+            let expected = [sapwood, scan][..kept].concat() + &"?".repeat(room - used);
+            assert_eq!(texts, expected.as_bytes());
+            let members = entries.map(|entry| entry.member);
+            assert_eq!(members, [[1, 0, 0], [1, 0, 0], [1, 0, 2]][kept]);
+        }
+    }
+}
+
 /// Bodies and sheets that ask for as much room as there can be.
 #[test]
 fn room_suffices_at_the_extremes() {

@@ -20,7 +20,7 @@ use Rattle.output.specs.Held.{roomOf}
 use Rattle.output.specs.Call.{ReadingCall}
 use Rattle.deserializer.specs.declared.Shape.{Shape}
 use Rattle.deserializer.specs.Call.{ShapeCall, SheetCall}
-use Rattle.deserializer.specs.Demand.{MayAnswer, finished, refused, PieceEntry, shapeAt, Ordered, Demanded}
+use Rattle.deserializer.specs.Demand.{MayAnswer, finished, refused, PieceEntry, definedAs, Demanded}
 
 -- ---- the numbers of the k-th entry stand at k * 6
 first-piece : {u : Upload} {sheet texts : List ℕ} (y : Entry) (s : List ℕ) → Handed u sheet texts y → PieceEntry u (sixNumbers y ++ s) 0
@@ -58,34 +58,30 @@ may-answer (refuses m a) = refused m
 
 -- ---- from the promise of a call
 module _ {u : Upload} {call : Call} {e t e′ t′ : List ℕ} {n m r : ℕ} where
-  keeps : (shape : Shape) (order : List ℕ) → Ordered shape u call order → ReadingCall (read (shapeAt shape order) u call) e t e′ t′ n m r
-      → Demanded shape u call e t e′ n r
+  keeps : (shape : Shape) → ReadingCall (read (definedAs shape) u call) e t e′ t′ n m r → Demanded shape u call e t e′ n r
   unfolding overwritten
-  keeps shape order ordered c =
+  keeps shape c =
       record {
         kept = λ p. record {
-          order = order;
-          ordered = ordered;
-          number = rw (c .number) (may-answer (holds p order));
+          number = rw (c .number) (may-answer (holds p));
           pieces = rw (c .entries, c .count)
-              (record { each = pieces-of (entries order) (promised-output (holds p order)) (drop (length (numbersOf (entries order))) e) });
+              (record { each = pieces-of entries (promised-output (holds p)) (drop (length (numbersOf entries)) e) });
           promised = holds p;
         };
       }
     where
-      entries : List ℕ → List Entry
-      entries order = output (read (shapeAt shape order) u call (roomOf e t)) .entries
+      entries : List Entry
+      entries = output (read (definedAs shape) u call (roomOf e t)) .entries
 
-      holds : drained (u .body) (u .rows) (u .end) ≡ Drained.Passes → (order : List ℕ)
-          → Promised u call (roomOf e t) (shapeAt shape order)
-          (read (shapeAt shape order) u call (roomOf e t))
-      holds p order = demand-3 u (drained-passes-is (u .body) (u .rows) (u .end) .0 p) (shapeAt shape order) call (roomOf e t)
+      holds : drained (u .body) (u .rows) (u .end) ≡ Drained.Passes
+          → Promised u call (roomOf e t) (definedAs shape) (read (definedAs shape) u call (roomOf e t))
+      holds p = demand-3 u (drained-passes-is (u .body) (u .rows) (u .end) .0 p) (definedAs shape) call (roomOf e t)
 
   pub demanded : {shape : Shape} → SheetCall shape u call e t e′ t′ n m r → Demanded shape u call e t e′ n r
   demanded {shape} c = go shape (c .is)
     where
       go : (shape : Shape) → ShapeCall shape u call e t e′ t′ n m r → Demanded shape u call e t e′ n r
-      go Shape.Struct c = keeps Shape.Struct (c .order) (c .ordered) (c .reads)
-      go Shape.List c = keeps Shape.List [] (tt {0}) c
-      go Shape.Map c = keeps Shape.Map [] (tt {0}) c
-      go Shape.StringList c = keeps Shape.StringList [] (tt {0}) c
+      go Shape.Struct c = keeps Shape.Struct c
+      go Shape.List c = keeps Shape.List c
+      go Shape.Map c = keeps Shape.Map c
+      go Shape.StringList c = keeps Shape.StringList c

@@ -11,7 +11,6 @@ use borrow.Author.Tests.{eq-eqb, ne-eqb}
 use Rattle.refusal.specs.declared.Refusal.{Refusal}
 use Rattle.sheet.specs.declared.ShapeDepth.{ShapeDepth}
 use Rattle.sheet.specs.Settings.{Settings, isStrict, tooDeep, testsRootName}
-use Rattle.sheet.specs.Sheet.{structureOf}
 use Rattle.sheet.specs.Names.{itemName, entryName}
 use Rattle.codec.specs.declared.settings.Settings as codec
 use Rattle.codec.specs.declared.structure.StructureSheet.{StructureSheet}
@@ -21,7 +20,7 @@ use Rattle.codec.specs.Settings.{settingsOf}
 use Rattle.codec.specs.Collection.{listSaid, ListSaid, ListRead, mapSaid, MapSaid, MapRead}
 use Rattle.readings.specs.Call.{Upload, Call, uploaded, calling}
 use Rattle.readings.specs.Output.{Room, nothing, Reading}
-use Rattle.readings.specs.Plan.{Plan, perform, performed}
+use Rattle.readings.specs.Plan.{Plan, perform}
 use Rattle.readings.specs.Collection.{itemsPlan, listPlan, listReading, stringsPlan, stringListPlan, stringListReading, mapPlan, mapReading}
 use Rattle.decode.specs.declared.reader.StartRow.{StartRow}
 use Rattle.decode.specs.declared.reader.Cursor.{Cursor}
@@ -39,9 +38,7 @@ use Rattle.opening.specs.Level.{none-written, collected}
 use Rattle.list.specs.List.{WholeIs}
 use Rattle.list.specs.StringList.{StringsWholeIs}
 use Rattle.codec.specs.Structure.{saidBy, StructureSaid, StructureRead}
-use Rattle.readings.specs.Opening.{asked}
-use Rattle.readings.specs.Structure.{OrderFor, structureReading}
-use Rattle.readings.proofs.Laws.Order.{orderIn, an-order}
+use Rattle.readings.specs.Structure.{structureReading}
 use Rattle.readings.proofs.Laws.Place.{structure-tells-none, list-tells-none}
 use Rattle.structure.specs.Structure.{StructureIs}
 use Rattle.structure.proofs.Called.{structure-early, structure-is}
@@ -70,12 +67,11 @@ told-place reading (Step.Done w) y = place-done reading y refl
 told-place reading (Step.Refused why w) y = place-refused reading y refl
 
 module _ (u : Upload) (call : Call) {e t e′ t′ : List ℕ} {r : Step} where
-  struct-told : {order : List ℕ} → OrderFor u call order → Ends (structureReading u call order (roomOf e t)) e t e′ t′ r
-      → SheetRead Shape.Struct u call e t e′ t′ r
-  struct-told {order} o y =
+  struct-told : Ends (structureReading u call (roomOf e t)) e t e′ t′ r → SheetRead Shape.Struct u call e t e′ t′ r
+  struct-told y =
       record {
-        reads = record { is = record { order = order; ordered = o; reads = told (structureReading u call order) r y } };
-        place = record { is = told-place (structureReading u call order) r y .place ∙ structure-tells-none u call (roomOf e t) order };
+        reads = record { is = told (structureReading u call) r y };
+        place = record { is = told-place (structureReading u call) r y .place ∙ structure-tells-none u call (roomOf e t) };
       }
 
   list-told : Ends (listReading u call (roomOf e t)) e t e′ t′ r → SheetRead Shape.List u call e t e′ t′ r
@@ -155,33 +151,27 @@ struct-said p a q = p .there (asked-ok a q)
 module _ (body t : List ℕ) (final : ℕ) (sheet : List ℕ) {parsed : StructureSheet} (settings : Settings) (depth : ShapeDepth)
     (entered : Bool) (p : StructureRead sheet parsed) {strict : Bool}
     {r : Opening} (a : AskedIs body t final (parsed .ok) (not entered) strict r) (i : strict ≡ isStrict settings depth) where
-  -- groups come by rising member index
-  abbrev rising : List ℕ
-  rising = orderIn (asked (uploaded body t final) (structureOf sheet) settings depth)
-
   deep-struct : entered ≡ not (tooDeep settings depth) → not entered ≡ tooDeep settings depth
   deep-struct = not-entered (tooDeep settings depth)
 
   pub struct-refused : (e tx : List ℕ) {why : Refusal} → r ≡ Opening.Refused why
       → EnteredRead Shape.Struct (uploaded body t final) (calling sheet settings depth) entered e tx e tx (Step.Refused why none-written)
-  unfolding structureReading performed perform
+  unfolding structureReading perform
   struct-refused e tx {why} q =
       record {
         read = λ g. struct-told (uploaded body t final) (calling sheet settings depth)
-            (an-order (uploaded body t final) (calling sheet settings depth))
-            (ends-early e tx {why = why} (ap (performed (roomOf e tx)) (structure-early body t final sheet settings depth rising
+            (ends-early e tx {why = why} (rw (structure-early body t final sheet settings depth
             (asked-early a settings depth (deep-struct g) i (λ o. p .there o .said) (p .broken) q))));
       }
 
   pub struct-read : {v : View} {s : StartRow} {c : Cursor} {e tx e′ tx′ : List ℕ} {tests : Bool} {got : Step} → r ≡ Opening.Found v s c
       → StructureIs body t v (saidBy sheet) tests s c e tx e′ tx′ got → tests ≡ testsRootName settings depth
       → EnteredRead Shape.Struct (uploaded body t final) (calling sheet settings depth) entered e tx e′ tx′ got
-  unfolding structureReading performed
+  unfolding structureReading
   struct-read {v} {s} {c} {e} {tx} {tests = tests} {got} q x k =
       record {
         read = λ g. struct-told (uploaded body t final) (calling sheet settings depth)
-            (an-order (uploaded body t final) (calling sheet settings depth))
-            (ends-as (ap (performed (roomOf e tx))
+            (ends-as (ap (λ (z : Plan). perform (roomOf e tx) z nothing)
             (structure-is body t final sheet settings depth (saidBy sheet) (openedAt body t v s c)
             (asked-found a settings depth (deep-struct g) i (λ o. p .there o .said) q)))
             (rw k at (x .does) .is (holds-nothing e tx)));

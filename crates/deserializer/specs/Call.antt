@@ -13,7 +13,7 @@ use Rattle.sheet.specs.Settings.{Settings, tooDeep}
 use Rattle.codec.specs.declared.settings.Settings as codec
 use Rattle.codec.specs.Settings.{settingsOf}
 use Rattle.readings.specs.Call.{Upload, Call}
-use Rattle.readings.specs.Structure.{OrderFor, structureReading}
+use Rattle.readings.specs.Structure.{structureReading}
 use Rattle.readings.specs.Collection.{listReading, mapReading, stringListReading}
 use Rattle.output.specs.declared.Step.{Step}
 use Rattle.output.specs.Held.{writtenOf}
@@ -33,16 +33,9 @@ placeOf (Step.Refused why w) = place why
 -- What is asked of a reading, and what came of it: an upload and a call; both buffers as they were and as they are; how many entries and
 -- text bytes are written; and the number.
 
--- a structure: "then the groups, in an order left open". There is an order in which each group comes once, and the answer is the
--- definition's at it.
-pub record StructCall (u : Upload) (call : Call) (e t e′ t′ : List ℕ) (n m r : ℕ) : Type 0 where
-  pub order : List ℕ
-  pub ordered : OrderFor u call order
-  pub reads : ReadingCall (structureReading u call order) e t e′ t′ n m r
-
--- any of the four
+-- any of the four: the answer is the definition's
 abbrev pub ShapeCall : Shape → Upload → Call → List ℕ → List ℕ → List ℕ → List ℕ → ℕ → ℕ → ℕ → Type 0
-ShapeCall Shape.Struct u call = StructCall u call
+ShapeCall Shape.Struct u call = ReadingCall (structureReading u call)
 ShapeCall Shape.List u call = ReadingCall (listReading u call)
 ShapeCall Shape.Map u call = ReadingCall (mapReading u call)
 ShapeCall Shape.StringList u call = ReadingCall (stringListReading u call)

@@ -11,7 +11,6 @@ use Rattle.xml.specs.Drain.{drained}
 use Rattle.xml.specs.Piece.{ElementPiece}
 use Rattle.readings.specs.Call.{Upload, Call}
 use Rattle.readings.specs.Output.{pieceKind, Room, Output}
-use Rattle.readings.specs.Structure.{OrderFor}
 use Rattle.readings.specs.Shape as readings
 use Rattle.readings.specs.Shape.{read}
 use Rattle.readings.specs.Demand.{MayRefuse, Promised}
@@ -27,19 +26,12 @@ pub record PieceEntry (u : Upload) (entries : List ℕ) (i : ℕ) : Type 0 where
 pub record PiecesIn (u : Upload) (entries : List ℕ) (n : ℕ) : Type 0 where
   pub each : (k : ℕ) → k < n → PieceEntry u entries (k * 6)
 
--- the reading of the definitions, at an order of the groups where it is a structure's
-abbrev pub shapeAt : Shape → List ℕ → readings.Shape
-shapeAt Shape.Struct order = readings.structure order
-shapeAt Shape.List order = readings.list
-shapeAt Shape.Map order = readings.map
-shapeAt Shape.StringList order = readings.strings
-
--- the order of a structure's groups is one of its own; the others have none
-abbrev pub Ordered : Shape → Upload → Call → List ℕ → Type 0
-Ordered Shape.Struct u call order = OrderFor u call order
-Ordered Shape.List u call order = Unit {0}
-Ordered Shape.Map u call order = Unit {0}
-Ordered Shape.StringList u call order = Unit {0}
+-- what the definitions call it
+abbrev pub definedAs : Shape → readings.Shape
+definedAs Shape.Struct = readings.structure
+definedAs Shape.List = readings.list
+definedAs Shape.Map = readings.map
+definedAs Shape.StringList = readings.strings
 
 -- "is refused only for a broken sheet, the depth limit, no root, the root's name, an element where text is wanted, or no room": the number
 -- that was answered
@@ -47,14 +39,12 @@ pub data MayAnswer (shape : readings.Shape) (u : Upload) (call : Call) (room : R
   finished : MayAnswer shape u call room 0
   refused : {why : Refusal} {out : Output} → MayRefuse u call room shape out why → MayAnswer shape u call room (number why)
 
--- what is promised of a call that a passed body and table were lent to: its number, its pieces, and of the definition's reading, at any
--- order of groups, the whole of demand 3 (readings/specs/Demand.antt)
+-- what is promised of a call that a passed body and table were lent to: its number, its pieces, and of the definition's reading the whole
+-- of demand 3 (readings/specs/Demand.antt)
 pub record Kept (shape : Shape) (u : Upload) (call : Call) (e t e′ : List ℕ) (n r : ℕ) : Type 0 where
-  pub order : List ℕ
-  pub ordered : Ordered shape u call order
-  pub number : MayAnswer (shapeAt shape order) u call (roomOf e t) r
+  pub number : MayAnswer (definedAs shape) u call (roomOf e t) r
   pub pieces : PiecesIn u e′ n
-  pub promised : (order : List ℕ) → Promised u call (roomOf e t) (shapeAt shape order) (read (shapeAt shape order) u call (roomOf e t))
+  pub promised : Promised u call (roomOf e t) (definedAs shape) (read (definedAs shape) u call (roomOf e t))
 
 pub record Demanded (shape : Shape) (u : Upload) (call : Call) (e t e′ : List ℕ) (n r : ℕ) : Type 0 where
   pub kept : drained (u .body) (u .rows) (u .end) ≡ Drained.Passes → Kept shape u call e t e′ n r

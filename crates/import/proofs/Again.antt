@@ -90,8 +90,6 @@ module _ {t : List ℕ} {place : ℕ} {old new : List ℕ} {n : ℕ} (o : OwnRow
             entryRoom = refl;
             textRoom = refl;
             reads = subst (λ (u : Upload). SheetCall shape u call e tx e′ tx′ c l r) is reads;
-            order = kept .order;
-            ordered = kept .ordered;
             may = kept .number;
           }
 
@@ -245,7 +243,7 @@ module _ {shape : Shape} {body t : List ℕ} {end : ℕ} {call : Call} {e tx e�
       record {
         drained = d .number;
         refused = λ f. absurd (f z);
-        passed = λ _. record { reads = c; order = kept .order; ordered = kept .ordered; may = kept .number; again = a };
+        passed = λ _. record { reads = c; may = kept .number; again = a };
       }
 
 pub ruleset import-laws = (needs, import-refused, import-passed, import-pieces, import-read)

@@ -13,7 +13,7 @@ use Rattle.readings.specs.Output.{pieceKind}
 use Rattle.output.specs.Held.{roomOf}
 use Rattle.deserializer.specs.declared.Shape.{Shape}
 use Rattle.deserializer.specs.Call.{SheetCall}
-use Rattle.deserializer.specs.Demand.{MayAnswer, Ordered, shapeAt}
+use Rattle.deserializer.specs.Demand.{MayAnswer, definedAs}
 use Rattle.falzheod.specs.Numbers.{drainedNumber}
 use Rattle.import.specs.declared.pieces.Imported.{Imported}
 
@@ -41,9 +41,7 @@ pub record Reread (shape : Shape) (u : Upload) (start len : ℕ) (call : Call) (
   pub entryRoom : length e ≡ entries
   pub textRoom : length t ≡ texts
   pub reads : SheetCall shape (pieceUpload u row start len) call e t e′ t′ n m r
-  pub order : List ℕ
-  pub ordered : Ordered shape (pieceUpload u row start len) call order
-  pub may : MayAnswer (shapeAt shape order) (pieceUpload u row start len) call (roomOf e t) r
+  pub may : MayAnswer (definedAs shape) (pieceUpload u row start len) call (roomOf e t) r
 
 -- of entry k, if it is of kind 2 and there is a number k: that is the number of its piece
 pub record RereadAt (shape : Shape) (u : Upload) (entries : List ℕ) (call : Call) (room texts : ℕ) (numbers : List ℕ) (k : ℕ) : Type 0 where
@@ -80,9 +78,7 @@ pub record NothingDone (e t e′ t′ numbers numbers′ pe pt pe′ pt′ : Lis
 pub record AllRead (shape piece : Shape) (u : Upload) (call inner : Call) (e t e′ t′ numbers numbers′ : List ℕ) (room texts : ℕ)
     (r : Imported) : Type 0 where
   pub reads : SheetCall shape u call e t e′ t′ (r .count) (r .length) (r .read)
-  pub order : List ℕ
-  pub ordered : Ordered shape u call order
-  pub may : MayAnswer (shapeAt shape order) u call (roomOf e t) (r .read)
+  pub may : MayAnswer (definedAs shape) u call (roomOf e t) (r .read)
   pub again : EachReread piece u e′ (r .count) inner room texts numbers numbers′
 
 -- THE PROMISE of an import: of the upload and of each piece, read as these shapes by these calls. e and t are the buffers lent for the

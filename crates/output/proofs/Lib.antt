@@ -2,7 +2,6 @@ pub mod Room
 pub mod Texts
 pub mod Then
 pub mod Called
-pub mod AllOrNone
 pub mod Sound
 pub mod Kept
 pub mod Siblings

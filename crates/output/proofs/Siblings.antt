@@ -16,8 +16,7 @@ use Rattle.document.specs.View.{View}
 use Rattle.document.specs.Scope.{Child, Piece, pieceOf}
 use Rattle.sheet.specs.Sheet.{Structure}
 use Rattle.sheet.specs.Names.{resolve}
-use Rattle.readings.specs.Structure.{flatMember, inGroup, siblings, groupOf}
-use Rattle.readings.specs.Order.{hasGroup}
+use Rattle.readings.specs.Structure.{flatMember, inGroup, siblings, groupOf, hasGroup}
 use Rattle.output.specs.Kept.{keptFor, any, isKept, bytesOf, keptBytes, flat, Inside}
 use Rattle.output.proofs.Kept.{bytes-append, bytes-one}
 

@@ -1,7 +1,7 @@
 -- What follows of the numbers alone: buffers that are counted within their lengths hold some output, so a promise says how `Written`
 -- grows; and what is used stays small enough for the next text.
 use Prim.Native.Nat.{ℕ, zero, suc, _+_, _*_, _≤_}
-use mathlib.Core.Path.{_≡_, refl, sym, ap}
+use mathlib.Core.Path.{_≡_, refl, sym, _∙_, ap}
 use mathlib.Core.Bool.{Bool, true, false}
 use mathlib.Core.List.{List, [], _∷_, _++_}
 use native.Mathlib.Omega.{arith}
@@ -16,12 +16,22 @@ use Rattle.readings.specs.Output.{Entry, Room, Output, finished, refused, outpu
 use Rattle.readings.specs.Output.{pieceEntry, groupEntry, failedEntry, keyTextEntry, keyPieceEntry}
 use Rattle.readings.specs.Plan.{Plan, perform, one}
 use Rattle.readings.specs.Structure.{scalarPlan}
+use Rattle.readings.proofs.Plans.Perform.{Within}
 use Rattle.document.specs.Text.{unescapedFrom}
 use Rattle.output.specs.declared.Written.{Written}
 use Rattle.output.specs.declared.Step.{Step}
 use Rattle.output.specs.Plans.{textOr, text, scalar, piece, keyText, keyPiece, group}
 use Rattle.output.specs.Held.{roomOf, Holds, Does, Comes, Sound, Adds}
-use Rattle.output.proofs.AllOrNone.{holds-within}
+use Rattle.output.proofs.Room.{numbers-length}
+
+-- what the buffers hold is within the room
+pub holds-within : {out : Output} {e0 t0 e t : List ℕ} {w : Written} → Holds out e0 t0 e t w → Within (roomOf e0 t0) out
+unfolding overwritten
+holds-within {out} {e0} h =
+    let x = numbersOf (out .entries) in
+    let n : length e0 ≡ length x + length (drop (length x) e0) =
+    sym (h .sameEntries) ∙ ap length (h .entries) ∙ length-append x (drop (length x) e0) in
+    record { entries = omega (arith, n, numbers-length (out .entries)); texts = h .bytes }
 
 -- n entries from the front of a list
 entriesOf : List ℕ → ℕ → List Entry

@@ -4,12 +4,12 @@ use mathlib.Core.Path.{_≡_, refl, _∙_, ap}
 use mathlib.Core.Bool.{Bool, true, false}
 use mathlib.Core.List.{List, [], _∷_}
 use Rattle.refusal.specs.declared.Refusal.{Refusal}
-use Rattle.readings.specs.Output.{Room, Output, Reading, finished, refused, output}
-use Rattle.readings.specs.Plan.{Plan, end, perform, followedBy, oneByOne, endTest, Whole, withoutGroups, thenGroups}
+use Rattle.readings.specs.Output.{Room, Output, Reading, output}
+use Rattle.readings.specs.Plan.{Plan, end, perform, followedBy, oneByOne, endTest}
 use Rattle.readings.proofs.Plans.Perform.{andThen, perform-followed}
 use Rattle.output.specs.declared.Written.{Written}
 use Rattle.output.specs.declared.Step.{Step}
-use Rattle.output.specs.Held.{roomOf, Holds, Ends, Does, DoesWhole}
+use Rattle.output.specs.Held.{roomOf, Holds, Ends, Does}
 
 -- an output that the buffers hold, from which the rest gives the whole
 pub record Reached (x : Reading) (rest : Plan) (e0 t0 e t : List ℕ) (w : Written) : Type 0 where
@@ -106,41 +106,3 @@ module _ {A : Type 0} (f : A → Plan) {whole : Plan} {e t : List ℕ} {w : Writ
     pub each-stops : {why : Refusal} {w₂ : Written} → r ≡ Step.Refused why w₂ → Does whole e t w e₂ t₂ (Step.Refused why w₂)
     unfolding oneByOne
     each-stops q = midway-stops m (oneByOne f l) refl d q
-
--- ---- with groups
-pub whole-as : {f g : Whole} {e t : List ℕ} {w : Written} {e′ t′ : List ℕ} {r : Step} → f ≡ g → DoesWhole g e t w e′ t′ r
-    → DoesWhole f e t w e′ t′ r
-whole-as p d = rw p d
-
--- a plan without any
-pub alone-does : {p : Plan} {e t : List ℕ} {w : Written} {e′ t′ : List ℕ} {r : Step} → Does p e t w e′ t′ r
-    → DoesWhole (withoutGroups p) e t w e′ t′ r
-unfolding perform
-alone-does {p} d = record { is = λ {e0} {t0} {out} h. ends-as (same e0 t0 (perform (roomOf e0 t0) p out)) (d .is h) }
-  where
-    same : (e0 t0 : List ℕ) (x : Reading) → thenGroups (roomOf e0 t0) end x ≡ x
-    same e0 t0 (finished out) = refl
-    same e0 t0 (refused why out) = refl
-
--- one that begins with a plan
-module _ {step : Plan} (more groups : Plan) {e t : List ℕ} {w : Written} {e₁ t₁ : List ℕ} {r : Step} (d : Does step e t w e₁ t₁ r) where
-  pub whole-goes : {w₁ : Written} {e₂ t₂ : List ℕ} {last : Step} → r ≡ Step.Done w₁
-      → DoesWhole (record { asMet = more; groups = groups }) e₁ t₁ w₁ e₂ t₂ last
-      → DoesWhole (record { asMet = followedBy step more; groups = groups }) e t w e₂ t₂ last
-  whole-goes q d′ =
-      record {
-        is = λ {e0} {t0} {out} h.
-            let room = roomOf e0 t0 in
-            let y = rw q at (d .is h) in
-            ends-as (ap (thenGroups room groups) (begun room step more out refl (y .is))) (d′ .is (y .holds));
-      }
-
-  pub whole-stops : {why : Refusal} {w₁ : Written} → r ≡ Step.Refused why w₁
-      → DoesWhole (record { asMet = followedBy step more; groups = groups }) e t w e₁ t₁ (Step.Refused why w₁)
-  whole-stops q =
-      record {
-        is = λ {e0} {t0} {out} h.
-            let room = roomOf e0 t0 in
-            let y = rw q at (d .is h) in
-            ends-as (ap (thenGroups room groups) (begun room step more out refl (y .is))) (record { is = refl; holds = y .holds });
-      }

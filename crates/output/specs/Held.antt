@@ -9,7 +9,7 @@ use Rattle.lists.specs.Tests.{pick}
 use Rattle.lists.specs.Overwrite.{overwritten}
 use Rattle.reference.specs.Text.{bytes, unescaped, meaning}
 use Rattle.readings.specs.Output.{Room, Output, Reading, finished, refused, output, numbersOf}
-use Rattle.readings.specs.Plan.{Plan, perform, Whole, thenGroups}
+use Rattle.readings.specs.Plan.{Plan, perform}
 use Rattle.output.specs.declared.Written.{Written}
 use Rattle.output.specs.declared.Step.{Step}
 
@@ -45,11 +45,6 @@ pub record Ends (x : Reading) (e0 t0 e t : List ℕ) (r : Step) : Type 0 where
 -- definition's plan ends that is performed from that output on
 pub record Does (plan : Plan) (e t : List ℕ) (w : Written) (e′ t′ : List ℕ) (r : Step) : Type 0 where
   pub is : {e0 t0 : List ℕ} {out : Output} → Holds out e0 t0 e t w → Ends (perform (roomOf e0 t0) plan out) e0 t0 e′ t′ r
-
--- the same of a plan with its groups
-pub record DoesWhole (whole : Whole) (e t : List ℕ) (w : Written) (e′ t′ : List ℕ) (r : Step) : Type 0 where
-  pub is : {e0 t0 : List ℕ} {out : Output} → Holds out e0 t0 e t w
-      → Ends (thenGroups (roomOf e0 t0) (whole .groups) (perform (roomOf e0 t0) (whole .asMet) out)) e0 t0 e′ t′ r
 
 -- the promise of a function that is not lent the texts, whatever they are
 pub record Enters (plan : Plan) (e : List ℕ) (w : Written) (e′ : List ℕ) (r : Step) : Type 0 where

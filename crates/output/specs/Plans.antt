@@ -1,17 +1,13 @@
 -- The plans that the functions of this crate perform (readings/specs/Plan.antt), of numbers and texts as the functions are lent them.
-use Prim.Native.Nat.{ℕ, _+_}
-use mathlib.Core.List.{List, [], _∷_, _++_}
-use lib.ListN.{length}
+use Prim.Native.Nat.{ℕ}
+use mathlib.Core.List.{List, [], _++_}
 use Rattle.refusal.specs.declared.Refusal.{Refusal}
 use Rattle.refusal.specs.Answer.{Answer, gives, refuses}
 use Rattle.reference.specs.Text.{unescaped, meaning}
-use Rattle.document.specs.View.{View}
-use Rattle.document.specs.Scope.{Child}
 use Rattle.document.specs.Text.{unescapedFrom}
-use Rattle.sheet.specs.Sheet.{Structure}
 use Rattle.readings.specs.Output.{Entry, textEntry, pieceEntry, groupEntry, failedEntry, keyTextEntry, keyPieceEntry}
-use Rattle.readings.specs.Plan.{Plan, end, stop, one, oneByOne, Whole}
-use Rattle.readings.specs.Structure.{scalarPlan, groupPlan}
+use Rattle.readings.specs.Plan.{Plan, stop, one}
+use Rattle.readings.specs.Structure.{scalarPlan}
 use Rattle.output.specs.declared.Six.{Six}
 
 -- the entry that six numbers say
@@ -58,12 +54,3 @@ keyPiece key start len = let k = meaning (unescaped key) in one (keyPieceEntry k
 -- the bytes of a group
 unfoldable pub group : ℕ → List ℕ → Plan
 group member l = one (groupEntry member l) l
-
--- all groups, or none of them
-unfoldable pub groups : List ℕ → View → Structure → List Child → List ℕ → Whole
-groups body v s children order = record { asMet = end; groups = oneByOne (groupPlan body v s children) order }
-
--- how many bytes the groups have together
-unfoldable pub together : (ℕ → List ℕ) → List ℕ → ℕ
-together group [] = 0
-together group (i ∷ order) = length (group i) + together group order

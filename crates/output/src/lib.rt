@@ -343,7 +343,7 @@ fn wide(x: u32) -> usize
 }
 
 // How many bytes the kept children of a member have together.
-pub fn group_len(kept: &[u32], member: u32) -> usize
+fn group_len(kept: &[u32], member: u32) -> usize
     requires { ⌜ length (now kept) < 2 ^ 32 ⌝ }
     ensures { λ r. ⌜ GroupLen (now (kept .entry)) member r ⌝ }
 {
@@ -382,7 +382,7 @@ fn put_kept(body: &[u8], kept: &[u32], member: u32, texts: &mut [u8], from: usiz
 }
 
 // The bytes of `<__flat>` and `</__flat>`.
-pub const FLAT_TAGS: usize = 17;
+const FLAT_TAGS: usize = 17;
 
 // Copies the group of a member between its two tags, and answers the place after it.
 fn put_flat(body: &[u8], kept: &[u32], member: u32, texts: &mut [u8], from: usize) -> usize
@@ -429,5 +429,5 @@ pub fn write_group(
             used: end,
         });
     }
-    Step::Refused(Refusal::NoRoom, w)
+    Step::Refused(Refusal::NoRoom, w) // the groups before it stay written
 }

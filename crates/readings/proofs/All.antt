@@ -15,10 +15,10 @@ use Rattle.sheet.specs.Front.{times}
 use Rattle.sheet.specs.Sheet.{structureOf, listOf, mapOf}
 use Rattle.sheet.specs.Names.{indexed, firstNamed}
 use Rattle.readings.specs.Output.{numbersOf}
-use Rattle.readings.specs.Plan.{perform, followedBy, oneByOne, performed}
+use Rattle.readings.specs.Plan.{perform, followedBy, oneByOne}
 use Rattle.readings.specs.Opening.{opened, asked}
-use Rattle.readings.specs.Structure.{attributeOf, attributePlan, childPlan, inGroup, siblings, groupOf, groupPlan, membersPlan}
-use Rattle.readings.specs.Structure.{rootPiece, unwrappedPlan, openedPlan, structurePlan, structureReading}
+use Rattle.readings.specs.Structure.{attributeOf, attributePlan, childPlan, inGroup, siblings, groupOf, hasGroup, groupPlan}
+use Rattle.readings.specs.Structure.{membersPlan, rootPiece, unwrappedPlan, openedPlan, structurePlan, structureReading}
 use Rattle.readings.specs.Collection.{isWanted, itemPlan, itemsPlan, listPlan, listReading, stringPlan, stringsPlan, stringListPlan}
 use Rattle.readings.specs.Collection.{stringListReading, readField, readFields, entryPlan, afterEntry, entriesOf, entriesPlan}
 use Rattle.readings.specs.Collection.{mapPlan, mapReading}
@@ -30,7 +30,7 @@ unfoldable pub computed : Unit {0}
 unfolding reference.computed sameb rowsOf tokAs lastLt closing isClosed decTable xml.sameName xml.hasName xml.walk xml.walked xml.drained
     xml.referencePlace xml.drainPlace beforeColon nameMatches errorAt view skip next level children endOf childrenOf afterChildren rootOf
     pieceOf valueStartAt firstText textOf joined wholeOf times structureOf listOf mapOf indexed firstNamed numbersOf perform followedBy
-    oneByOne performed opened asked attributeOf attributePlan childPlan inGroup siblings groupOf groupPlan membersPlan rootPiece
+    oneByOne opened asked attributeOf attributePlan childPlan inGroup siblings groupOf hasGroup groupPlan membersPlan rootPiece
     unwrappedPlan openedPlan structurePlan structureReading isWanted itemPlan itemsPlan listPlan listReading stringPlan stringsPlan
     stringListPlan stringListReading readField readFields entryPlan afterEntry entriesOf entriesPlan mapPlan mapReading booleanOf integerOf
     stringIn scalarText booleanReading integerReading stringReading wholeText firstChild findIn find

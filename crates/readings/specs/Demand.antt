@@ -24,7 +24,7 @@ use Rattle.sheet.specs.Names.{rootName, itemName, entryName, keyName, valueName
 use Rattle.readings.specs.Call.{Upload, Call}
 use Rattle.readings.specs.Output.{Entry, textKind, pieceKind, groupKind, failedKind, Room, Output, nothing, appended}
 use Rattle.readings.specs.Output.{Reading, finished, refused}
-use Rattle.readings.specs.Plan.{Plan, put, end}
+use Rattle.readings.specs.Plan.{Plan, put}
 use Rattle.readings.specs.Opening.{Asked}
 use Rattle.readings.specs.Structure.{inGroup}
 use Rattle.readings.specs.Collection.{isWanted, entriesOf}
@@ -39,8 +39,8 @@ pub record ReadOf (u : Upload) (sheet : List ℕ) (shape : Shape) (a : Asked (Sh
 
 -- "the root's name": of a structure it is tested, and does not match
 pub data RootDiffers (settings : Settings) (depth : ShapeDepth) : (shape : Shape) → Asked (SheetOf shape) → Type 0 where
-  differs : {order : List ℕ} (a : Asked Structure) → testsRootName settings depth ≡ true
-      → nameMatches (a .opened .root .start .name) (rootName (a .sheet)) ≡ false → RootDiffers settings depth (structure order) a
+  differs : (a : Asked Structure) → testsRootName settings depth ≡ true
+      → nameMatches (a .opened .root .start .name) (rootName (a .sheet)) ≡ false → RootDiffers settings depth structure a
 
 -- "where text is wanted": of a field that is a key ("a child named as both .. is a key"), or a value that is not aggregate
 pub data TextField (m : MapSheet) (c : Child) : Type 0 where
@@ -67,7 +67,7 @@ pub data Exceeds (room : Room) (out : Output) : Type 0 where
   too-long : room .bytes < length (out .texts) → Exceeds room out
 
 -- "a broken sheet, the depth limit, no root, the root's name, an element where text is wanted, or no room": the numbers 2, 3, 4, 5, 6
--- and 10, "each where its condition holds"; no room: with the next entry, or a group and those before it, `out`, which is kept, exceeds it
+-- and 10, "each where its condition holds"; no room: with the plan's next entry and its bytes `out`, which is kept, exceeds it
 pub data MayRefuse (u : Upload) (call : Call) (room : Room) (shape : Shape) (out : Output) : Refusal → Type 0 where
   broken-sheet : sheetOf shape (call .sheet) ≡ none → MayRefuse u call room shape out Refusal.Sheet
   depth-limit : call .settings .maxDepth ≤ call .depth .0 → MayRefuse u call room shape out Refusal.Depth
@@ -76,11 +76,8 @@ pub data MayRefuse (u : Upload) (call : Call) (room : Room) (shape : Shape) (out
       → MayRefuse u call room shape out Refusal.RootName
   element-in-text : (a : Asked (SheetOf shape)) (c : Child) → ReadOf u (call .sheet) shape a → TextWanted (call .settings) shape a c
       → textOf (a .opened .seen) c ≡ answer.refuses Refusal.ElementInText → MayRefuse u call room shape out Refusal.ElementInText
-  no-room : {entry : ℕ → Entry} {bytes : List ℕ} {more : Plan} → Reaches (planOf shape u call .asMet) nothing (put entry bytes more) out
+  no-room : {entry : ℕ → Entry} {bytes : List ℕ} {more : Plan} → Reaches (planOf shape u call) nothing (put entry bytes more) out
       → Exceeds room (appended entry bytes out) → MayRefuse u call room shape out Refusal.NoRoom
-  groups-no-room : {entry : ℕ → Entry} {bytes : List ℕ} {more : Plan} {last : Output} → Reaches (planOf shape u call .asMet) nothing end out
-      → Reaches (planOf shape u call .groups) out (put entry bytes more) last → Exceeds room (appended entry bytes last)
-      → MayRefuse u call room shape out Refusal.NoRoom
 
 -- ---- "Each piece it hands out, finished or refused, is exactly its element's bytes from `<` to the end of its end tag or `/>`, and that
 -- element's rows, counted from the piece's first byte, obey the table rules and pass the drain again": `ElementPiece`. In a group are the
@@ -109,7 +106,7 @@ pub record Handed (u : Upload) (sheet texts : List ℕ) (e : Entry) : Type 0 whe
   -- a text that failed has an element inside, and nothing else is wrong with it
   pub failed : e .kind ≡ failedKind → (e .start ≡ number Refusal.ElementInText) × (e .len ≡ 0)
 
--- ---- "finished or refused"; "strict or lenient, with any sheet, settings, depth and buffers", and any order of groups
+-- ---- "finished or refused"; "strict or lenient, with any sheet, settings, depth and buffers"
 pub data Promised (u : Upload) (call : Call) (room : Room) (shape : Shape) : Reading → Type 0 where
   finishes : {out : Output} → Every (Handed u (call .sheet) (out .texts)) (out .entries) → Promised u call room shape (finished out)
   refuses : {r : Refusal} {out : Output} → MayRefuse u call room shape out r → Every (Handed u (call .sheet) (out .texts)) (out .entries)

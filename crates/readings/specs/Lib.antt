@@ -3,7 +3,6 @@ pub mod Output
 pub mod Plan
 pub mod Opening
 pub mod Structure
-pub mod Order
 pub mod Collection
 pub mod Scalar
 pub mod Find

@@ -4,7 +4,7 @@ use mathlib.Core.Bool.{Bool, true, false}
 use mathlib.Core.List.{List, [], _∷_}
 use Rattle.lists.specs.Tests.{pick}
 use Rattle.refusal.specs.declared.Refusal.{Refusal}
-use Rattle.readings.specs.Output.{Entry, Room, Output, nothing, Reading, finished, refused, fits, appended}
+use Rattle.readings.specs.Output.{Entry, Room, Output, Reading, finished, refused, fits, appended}
 
 -- an entry, made with the place where its bytes begin in the text buffer, with its bytes, and what comes then; or the end; or a refusal
 pub data Plan : Type 0 where
@@ -39,25 +39,3 @@ oneByOne f (x ∷ l) = followedBy (f x) (oneByOne f l)
 abbrev pub endTest : Bool → Plan
 endTest true = stop Refusal.IllFormed
 endTest false = end
-
--- ---- "then the groups .. if all groups together do not fit, 10 and none is written"
--- what is handed out as it is met, and the groups
-pub record Whole : Type 0 where
-  pub asMet : Plan
-  pub groups : Plan
-
-abbrev pub withoutGroups : Plan → Whole
-withoutGroups p = record { asMet = p; groups = end }
-
-abbrev pub allOrNone : Output → Reading → Reading
-allOrNone before (finished out) = finished out
-allOrNone before (refused r out) = refused r before
-
-abbrev pub thenGroups : Room → Plan → Reading → Reading
-thenGroups room groups (finished out) = allOrNone out (perform room groups out)
-thenGroups room groups (refused r out) = refused r out
-
--- a reading is its plan, performed in the room that was lent
-unfoldable pub performed : Room → Whole → Reading
-unfolding perform
-performed room w = thenGroups room (w .groups) (perform room (w .asMet) nothing)

@@ -1,9 +1,7 @@
 -- 01, "Structure": `read_struct`.
 use Prim.Native.Nat.{ℕ}
-use mathlib.Core.Path.{_≡_}
-use mathlib.Core.Logic.{_↔_}
 use mathlib.Core.Bool.{Bool, true, false}
-use mathlib.Core.List.{List, [], _∷_, _++_, List·Memᴰ}
+use mathlib.Core.List.{List, [], _∷_, _++_}
 use mathlib.Core.Option.{Option, none, some}
 use lib.Dec.{eqb}
 use lib.ListN.{take, drop}
@@ -24,8 +22,8 @@ use Rattle.sheet.specs.Settings.{Settings, testsRootName}
 use Rattle.sheet.specs.Sheet.{Structure, structureOf}
 use Rattle.sheet.specs.Names.{rootName, attributeName, Indexed, indexed, firstNamed, membersOf, resolve}
 use Rattle.readings.specs.Call.{Upload, Call}
-use Rattle.readings.specs.Output.{Room, Reading, textEntry, pieceEntry, groupEntry, failedEntry}
-use Rattle.readings.specs.Plan.{Plan, end, stop, one, followedBy, oneByOne, endTest, Whole, withoutGroups, performed}
+use Rattle.readings.specs.Output.{Room, nothing, Reading, textEntry, pieceEntry, groupEntry, failedEntry}
+use Rattle.readings.specs.Plan.{Plan, end, stop, perform, one, followedBy, oneByOne, endTest}
 use Rattle.readings.specs.Opening.{Opened, Asked, asked, asking}
 
 -- ---- "attribute members in sheet order"
@@ -63,7 +61,7 @@ unfoldable pub childPlan : List ℕ → View → Structure → Child → Plan
 unfolding firstNamed indexed pieceOf textOf
 childPlan body v s c = memberPlan body v c (resolve s (c .start .name .local))
 
--- ---- "then the groups, in an order left open"
+-- ---- then the groups: "Flattened groups are to come by rising member index" (change request 2)
 -- the member that a child is kept for
 abbrev pub flatMember : Option Indexed → Option ℕ
 flatMember none = none
@@ -92,31 +90,29 @@ unfoldable pub groupOf : List ℕ → View → Structure → List Child → ℕ 
 unfolding siblings
 groupOf body v s children i = ascii "<__flat>" ++ (siblings body v s i children ++ ascii "</__flat>")
 
-unfoldable pub groupPlan : List ℕ → View → Structure → List Child → ℕ → Plan
-unfolding groupOf
-groupPlan body v s children i = let bytes = groupOf body v s children i in one (groupEntry i bytes) bytes
+-- a child is in the group of member i
+unfoldable pub hasGroup : Structure → ℕ → List Child → Bool
+unfolding inGroup
+hasGroup s i [] = false
+hasGroup s i (c ∷ rest) = pick (inGroup s i c) true (hasGroup s i rest)
 
--- an order of the groups: each member that has siblings comes once, and no other does
-pub data Once {A : Type 0} : List A → Type 0 where
-  once-none : Once []
-  once-more : {x : A} {l : List A} → (List·Memᴰ x l → ⊥) → Once l → Once (x ∷ l)
-
-pub record GroupOrder (s : Structure) (children : List Child) (order : List ℕ) : Type 0 where
-  pub once : Once order
-  pub each : (i : ℕ) → List·Memᴰ i order ↔ ((c : Child) × (List·Memᴰ c children × (inGroup s i c ≡ true)))
+-- a member's group; a member without siblings has none
+unfoldable pub groupPlan : List ℕ → View → Structure → List Child → Indexed → Plan
+unfolding groupOf hasGroup
+groupPlan body v s children m =
+    let bytes = groupOf body v s children (m .index) in
+    pick (hasGroup s (m .index) children) (one (groupEntry (m .index) bytes) bytes) end
 
 -- ---- the whole
 -- attributes, children, 9, groups
-unfoldable pub membersPlan : List ℕ → Structure → List ℕ → Opened → Whole
+unfoldable pub membersPlan : List ℕ → Structure → Opened → Plan
 unfolding oneByOne followedBy attributePlan childPlan groupPlan childrenOf
-membersPlan body s order o =
+membersPlan body s o =
     let kids = childrenOf (o .root) in
     let attributes = oneByOne (attributePlan (o .root .start .attributes)) (membersOf s) in
     let children = oneByOne (childPlan body (o .seen) s) kids in
-    record {
-      asMet = followedBy attributes (followedBy children (endTest (o .seen .illFormed)));
-      groups = oneByOne (groupPlan body (o .seen) s kids) order;
-    }
+    let groups = oneByOne (groupPlan body (o .seen) s kids) (membersOf s) in
+    followedBy attributes (followedBy children (followedBy (endTest (o .seen .illFormed)) groups))
 
 -- the root element by its rows: to the row that closes it, whatever its name; to the end of the view where none does
 unfoldable pub rootPiece : List ℕ → Opened → Piece
@@ -135,33 +131,27 @@ unfolding followedBy firstNamed indexed rootPiece
 unwrappedPlan body s o = followedBy (endTest (o .seen .illFormed)) (rootPlan (rootPiece body o) (resolve s (o .root .start .name .local)))
 
 -- "5 root name"
-abbrev pub withRootName : Bool → Bool → Whole → Whole
-withRootName false matches w = w
-withRootName true true w = w
-withRootName true false w = withoutGroups (stop Refusal.RootName)
+abbrev pub withRootName : Bool → Bool → Plan → Plan
+withRootName false matches p = p
+withRootName true true p = p
+withRootName true false p = stop Refusal.RootName
 
-unfoldable pub openedPlan : List ℕ → Settings → ShapeDepth → List ℕ → Asked Structure → Whole
+unfoldable pub openedPlan : List ℕ → Settings → ShapeDepth → Asked Structure → Plan
 unfolding nameMatches membersPlan unwrappedPlan
-openedPlan body settings depth order a =
+openedPlan body settings depth a =
     let s = a .sheet in
-    let unwrapped = withoutGroups (unwrappedPlan body s (a .opened)) in
-    let wrapped = membersPlan body s order (a .opened) in
+    let unwrapped = unwrappedPlan body s (a .opened) in
+    let wrapped = membersPlan body s (a .opened) in
     withRootName (testsRootName settings depth) (nameMatches (a .opened .root .start .name) (rootName s))
     (pick (s .unwrapped) unwrapped wrapped)
 
 -- "Structure. 1, 2, 3, 4, 5, then as met: 10, and 9 after the children."
-unfoldable pub structurePlan : Upload → Call → List ℕ → Whole
+unfoldable pub structurePlan : Upload → Call → Plan
 unfolding asked structureOf openedPlan
-structurePlan u call order =
-    asking (asked u (structureOf (call .sheet)) (call .settings) (call .depth)) (openedPlan (u .body) (call .settings) (call .depth) order)
-    (λ (r : Refusal). withoutGroups (stop r))
+structurePlan u call =
+    asking (asked u (structureOf (call .sheet)) (call .settings) (call .depth)) (openedPlan (u .body) (call .settings) (call .depth)) stop
 
-unfoldable pub structureReading : Upload → Call → List ℕ → Room → Reading
-unfolding performed structurePlan
-structureReading u call order room = performed room (structurePlan u call order)
-
--- what the order must be that a program chooses: of the groups of the sheet that is read and of the root's children, where the reading
--- comes so far
-pub record OrderFor (u : Upload) (call : Call) (order : List ℕ) : Type 0 where
-  pub is : (a : Asked Structure) → asked u (structureOf (call .sheet)) (call .settings) (call .depth) ≡ gives a
-      → GroupOrder (a .sheet) (childrenOf (a .opened .root)) order
+-- "Room is now tested group by group, so the groups before the one that does not fit stay written" (change request 2): as of any entry
+unfoldable pub structureReading : Upload → Call → Room → Reading
+unfolding perform structurePlan
+structureReading u call room = perform room (structurePlan u call) nothing

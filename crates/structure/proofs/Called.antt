@@ -1,6 +1,4 @@
--- For the call above `structure_at`: the definition's plan is that of the root that was opened, in the order of groups by rising
--- member index, which is an order for the reading
--- (`an-order` in readings/proofs/Laws/Order.antt).
+-- For the call above `structure_at`: the definition's plan is that of the root that was opened.
 use Prim.Native.Nat.{ℕ}
 use mathlib.Core.Path.{_≡_, refl}
 use mathlib.Core.Bool.{Bool, true, false}
@@ -14,29 +12,25 @@ use Rattle.sheet.specs.Settings.{Settings, testsRootName}
 use Rattle.sheet.specs.Sheet.{Structure, structureOf}
 use Rattle.sheet.specs.Names.{rootName}
 use Rattle.readings.specs.Call.{uploaded, calling}
-use Rattle.readings.specs.Plan.{stop, Whole, withoutGroups}
+use Rattle.readings.specs.Plan.{Plan, stop}
 use Rattle.readings.specs.Opening.{Opened, asked}
 use Rattle.readings.specs.Structure.{withRootName, openedPlan, structurePlan}
-use Rattle.readings.proofs.Laws.Order.{orderIn}
 use Rattle.structure.specs.Structure.{isOther, rootedPlan}
 
-with-name : (tests matches : Bool) (w : Whole)
-    → withRootName tests matches w ≡ pick (isOther tests matches) (withoutGroups (stop Refusal.RootName)) w
-with-name false matches w = refl
-with-name true true w = refl
-with-name true false w = refl
+with-name : (tests matches : Bool) (p : Plan) → withRootName tests matches p ≡ pick (isOther tests matches) (stop Refusal.RootName) p
+with-name false matches p = refl
+with-name true true p = refl
+with-name true false p = refl
 
 module _ (body t : List ℕ) (final : ℕ) (sheet : List ℕ) (settings : Settings) (depth : ShapeDepth) where
-  -- 1, 2, 3 or 4, whatever the order
-  pub structure-early : (order : List ℕ) {why : Refusal} → asked (uploaded body t final) (structureOf sheet) settings depth ≡ refuses why
-      → structurePlan (uploaded body t final) (calling sheet settings depth) order ≡ withoutGroups (stop why)
+  -- 1, 2, 3 or 4
+  pub structure-early : {why : Refusal} → asked (uploaded body t final) (structureOf sheet) settings depth ≡ refuses why
+      → structurePlan (uploaded body t final) (calling sheet settings depth) ≡ stop why
   unfolding structurePlan
-  structure-early order q = rw q
+  structure-early q = rw q
 
   pub structure-is : (st : Structure) (o : Opened)
       → asked (uploaded body t final) (structureOf sheet) settings depth ≡ gives (record { sheet = st; opened = o })
-      → structurePlan (uploaded body t final) (calling sheet settings depth)
-      (orderIn (asked (uploaded body t final) (structureOf sheet) settings depth))
-      ≡ rootedPlan body st (testsRootName settings depth) o
+      → structurePlan (uploaded body t final) (calling sheet settings depth) ≡ rootedPlan body st (testsRootName settings depth) o
   unfolding structurePlan openedPlan rootedPlan
   structure-is st o q = rw q (with-name (testsRootName settings depth) (nameMatches (o .root .start .name) (rootName st)) _)

@@ -1,14 +1,12 @@
--- Laws of the groups: how long those of some members are together, the measure of all, and all one after another in rising member order.
-use Prim.Native.Nat.{ℕ, zero, suc, _+_, _*_, _/_, _-_, _^_, _≤_, _<_}
-use mathlib.Core.Path.{_≡_, refl, sym, _∙_, ap, fun-ext}
+-- Laws of the groups: how long those of some members are together, and all one after another by rising member index.
+use Prim.Native.Nat.{ℕ, zero, suc, _+_, _*_, _-_, _^_, _≤_, _<_}
+use mathlib.Core.Path.{_≡_, refl, sym, _∙_, ap}
 use mathlib.Core.Bool.{Bool, true, false}
 use mathlib.Core.List.{List, [], _∷_}
 use native.Mathlib.Numerals.{add-one}
 use native.Mathlib.Omega.{arith}
 use borrow.Author.Needs.{needs}
 use borrow.Author.Tests.{eqb-true, ne-eqb}
-use mir.Val.{Fits}
-use mir.Syntax.{w64}
 use lib.Dec.{eqb}
 use lib.ListN.{length}
 use Rattle.lists.specs.Tests.{pick}
@@ -16,22 +14,18 @@ use Rattle.refusal.specs.declared.Refusal.{Refusal}
 use Rattle.document.specs.View.{View}
 use Rattle.document.specs.Scope.{Child}
 use Rattle.sheet.specs.Sheet.{Member, Structure}
-use Rattle.sheet.specs.Names.{indexed}
-use Rattle.readings.specs.Plan.{oneByOne}
-use Rattle.readings.specs.Structure.{groupOf, groupPlan}
-use Rattle.readings.specs.Order.{grouped, memberOrder}
+use Rattle.sheet.specs.Names.{indexed, membersOf}
+use Rattle.readings.specs.Plan.{Plan, end, followedBy, oneByOne}
+use Rattle.readings.specs.Structure.{groupPlan}
 use Rattle.output.specs.declared.Written.{Written}
 use Rattle.output.specs.declared.Step.{Step}
-use Rattle.output.specs.Plans.{group, groups, together}
-use Rattle.output.specs.Held.{Does, DoesWhole, Ready}
-use Rattle.output.specs.Kept.{keptFor, isKept, lengths, keptLen, GroupLen, flat, Inside}
-use Rattle.output.proofs.Then.{does-as}
+use Rattle.output.specs.Plans.{group}
+use Rattle.output.specs.Held.{Does, Ready}
+use Rattle.output.specs.Kept.{keptFor, isKept, lengths, keptLen, flat, Inside}
 use Rattle.output.proofs.Sound.{group-adds}
 use Rattle.output.proofs.Kept.{flat-length}
-use Rattle.output.proofs.AllOrNone.{groups-too-many, groups-too-long, groups-all, groups-never}
-use Rattle.structure.specs.declared.groups.Sum.{Sum}
 use Rattle.structure.specs.Steps.{Begins, afterChildren}
-use Rattle.structure.specs.Groups.{KeptIn, GroupsKept, flatPlan, keptFrom, SumIs, GroupsIs}
+use Rattle.structure.specs.Groups.{KeptIn, GroupsKept, flatPlan, keptFrom}
 use Rattle.structure.proofs.Loops.{OneByOne, one-start, one-ends, one-stops, one-goes}
 
 -- ---- each child that is kept is in one group: those of the members before n are no longer together than all that is kept
@@ -117,59 +111,6 @@ module _ (kept : List ℕ) {n i : ℕ} where
 below-next : (kept : List ℕ) (i : ℕ) → below kept (i + 1) ≡ below kept i + keptLen kept i
 below-next kept i = rw (add-one i)
 
--- ---- the measure
-pub record SumAt (body kept : List ℕ) (n entries bytes i : ℕ) : Type 0 where
-  pub low : i ≤ n
-  pub many : entries + length (keptFrom kept i (n - i)) ≡ length (keptFrom kept 0 n)
-  pub long : bytes + together (flat body kept) (keptFrom kept i (n - i)) ≡ together (flat body kept) (keptFrom kept 0 n)
-  pub few : entries ≤ i
-  pub small : bytes ≤ below kept i + i * 17
-
-pub sum-start : (body kept : List ℕ) (n : ℕ) → SumAt body kept n 0 0 0
-sum-start body kept n =
-    let z : n - 0 ≡ n = omega arith in
-    record { low = omega arith; many = rw z (omega arith); long = rw z (omega arith); few = omega arith; small = omega arith }
-
-module _ {body kept : List ℕ} {n entries bytes i : ℕ} (a : SumAt body kept n entries bytes i) where
-  pub sum-end : n ≤ i → SumIs body kept n (record { entries = entries; bytes = bytes })
-  unfolding together
-  sum-end h =
-      let none = from-end kept h in
-      record { entries = omega (arith, rw none at (a .many)); bytes = omega (arith, rw none at (a .long)) }
-
-  module _ (h : i < n) {u : Bool} (e : u ≡ isKept kept i) where
-    pub sum-without : u ≡ false → SumAt body kept n entries bytes (i + 1)
-    sum-without p =
-        let o = from-without kept h (sym e ∙ p) in
-        record {
-          low = omega arith;
-          many = rw o at (a .many);
-          long = rw o at (a .long);
-          few = omega (arith, a .few);
-          small = omega (arith, a .small, below-next kept i);
-        }
-
-    module _ (q : KeptIn body kept) (p : u ≡ true) {len : ℕ} (g : GroupLen kept i len) where
-      pub sum-with : SumAt body kept n (entries + 1) (bytes + (len + 17)) (i + 1)
-      unfolding together
-      sum-with =
-          let o = from-with kept h (sym e ∙ p) in
-          record {
-            low = omega arith;
-            many = omega (arith, rw o at (a .many));
-            long = omega (arith, rw o at (a .long), flat-length body kept i (q .inside), g .is);
-            few = omega (arith, a .few);
-            small = omega (arith, a .small, below-next kept i, g .is);
-          }
-
-      pub sum-bytes : n ≤ 64 → Fits w64 (bytes + (len + 17))
-      sum-bytes k = record { fits = omega (arith, a .small, len-most q i, g .is) }
-
-pub sum-len : {body kept : List ℕ} {i len : ℕ} → KeptIn body kept → GroupLen kept i len → Fits w64 (len + 17)
-sum-len {i = i} q g = record { fits = omega (arith, len-most q i, g .is) }
-
-pub ruleset sum-laws = (needs, kept-small, sum-start, sum-end, sum-without, sum-with, sum-bytes, sum-len)
-
 -- ---- one after another
 pub record GroupsAt (body kept : List ℕ) (n : ℕ) (e x : List ℕ) (w : Written) (e₁ x₁ : List ℕ) (w₁ : Written) (i : ℕ) : Type 0 where
   pub inside : KeptIn body kept
@@ -233,56 +174,19 @@ module _ {body kept : List ℕ} {n : ℕ} {e x : List ℕ} {w : Written} {e₁ x
 
 pub ruleset groups-laws = (needs, kept-small, groups-start, groups-ready, groups-end, groups-without, groups-stop, groups-on)
 
--- ---- all or none
--- of the children they are of: the order by rising member index, and the definition's bytes
+-- ---- so these are the definition's, of the children that were kept
 module _ {body : List ℕ} {v : View} {st : Structure} {kids : List Child} {kept : List ℕ} (k : GroupsKept body v st kids kept) where
-  order-from : (l : List Member) (i : ℕ) → keptFrom kept i (length l) ≡ grouped st kids (indexed i l)
-  unfolding keptFrom grouped indexed
-  order-from [] i = refl
-  order-from (m ∷ l) i = rw (k .has i, order-from l (suc i))
-
-  order-is : {n : ℕ} → length (st .members) ≡ n → keptFrom kept 0 n ≡ memberOrder st kids
-  order-is e = rw (← e) (order-from (st .members) 0)
-
-  bytes-are : (l : List ℕ) → together (flat body kept) l ≡ together (groupOf body v st kids) l
-  bytes-are l = ap (λ (g : ℕ → List ℕ). together g l) (fun-ext (k .flat))
-
-  plans-are : (l : List ℕ) → oneByOne (groupPlan body v st kids) l ≡ oneByOne (flatPlan body kept) l
-  unfolding groupPlan flatPlan group
-  plans-are l = ap (λ (g : ℕ → List ℕ). oneByOne (λ (i : ℕ). group i (g i)) l) (sym (fun-ext (k .flat)))
-
-module _ {body kept : List ℕ} {n : ℕ} {sum : Sum} (z : SumIs body kept n sum) {e x : List ℕ} {w : Written}
-    (b : Begins afterChildren e x w) where
-  pub all-many : length e / 6 - w .count < sum .entries → GroupsIs body kept n e x w e x (Step.Refused Refusal.NoRoom w)
-  all-many h =
-      record {
-        is = λ v st kids k m. (
-            let o = order-is k m in
-            groups-too-many body v st kids (memberOrder st kids) (omega (arith, b .sound .entries, z .entries, ap length o)));
-      }
-
-  pub all-long : length x - w .used < sum .bytes → GroupsIs body kept n e x w e x (Step.Refused Refusal.NoRoom w)
-  all-long h =
-      record {
-        is = λ v st kids k m. (
-            let o = rw (order-is k m) at (z .bytes) in
-            groups-too-long body v st kids (memberOrder st kids) (omega (arith, b .sound .texts, o, bytes-are k (memberOrder st kids))));
-      }
-
-  pub all-written : {e′ x′ : List ℕ} {r : Step} → sum .entries ≤ length e / 6 - w .count → sum .bytes ≤ length x - w .used
-      → Does (oneByOne (flatPlan body kept) (keptFrom kept 0 n)) e x w e′ x′ r → GroupsIs body kept n e x w e′ x′ r
-  all-written {e′} {x′} {r} p q d = record {
-    is = λ v st kids k m. go v st kids k m r
-        (does-as (plans-are k (memberOrder st kids)) (rw (order-is k m) at d));
-  }
+  plans-from : (l : List Member) (i : ℕ)
+      → oneByOne (groupPlan body v st kids) (indexed i l) ≡ oneByOne (flatPlan body kept) (keptFrom kept i (length l))
+  unfolding oneByOne followedBy groupPlan flatPlan group keptFrom indexed
+  plans-from [] i = refl
+  plans-from (m ∷ l) i = rw (← k .has i, ← k .flat i) (go (isKept kept i) (keptFrom kept (suc i) (length l)) (plans-from l (suc i)))
     where
-      go : (v : View) (st : Structure) (kids : List Child) → GroupsKept body v st kids kept → length (st .members) ≡ n → (r : Step)
-          → Does (oneByOne (groupPlan body v st kids) (memberOrder st kids)) e x w e′ x′ r
-          → DoesWhole (groups body v st kids (memberOrder st kids)) e x w e′ x′ r
-      go v st kids k m (Step.Done w′) d = groups-all body v st kids (memberOrder st kids) d
-      go v st kids k m (Step.Refused why w′) d =
-          let o = rw (order-is k m) at (z .bytes) in
-          groups-never body v st kids (memberOrder st kids) (omega (arith, z .entries, b .sound .entries, ap length (order-is k m)))
-          (omega (arith, o, b .sound .texts, bytes-are k (memberOrder st kids))) d
+      go : (b : Bool) {p : Plan} (more : List ℕ) → p ≡ oneByOne (flatPlan body kept) more
+          → followedBy (pick b (flatPlan body kept i) end) p ≡ oneByOne (flatPlan body kept) (pick b (i ∷ more) more)
+      go true more e = ap (followedBy (flatPlan body kept i)) e
+      go false more e = e
 
-pub ruleset all-laws = (needs, all-many, all-long, all-written)
+  pub plans-are : {n : ℕ} → length (st .members) ≡ n
+      → oneByOne (groupPlan body v st kids) (membersOf st) ≡ oneByOne (flatPlan body kept) (keptFrom kept 0 n)
+  plans-are e = rw (← e) (plans-from (st .members) 0)

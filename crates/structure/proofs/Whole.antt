@@ -1,6 +1,6 @@
 -- Laws of the whole of a structure: its parts one after another.
 use Prim.Native.Nat.{ℕ, _-_, _*_, _/_, _≤_}
-use mathlib.Core.Path.{_≡_, ap}
+use mathlib.Core.Path.{_≡_, refl, ap}
 use mathlib.Core.Bool.{Bool, true, false}
 use mathlib.Core.List.{List}
 use native.Mathlib.Omega.{arith}
@@ -15,10 +15,9 @@ use Rattle.table.specs.Row.{Name}
 use Rattle.document.specs.Names.{nameMatches}
 use Rattle.document.specs.Scope.{Child, childrenOf}
 use Rattle.sheet.specs.Sheet.{Structure}
-use Rattle.sheet.specs.Names.{rootName}
-use Rattle.readings.specs.Plan.{Plan, stop, perform, oneByOne, endTest, Whole}
+use Rattle.sheet.specs.Names.{rootName, membersOf}
+use Rattle.readings.specs.Plan.{Plan, stop, perform, followedBy, oneByOne, endTest}
 use Rattle.readings.specs.Structure.{groupPlan, membersPlan, unwrappedPlan}
-use Rattle.readings.specs.Order.{memberOrder}
 use Rattle.decode.specs.Rows.{InTable, nameAt}
 use Rattle.decode.specs.declared.reader.StartRow.{StartRow}
 use Rattle.decode.specs.declared.reader.Cursor.{Cursor}
@@ -30,9 +29,8 @@ use Rattle.codec.specs.declared.structure.StructureSheet.{StructureSheet}
 use Rattle.codec.specs.Structure.{saidBy, StructureSaid}
 use Rattle.output.specs.declared.Written.{Written}
 use Rattle.output.specs.declared.Step.{Step}
-use Rattle.output.specs.Plans.{groups}
-use Rattle.output.specs.Held.{DoesWhole, Enters}
-use Rattle.output.proofs.Then.{whole-goes, whole-stops, alone-does, whole-as}
+use Rattle.output.specs.Held.{Does, Enters}
+use Rattle.output.proofs.Then.{Midway, midway-start, midway-last, midway-goes, midway-stops, tested-well, tested-ill, does-as}
 use Rattle.output.proofs.Room.{stays}
 use Rattle.output.proofs.Sound.{sound-nothing}
 use Rattle.opening.specs.Opening.{RootAt, openedAt}
@@ -40,9 +38,10 @@ use Rattle.structure.specs.declared.children.Taken.{Taken}
 use Rattle.structure.specs.Steps.{Given, Begins, DoesWithin, afterAttributes, afterChildren}
 use Rattle.structure.specs.Attributes.{attributesPlan}
 use Rattle.structure.specs.Children.{stepOf, ChildrenTaken}
-use Rattle.structure.specs.Groups.{KeptIn, GroupsIs}
+use Rattle.structure.specs.Groups.{KeptIn, flatPlan, keptFrom}
 use Rattle.structure.specs.Structure.{contentPlan, isOther, rootedPlan, ContentIs, none-written}
 use Rattle.structure.specs.Structure.{MembersAre, StructureIs}
+use Rattle.structure.proofs.Gathering.{plans-are}
 
 -- ---- children, then 9, then groups
 module _ {body t : List ℕ} {v : View} {st : Structure} {kids : List Child} {e x : List ℕ} {w : Written} {e₁ x₁ l : List ℕ} {got : Taken}
@@ -63,35 +62,36 @@ module _ {body t : List ℕ} {v : View} {st : Structure} (s : StartRow) (c : Cur
     {got : Taken}
     (k : ChildrenTaken body t v st (childrenOf (childAt body t (v .count) s c)) e x w e₁ x₁ l got) where
   -- what comes after the children
-  abbrev order : List ℕ
-  order = memberOrder st (childrenOf (childAt body t (v .count) s c))
-
   abbrev gathered : Plan
-  gathered = oneByOne (groupPlan body (viewAt t v) st (childrenOf (childAt body t (v .count) s c))) order
+  gathered = oneByOne (groupPlan body (viewAt t v) st (childrenOf (childAt body t (v .count) s c))) (membersOf st)
+
+  abbrev after : Plan
+  after = followedBy (endTest (v .«ill_formed»)) gathered
+
+  abbrev content : Plan
+  content = contentPlan body st (openedAt body t v s c)
 
   pub content-refused : {why : Refusal} {w₁ : Written} → got ≡ Taken.Refused why w₁
       → ContentIs body t v st s c e x w e₁ x₁ (Step.Refused why w₁)
   unfolding contentPlan
-  content-refused q = record { does = whole-stops (endTest (v .«ill_formed»)) gathered (k .does) (ap stepOf q) }
+  content-refused q = record { does = midway-stops (midway-start content e x w) after refl (k .does) (ap stepOf q) }
 
   module _ {w₁ : Written} {n : ℕ} (q : got ≡ Taken.Done w₁ n) where
-    groups-last : {e₂ x₂ : List ℕ} {r : Step} → DoesWhole (record { asMet = endTest (v .«ill_formed»); groups = gathered }) e₁ x₁ w₁ e₂ x₂ r
-        → ContentIs body t v st s c e x w e₂ x₂ r
+    children-done : Midway content after e x w e₁ x₁ w₁
     unfolding contentPlan
-    groups-last d = record { does = whole-goes (endTest (v .«ill_formed»)) gathered (k .does) (ap stepOf q) d }
+    children-done = midway-goes (midway-start content e x w) after refl (k .does) (ap stepOf q)
 
     pub content-ill : v .«ill_formed» ≡ true → ContentIs body t v st s c e x w e₁ x₁ (Step.Refused Refusal.IllFormed w₁)
-    unfolding perform
-    content-ill p = groups-last (rw p (record { is = λ h. stays h }))
+    content-ill p = record { does = midway-stops children-done gathered refl (tested-ill e₁ x₁ w₁ p) refl }
 
     pub content-groups : {m : ℕ} {e₂ x₂ : List ℕ} {r : Step} → v .«ill_formed» ≡ false → length (st .members) ≡ m
-        → GroupsIs body (part l 0 (n * 3)) m e₁ x₁ w₁ e₂ x₂ r → ContentIs body t v st s c e x w e₂ x₂ r
-    unfolding groups
+        → Does (oneByOne (flatPlan body (part l 0 (n * 3))) (keptFrom (part l 0 (n * 3)) 0 m)) e₁ x₁ w₁ e₂ x₂ r
+        → ContentIs body t v st s c e x w e₂ x₂ r
     content-groups p f d =
         let z : n * 3 - 0 ≡ n * 3 = omega arith in
         let kept = rw (← z) at (k .done w₁ n q .groups) in
-        let done : Bool → Whole = λ (b : Bool). record { asMet = endTest b; groups = gathered } in
-        groups-last (whole-as (ap done p) (d .is (viewAt t v) st (childrenOf (childAt body t (v .count) s c)) kept f))
+        let tested = midway-goes children-done gathered refl (tested-well e₁ x₁ w₁ p) refl in
+        record { does = midway-last tested (does-as (plans-are kept f) d) }
 
 pub members-few : {body t : List ℕ} {v : View} {sheet members : List ℕ} → Given body t v sheet members → length members / 3 ≤ 64
 members-few g = omega (arith, g .said .size, g .said .few)
@@ -114,18 +114,21 @@ nothing-begins e x = record { sound = sound-nothing e x; small = omega arith }
 
 module _ (body t : List ℕ) (v : View) (st : Structure) (s : StartRow) (c : Cursor) {e x e₁ x₁ : List ℕ} {got : Step}
     (k : DoesWithin afterAttributes (attributesPlan body t s st) e x (record { count = 0; used = 0 }) e₁ x₁ got) where
-  abbrev content : Whole
-  content = contentPlan body st (openedAt body t v s c)
+  abbrev all : Plan
+  all = membersPlan body st (openedAt body t v s c)
+
+  abbrev rest : Plan
+  rest = contentPlan body st (openedAt body t v s c)
 
   pub members-refused : {why : Refusal} {w₁ : Written} → got ≡ Step.Refused why w₁
       → MembersAre body t v st s c e x e₁ x₁ (Step.Refused why w₁)
   unfolding membersPlan contentPlan
-  members-refused q = record { does = whole-stops (content .asMet) (content .groups) (k .does) q }
+  members-refused q = record { does = midway-stops (midway-start all e x none-written) rest refl (k .does) q }
 
   pub members-done : {w₁ : Written} {e₂ x₂ : List ℕ} {r : Step} → got ≡ Step.Done w₁ → ContentIs body t v st s c e₁ x₁ w₁ e₂ x₂ r
       → MembersAre body t v st s c e x e₂ x₂ r
   unfolding membersPlan contentPlan
-  members-done q d = record { does = whole-goes (content .asMet) (content .groups) (k .does) q (d .does) }
+  members-done q d = record { does = midway-last (midway-goes (midway-start all e x none-written) rest refl (k .does) q) (d .does) }
 
 pub within-begins : {limit : ℕ} {plan : Plan} {e x e′ x′ : List ℕ} {w w′ : Written} {r : Step}
     → DoesWithin limit plan e x w e′ x′ r → r ≡ Step.Done w′
@@ -162,19 +165,19 @@ module _ (body t : List ℕ) (v : View) (sheet : List ℕ) (tests : Bool) (s : S
   pub whole-other : (e x : List ℕ) → u ≡ true
       → StructureIs body t v (saidBy sheet) tests s c e x e x (Step.Refused Refusal.RootName none-written)
   unfolding rootedPlan perform
-  whole-other e x p = record { does = whole-as (rw (← q, p)) (alone-does {p = stop Refusal.RootName} (record { is = λ h. stays h })) }
+  whole-other e x p = record { does = does-as {g = stop Refusal.RootName} (rw (← q, p)) (record { is = λ h. stays h }) }
 
   module _ (p : u ≡ false) {r : StructureSheet} (said : StructureSaid sheet r) {e e′ : List ℕ} {got : Step} where
     pub whole-alone : (x : List ℕ) → r .unwrapped ≡ true
         → Enters (unwrappedPlan body (saidBy sheet) (openedAt body t v s c)) e none-written e′ got
         → StructureIs body t v (saidBy sheet) tests s c e x e′ x got
     unfolding rootedPlan
-    whole-alone x f d = record { does = whole-as (rw (← q, p, said .unwrapped, f)) (alone-does (d .is x)) }
+    whole-alone x f d = record { does = does-as (rw (← q, p, said .unwrapped, f)) (d .is x) }
 
     pub whole-members : {x x′ : List ℕ} → r .unwrapped ≡ false → MembersAre body t v (saidBy sheet) s c e x e′ x′ got
         → StructureIs body t v (saidBy sheet) tests s c e x e′ x′ got
     unfolding rootedPlan
-    whole-members f d = record { does = whole-as (rw (← q, p, said .unwrapped, f)) (d .does) }
+    whole-members f d = record { does = does-as (rw (← q, p, said .unwrapped, f)) (d .does) }
 
 pub ruleset whole-laws = (needs, root-given, root-row, whole-other, whole-alone, whole-members)
 

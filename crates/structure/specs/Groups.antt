@@ -1,4 +1,4 @@
--- The groups of a root, from the numbers that were kept of its children (output/specs/Kept.antt), in the order of rising member index.
+-- The groups of a root, from the numbers that were kept of its children (output/specs/Kept.antt), by rising member index.
 use Prim.Native.Nat.{ℕ, zero, suc, _≤_}
 use mathlib.Core.Path.{_≡_}
 use mathlib.Core.List.{List, [], _∷_}
@@ -8,14 +8,9 @@ use Rattle.document.specs.View.{View}
 use Rattle.document.specs.Scope.{Child}
 use Rattle.sheet.specs.Sheet.{Structure}
 use Rattle.readings.specs.Plan.{Plan}
-use Rattle.readings.specs.Structure.{groupOf}
-use Rattle.readings.specs.Order.{hasGroup, memberOrder}
-use Rattle.output.specs.declared.Written.{Written}
-use Rattle.output.specs.declared.Step.{Step}
-use Rattle.output.specs.Plans.{group, groups, together}
-use Rattle.output.specs.Held.{DoesWhole}
+use Rattle.readings.specs.Structure.{groupOf, hasGroup}
+use Rattle.output.specs.Plans.{group}
 use Rattle.output.specs.Kept.{isKept, flat, Inside}
-use Rattle.structure.specs.declared.groups.Sum.{Sum}
 
 -- ---- what is kept: pieces of a body, of no more children than a table can have
 pub record KeptIn (body kept : List ℕ) : Type 0 where
@@ -36,13 +31,3 @@ flatPlan body kept i = group i (flat body kept i)
 unfoldable pub keptFrom : List ℕ → ℕ → ℕ → List ℕ
 keptFrom kept i zero = []
 keptFrom kept i (suc m) = let more = keptFrom kept (suc i) m in pick (isKept kept i) (i ∷ more) more
-
--- the measure of those of n members
-pub record SumIs (body kept : List ℕ) (n : ℕ) (r : Sum) : Type 0 where
-  pub entries : r .entries ≡ length (keptFrom kept 0 n)
-  pub bytes : r .bytes ≡ together (flat body kept) (keptFrom kept 0 n)
-
--- ---- all of them, or none: of whatever children they are
-pub record GroupsIs (body kept : List ℕ) (n : ℕ) (e x : List ℕ) (w : Written) (e′ x′ : List ℕ) (r : Step) : Type 0 where
-  pub is : (v : View) (st : Structure) (kids : List Child) → GroupsKept body v st kids kept → length (st .members) ≡ n
-      → DoesWhole (groups body v st kids (memberOrder st kids)) e x w e′ x′ r

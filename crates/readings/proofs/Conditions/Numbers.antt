@@ -23,7 +23,7 @@ use Rattle.readings.specs.Find.{find}
 use Rattle.readings.proofs.Conditions.Opening.{broken-table, no-root, by-table, by-sheet, by-depth, by-root, AskedAs}
 use Rattle.readings.proofs.Conditions.View.{Stopped, at-drain, at-error}
 use Rattle.readings.proofs.Conditions.Text.{NoText, element-inside, bad-reference, rows-end, passed, opened-text-refusal}
-use Rattle.readings.proofs.Conditions.Readings.{Stops, root-differs, no-text, ill-formed, Refused, early, stops, full, groups-full}
+use Rattle.readings.proofs.Conditions.Readings.{Stops, root-differs, no-text, ill-formed, Refused, early, stops, full}
 use Rattle.readings.proofs.Conditions.Readings.{reading-refused}
 use Rattle.readings.proofs.Conditions.Values.{NotABoolean, not-boolean, NotAnInteger, not-integer, StringTooLong, too-long}
 use Rattle.readings.proofs.Conditions.Scalar.{not-opened, no-text, after-the-rest, Unread, not-read, wrong, boolean-refusal}
@@ -67,7 +67,7 @@ module _ {u : Upload} {strict : Bool} where
 
 -- ---- readings with a sheet: 1, 2, 3, 4, and then
 abbrev pub later : Shape → List ℕ
-later (structure order) = 5 ∷ 9 ∷ 10 ∷ []
+later structure = 5 ∷ 9 ∷ 10 ∷ []
 later list = 9 ∷ 10 ∷ []
 later map = 6 ∷ 7 ∷ 8 ∷ 9 ∷ 10 ∷ []
 later strings = 6 ∷ 7 ∷ 8 ∷ 9 ∷ 10 ∷ []
@@ -82,8 +82,8 @@ module _ (u : Upload) (call : Call) (room : Room) where
   stops-among : (shape : Shape) (a : Asked (SheetOf shape)) → AskedAs u (sheetOf shape (call .sheet)) (call .settings) (call .depth) a
       → {r : Refusal}
       → Stops (call .settings) (call .depth) shape a r → Only (1 ∷ 2 ∷ 3 ∷ 4 ∷ later shape) r
-  stops-among (structure order) a w (root-differs d) = refl
-  stops-among (structure order) a w (ill-formed e) = refl
+  stops-among structure a w (root-differs d) = refl
+  stops-among structure a w (ill-formed e) = refl
   stops-among list a w (ill-formed e) = refl
   stops-among map a w (no-text c {r = r} t e) = text-among (text-number (opened-text-refusal u (w .begun) c r .0 e .inside))
   stops-among map a w (ill-formed e) = refl
@@ -91,7 +91,7 @@ module _ (u : Upload) (call : Call) (room : Room) where
   stops-among strings a w (ill-formed e) = refl
 
   full-among : (shape : Shape) → Only (1 ∷ 2 ∷ 3 ∷ 4 ∷ later shape) Refusal.NoRoom
-  full-among (structure order) = refl
+  full-among structure = refl
   full-among list = refl
   full-among map = refl
   full-among strings = refl
@@ -107,7 +107,6 @@ module _ (u : Upload) (call : Call) (room : Room) where
       go (early (by-root t s h n)) = refl
       go (stops {a = a} w x) = stops-among shape a w x
       go (full t f) = full-among shape
-      go (groups-full t u f) = full-among shape
 
 -- ---- scalars: 1, 4, 6 to 9, and then one of their own
 abbrev scalarNumbers : ℕ → List ℕ

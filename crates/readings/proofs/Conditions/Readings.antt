@@ -1,8 +1,8 @@
 -- 01, "Structure", "List", "Map" and "String list": each refusal, on every input, with its condition: "no number where its condition does
 -- not hold". The conditions of 1, 2, 3 and 4 are in Opening.antt, those of 5 and 10 in specs/Demand.antt; what 6 to 9 mean for the table is
--- in Text.antt and View.antt. That a reading ends so exactly where its plan does is `performed-exactly` (Plans/Perform.antt).
+-- in Text.antt and View.antt. That a reading ends so exactly where its plan does is `perform-exactly` (Plans/Perform.antt).
 use Prim.Native.Nat.{ℕ}
-use mathlib.Core.Path.{_≡_, sym, _∙_, subst}
+use mathlib.Core.Path.{_≡_, sym, _∙_}
 use mathlib.Core.Bool.{true}
 use mathlib.Core.List.{List}
 use Rattle.refusal.specs.declared.Refusal.{Refusal}
@@ -13,15 +13,15 @@ use Rattle.sheet.specs.declared.ShapeDepth.{ShapeDepth}
 use Rattle.sheet.specs.Settings.{Settings}
 use Rattle.readings.specs.Call.{Upload, Call}
 use Rattle.readings.specs.Output.{Entry, Room, Output, nothing, refused, appended}
-use Rattle.readings.specs.Plan.{Plan, put, end, stop, Whole}
+use Rattle.readings.specs.Plan.{Plan, put, stop}
 use Rattle.readings.specs.Opening.{Opened, Asked}
 use Rattle.readings.specs.Shape.{Shape, structure, list, map, strings, SheetOf, sheetOf, planOf, read}
 use Rattle.readings.specs.Demand.{Reaches, here, Exceeds, RootDiffers, TextWanted}
 use Rattle.readings.proofs.Conditions.Opening.{AskedRefused, AskedAs}
-use Rattle.readings.proofs.Plans.Perform.{all-done, at-stop, no-room, EndedWhole, as-met, in-groups, performed-ended}
-use Rattle.readings.proofs.Plans.Made.{MadeWhole, made-stops}
+use Rattle.readings.proofs.Plans.Perform.{Ended, at-stop, no-room, perform-exactly}
+use Rattle.readings.proofs.Plans.Made.{Made, made-stops}
 use Rattle.readings.proofs.Plans.Sources.{Source, Anything, Sources, ShapeSources}
-use Rattle.readings.proofs.Plans.Readings.{read-is, askedPlan, PlanIs, before, while, plan-is, mostMet, mostGroups, plan-made}
+use Rattle.readings.proofs.Plans.Readings.{read-is, askedPlan, PlanIs, before, while, plan-is, mostEntries, plan-made}
 
 -- ---- why a plan stops that goes on with what was asked
 pub data Stops (settings : Settings) (depth : ShapeDepth) (shape : Shape) (a : Asked (SheetOf shape)) : Refusal → Type 0 where
@@ -43,52 +43,37 @@ any-source body o =
 
 pub any-shape : (body : List ℕ) (shape : Shape) (a : Asked (SheetOf shape))
     → ShapeSources Anything Anything (λ (i : ℕ). Anything) Anything body shape a
-any-shape body (structure order) a =
-    record { member = λ m i. tt {0}; ordered = λ i j. tt {0}; attribute = λ name v e. tt {0}; group = λ i. tt {0}; root = tt {0} }
+any-shape body structure a = record { member = λ m i. tt {0}; attribute = λ name v e. tt {0}; group = λ i. tt {0}; root = tt {0} }
 any-shape body list a = tt {0}
 any-shape body map a = tt {0}
 any-shape body strings a = tt {0}
 
 plan-stops : (body : List ℕ) (settings : Settings) (depth : ShapeDepth) (shape : Shape) (a : Asked (SheetOf shape))
-    → MadeWhole (Source Anything Anything Anything (λ (i : ℕ). Anything) Anything) (Stops settings depth shape a) (mostMet settings shape a)
-    (mostGroups shape)
-    (askedPlan shape body settings depth a)
+    → Made (Source Anything Anything Anything (λ (i : ℕ). Anything) Anything) (Stops settings depth shape a)
+    (mostEntries settings shape a) (askedPlan shape body settings depth a)
 plan-stops body settings depth shape a =
     plan-made settings depth shape a (any-source body (a .opened)) (any-shape body shape a)
     (record { illFormed = ill-formed; rootName = root-differs; text = λ c h w r e. no-text c w e })
 
 module _ (u : Upload) (call : Call) (room : Room) (shape : Shape) where
-  -- it is refused before it reads, having written nothing; or where it stops; or where there is no room, as met or for the groups
+  -- it is refused before it reads, having written nothing; or where it stops; or where there is no room for the next entry
   pub data Refused : Refusal → Output → Type 0 where
     early : {r : Refusal} → AskedRefused u (sheetOf shape (call .sheet)) (call .settings) (call .depth) r → Refused r nothing
     stops : {a : Asked (SheetOf shape)} {r : Refusal} {out : Output}
         → AskedAs u (sheetOf shape (call .sheet)) (call .settings) (call .depth) a
         → Stops (call .settings) (call .depth) shape a r → Refused r out
     full : {entry : ℕ → Entry} {bytes : List ℕ} {more : Plan} {out : Output}
-        → Reaches (planOf shape u call .asMet) nothing (put entry bytes more) out
+        → Reaches (planOf shape u call) nothing (put entry bytes more) out
         → Exceeds room (appended entry bytes out) → Refused Refusal.NoRoom out
-    groups-full : {entry : ℕ → Entry} {bytes : List ℕ} {more : Plan} {out last : Output}
-        → Reaches (planOf shape u call .asMet) nothing end out
-        → Reaches (planOf shape u call .groups) out (put entry bytes more) last → Exceeds room (appended entry bytes last)
-        → Refused Refusal.NoRoom out
 
   -- where the plan stops
-  met : {w : Whole} → PlanIs u call shape w → {r : Refusal} {out : Output} → Reaches (w .asMet) nothing (stop r) out → Refused r out
-  met (before x) here = early x
-  met (while {a = a} x) t = stops x (made-stops (plan-stops (u .body) (call .settings) (call .depth) shape a .asMet) t)
-
-  grouped : {w : Whole} → PlanIs u call shape w → {r : Refusal} {out kept last : Output} → Reaches (w .groups) out (stop r) last
-      → Refused r kept
-  grouped (while {a = a} x) t = stops x (made-stops (plan-stops (u .body) (call .settings) (call .depth) shape a .groups) t)
+  stopped : {p : Plan} → PlanIs u call shape p → {r : Refusal} {out : Output} → Reaches p nothing (stop r) out → Refused r out
+  stopped (before x) here = early x
+  stopped (while {a = a} x) t = stops x (made-stops (plan-stops (u .body) (call .settings) (call .depth) shape a) t)
 
   pub reading-refused : {r : Refusal} {out : Output} → read shape u call room ≡ refused r out → Refused r out
-  reading-refused e = go (subst (EndedWhole room _) (sym (read-is shape u call room) ∙ e) (performed-ended room (planOf shape u call)))
+  reading-refused {r} {out} e = go (perform-exactly room (planOf shape u call) (refused r out) .0 (sym (read-is shape u call room) ∙ e))
     where
-      is : PlanIs u call shape (planOf shape u call)
-      is = plan-is u call shape
-
-      go : {r : Refusal} {out : Output} → EndedWhole room (planOf shape u call) (refused r out) → Refused r out
-      go (as-met (at-stop t w)) = met is t
-      go (as-met (no-room t w f)) = full t f
-      go (in-groups m (at-stop t w)) = grouped is t
-      go (in-groups (all-done t w) (no-room u v f)) = groups-full t u f
+      go : {r : Refusal} {out : Output} → Ended room (planOf shape u call) nothing (refused r out) → Refused r out
+      go (at-stop t w) = stopped (plan-is u call shape) t
+      go (no-room t w f) = full t f

@@ -1,5 +1,5 @@
 -- DEMAND 3: for every body and table that the strict drain passes, a structure, list or map reading, strict or lenient, with any sheet,
--- settings, depth, room and order of groups, keeps the promise of specs/Demand.antt.
+-- settings, depth and room, keeps the promise of specs/Demand.antt.
 use Prim.Native.Nat.{ℕ}
 use mathlib.Core.Path.{_≡_, refl, sym, _∙_, subst}
 use mathlib.Core.Bool.{Bool, true, false}
@@ -37,11 +37,11 @@ use Rattle.readings.specs.Structure.{inGroup, siblings, groupOf, rootPie
 use Rattle.readings.specs.Collection.{isWanted, afterEntry, entriesOf}
 use Rattle.readings.specs.Shape.{Shape, structure, list, map, strings, SheetOf, sheetOf, read}
 use Rattle.readings.specs.Demand.{Siblings, no-child, sibling, stranger, GroupBytes, Handed, TextWanted, of-item, of-field, ReadOf}
-use Rattle.readings.specs.Demand.{MayRefuse, broken-sheet, depth-limit, element-in-text, groups-no-room, Promised, finishes, Demand3}
+use Rattle.readings.specs.Demand.{MayRefuse, broken-sheet, depth-limit, element-in-text, Promised, finishes, Demand3}
 use Rattle.readings.specs.Demand as promise
 use Rattle.readings.proofs.Conditions.Answers.{given-refused, refuses-same}
 use Rattle.readings.proofs.Conditions.Opening.{AskedRefused, by-table, by-sheet, by-depth, by-root, AskedAs}
-use Rattle.readings.proofs.Conditions.Readings.{Stops, root-differs, no-text, ill-formed, Refused, early, stops, full, groups-full}
+use Rattle.readings.proofs.Conditions.Readings.{Stops, root-differs, no-text, ill-formed, Refused, early, stops, full}
 use Rattle.readings.proofs.Conditions.Readings.{reading-refused}
 use Rattle.readings.proofs.Plans.Made.{made-kept}
 use Rattle.readings.proofs.Plans.Sources.{Anything, Sources, ShapeSources}
@@ -131,11 +131,10 @@ module _ (u : Upload) (passes : drained (u .body) (u .rows) (u .end) ≡ Drained
   shape-sources : (sheet : List ℕ) (shape : Shape) (a : Asked (SheetOf shape)) → ReadOf u sheet shape a
       → ShapeSources Anything Anything (GroupBytes u sheet) (IsElement u) (u .body) shape a
   unfolding seen toks groupOf rootPiece
-  shape-sources sheet (structure order) a w =
+  shape-sources sheet structure a w =
       let kids = childrenOf (a .opened .root) in
       record {
         member = λ m i. tt {0};
-        ordered = λ i j. tt {0};
         attribute = λ name v e. tt {0};
         group = λ i. record {
           structure = a .sheet;
@@ -143,12 +142,12 @@ module _ (u : Upload) (passes : drained (u .body) (u .rows) (u .end) ≡ Drained
           root = a .opened .root;
           isRoot = w .root;
           gathered = siblings (u .body) seen (a .sheet) i kids;
-          siblings = siblings-are (a .sheet) i kids (children-met toks (a .opened .root) (root sheet (structure order) a w));
+          siblings = siblings-are (a .sheet) i kids (children-met toks (a .opened .root) (root sheet structure a w));
           are = rw (w .seen);
         };
         root = record {
           row = a .opened .root .start .row;
-          is = rw (w .seen) (root-piece (a .opened .root) (root sheet (structure order) a w));
+          is = rw (w .seen) (root-piece (a .opened .root) (root sheet structure a w));
         };
       }
   shape-sources sheet list a w = tt {0}
@@ -204,7 +203,6 @@ module _ (u : Upload) (passes : drained (u .body) (u .rows) (u .end) ≡ Drained
     may-refuse shape (early x) = before-reading shape x
     may-refuse shape (stops {a = a} w x) = stopped shape a (read-of shape a w) x
     may-refuse shape (full t f) = promise.no-room t f
-    may-refuse shape (groups-full t u f) = groups-no-room t u f
 
     all-handed : (shape : Shape) → AllHanded u (call .sheet) (output (read shape u call room))
     all-handed shape =
@@ -221,8 +219,7 @@ module _ (u : Upload) (passes : drained (u .body) (u .rows) (u .end) ≡ Drained
         go (finished out) e h = finishes (h .each)
         go (refused r out) e h = promise.refuses (may-refuse shape (reading-refused u call room shape e)) (h .each)
 
--- THE THEOREM, demand 3: of a body and table that passed, each reading, with any sheet, settings, depth, room and order of groups, keeps
--- its promise
+-- THE THEOREM, demand 3: of a body and table that passed, each reading, with any sheet, settings, depth and room, keeps its promise
 pub demand-3 : Demand3
 demand-3 u p shape call room = keeps u (drained-passes-is (u .body) (u .rows) (u .end) .1 p) call room shape
 

@@ -40,7 +40,7 @@ abbrev tell : Mark → Reply
 tell (Mark.references text) = Reply.references (validated (ascii text)) (unescaped (ascii text))
 tell (Mark.drain body table) =
     Reply.drain (drained (ascii body) table (length (ascii body)))
-    (ask (reading (structure []) body table (length (ascii body)) (plain (0 ∷ [])) strict 0 enough))
+    (ask (reading structure body table (length (ascii body)) (plain (0 ∷ [])) strict 0 enough))
 tell (Mark.list body table) = Reply.list (ask (reading Shape.list body table (length (ascii body)) (0 ∷ []) strict 0 enough))
 
 pub examples :
@@ -77,17 +77,17 @@ examples = refl
 -- ---- the others
 pub edges : Answered ask (
     -- "Depth 127 of 128 is entered; 128 gives 3."
-    case (reading (structure []) "<r/>" empty 4 (plain (0 ∷ [])) lenient 127 enough) (answer 0 0 [] "")
-    ∷ case (reading (structure []) "<r/>" empty 4 (plain (0 ∷ [])) lenient 128 enough) (answer 3 0 [] "")
+    case (reading structure "<r/>" empty 4 (plain (0 ∷ [])) lenient 127 enough) (answer 0 0 [] "")
+    ∷ case (reading structure "<r/>" empty 4 (plain (0 ∷ [])) lenient 128 enough) (answer 3 0 [] "")
     -- "`<r><n>1</n><n>2</n></r>`, n flattened aggregate: one group of 33 bytes."
-    ∷ case (reading (structure (0 ∷ [])) "<r><n>1</n><n>2</n></r>" two 23 (plain (1 ∷ 26 ∷ named "n")) strict 0 enough)
+    ∷ case (reading structure "<r><n>1</n><n>2</n></r>" two 23 (plain (1 ∷ 26 ∷ named "n")) strict 0 enough)
     (answer 0 1 (3 ∷ 0 ∷ 0 ∷ 0 ∷ 0 ∷ 33 ∷ []) "<__flat><n>1</n><n>2</n></__flat>")
     -- "Strict `<r x=\"1\" x=\"2\"/>`: 4 from a structure reading, 9 from the drain."
-    ∷ case (reading (structure []) "<r x=\"1\" x=\"2\"/>" attributes-two 16 (plain (0 ∷ [])) strict 0 enough) (answer 4 0 [] "")
+    ∷ case (reading structure "<r x=\"1\" x=\"2\"/>" attributes-two 16 (plain (0 ∷ [])) strict 0 enough) (answer 4 0 [] "")
     -- "Lenient `<r><a x=\"&zz;\">1</a><b>2</b></r>`: no entry at all, success."
-    ∷ case (reading (structure []) "<r><a x=\"&zz;\">1</a><b>2</b></r>" attribute-first 32 scalarsAB lenient 0 enough) (answer 0 0 [] "")
+    ∷ case (reading structure "<r><a x=\"&zz;\">1</a><b>2</b></r>" attribute-first 32 scalarsAB lenient 0 enough) (answer 0 0 [] "")
     -- "Lenient `<r><a>1</b><c>2</c></r>`, a and c scalar: one text `1`; c is never seen."
-    ∷ case (reading (structure []) "<r><a>1</b><c>2</c></r>" two 23 (plain (2 ∷ 2 ∷ named "a" ++ (2 ∷ named "c"))) lenient 0 enough)
+    ∷ case (reading structure "<r><a>1</b><c>2</c></r>" two 23 (plain (2 ∷ 2 ∷ named "a" ++ (2 ∷ named "c"))) lenient 0 enough)
     (answer 0 1 (1 ∷ 0 ∷ 0 ∷ 0 ∷ 0 ∷ 1 ∷ []) "1")
     ∷ [])
 unfolding computed

@@ -32,15 +32,15 @@ pub places : Answered ask (
     -- of a map, in a value
     ∷ case (reading map "<m><e><v>&</v></e></m>" nested-text 22 keyed lenient 0 enough) (answerAt 7 9 0 [] "")
     -- an entry of kind 4: 7 has its place as length, 6 keeps 0
-    ∷ case (reading (structure []) "<r><a>&</a><b><c/></b></r>" nested-empty 26 scalarsAB lenient 0 enough)
+    ∷ case (reading structure "<r><a>&</a><b><c/></b></r>" nested-empty 26 scalarsAB lenient 0 enough)
     (answer 0 2 (4 ∷ 0 ∷ 0 ∷ 0 ∷ 7 ∷ 6 ∷ 4 ∷ 1 ∷ 0 ∷ 0 ∷ 6 ∷ 0 ∷ []) "")
     -- two of them: each its own
-    ∷ case (reading (structure []) "<r><a>&</a><b>&</b></r>" two 23 scalarsAB lenient 0 enough)
+    ∷ case (reading structure "<r><a>&</a><b>&</b></r>" two 23 scalarsAB lenient 0 enough)
     (answer 0 2 (4 ∷ 0 ∷ 0 ∷ 0 ∷ 7 ∷ 6 ∷ 4 ∷ 1 ∷ 0 ∷ 0 ∷ 7 ∷ 14 ∷ []) "")
     -- strict: the place of validation; the reading's own number is 9 then, with no place
-    ∷ case (reading (structure []) "<r><a>&#+65;&zz;</a></r>" one-text10 24 scalarA lenient 0 enough)
+    ∷ case (reading structure "<r><a>&#+65;&zz;</a></r>" one-text10 24 scalarA lenient 0 enough)
     (answer 0 1 (4 ∷ 0 ∷ 0 ∷ 0 ∷ 7 ∷ 12 ∷ []) "")
-    ∷ case (reading (structure []) "<r><a>&#+65;&zz;</a></r>" one-text10 24 scalarA strict 0 enough)
+    ∷ case (reading structure "<r><a>&#+65;&zz;</a></r>" one-text10 24 scalarA strict 0 enough)
     (answer 9 1 (4 ∷ 0 ∷ 0 ∷ 0 ∷ 7 ∷ 6 ∷ []) "")
     ∷ [])
 unfolding computed

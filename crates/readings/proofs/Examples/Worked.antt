@@ -14,17 +14,13 @@ use Rattle.xml.specs.Drain.{drained}
 use Rattle.xml.proofs.Means.{drained-passes-is}
 use Rattle.xml.specs.Piece.{ElementPiece}
 use Rattle.sheet.specs.Settings.{Settings}
-use Rattle.sheet.specs.Sheet.{structureOf}
 use Rattle.readings.specs.Call.{uploaded, calling}
 use Rattle.readings.specs.Output.{textEntry, pieceEntry, groupEntry, keyTextEntry, Output, finished}
-use Rattle.readings.specs.Opening.{asked}
 use Rattle.readings.specs.Structure.{structureReading}
 use Rattle.readings.specs.Collection.{listReading, mapReading}
 use Rattle.readings.specs.Shape.{structure}
 use Rattle.readings.specs.Demand.{Handed}
 use Rattle.readings.proofs.Demand.Theorem.{demand-3, promised-output}
-use Rattle.readings.specs.Order.{hasGroup, grouped}
-use Rattle.readings.proofs.Laws.Order.{orderIn}
 use Rattle.readings.proofs.Examples.Asking.{settings, shape, enough}
 use Rattle.readings.proofs.All.{computed}
 
@@ -106,20 +102,15 @@ core =
       texts = ascii "T&7" ++ (ascii "North <1" ++ ascii "<__flat><ring y=\"1\">34</ring><ring/></__flat>");
     }
 
-pub core-is : structureReading (uploaded body table final) (calling coreSheet strictly (shape 0)) (3 ∷ []) enough ≡ finished core
+pub core-is : structureReading (uploaded body table final) (calling coreSheet strictly (shape 0)) enough ≡ finished core
 unfolding computed
 core-is = refl
-
--- the group of the rings is the only one, so that is an order
-pub core-order : orderIn (asked (uploaded body table final) (structureOf coreSheet) strictly (shape 0)) ≡ 3 ∷ []
-unfolding computed hasGroup grouped
-core-order = refl
 
 -- ---- the theorem, used on its pieces
 pub core-handed : Every (Handed (uploaded body table final) coreSheet (core .texts)) (core .entries)
 core-handed =
     promised-output (rw core-is at
-    (demand-3 (uploaded body table final) (drained-passes-is body table final .0 passes) (structure (3 ∷ []))
+    (demand-3 (uploaded body table final) (drained-passes-is body table final .0 passes) structure
     (calling coreSheet strictly (shape 0)) enough))
 
 -- the samples: an element of the table, whose own rows pass the drain again

@@ -26,7 +26,7 @@ use Rattle.sheet.specs.Names.{indexed, entryName}
 use Rattle.sheet.proofs.Limits.{few-members}
 use Rattle.readings.specs.Call.{Upload, Call}
 use Rattle.readings.specs.Output.{Entry, Room, Output, nothing, output}
-use Rattle.readings.specs.Plan.{performed}
+use Rattle.readings.specs.Plan.{perform}
 use Rattle.readings.specs.Opening.{Opened, Asked}
 use Rattle.readings.specs.Structure.{attributeOf}
 use Rattle.readings.specs.Collection.{afterEntry, entriesOf}
@@ -35,11 +35,11 @@ use Rattle.readings.proofs.Conditions.Opening.{OpenedAs, AskedAs}
 use Rattle.readings.proofs.Conditions.Place.{text-tells, told-within}
 use Rattle.readings.specs.Shape.{Shape, structure, list, map, strings, SheetOf, sheetOf, read}
 use Rattle.readings.proofs.Laws.Fuel.{after-entry-shortens}
-use Rattle.readings.proofs.Laws.Few.{index-below, FewGroups}
+use Rattle.readings.proofs.Laws.Members.{index-below}
 use Rattle.readings.proofs.Laws.Siblings.{group-short}
 use Rattle.readings.proofs.Laws.Inside.{root-piece-inside}
 use Rattle.readings.proofs.Laws.Fits.{EntryFits, Fits, FewBytes, PlaceFits, PieceFits, fits-kept}
-use Rattle.readings.proofs.Plans.Readings.{mostMet, mostGroups, output-carried, may-stop, plan-made, askedPlan}
+use Rattle.readings.proofs.Plans.Readings.{mostEntries, output-carried, may-stop, plan-made, askedPlan}
 use Rattle.readings.proofs.Plans.Made.{made-kept}
 use Rattle.readings.proofs.Plans.Sources.{Sources, StructureSources, ShapeSources}
 use Rattle.readings.proofs.Plans.Placed.{OpenedIn, opened-in, placed-sources}
@@ -99,13 +99,12 @@ module _ {u : Upload} {strict : Bool} {o : Opened} (w : OpenedAs u strict o) whe
   unfolding childrenOf
   few-kids = omega (arith, few-inside dropping dropping-shortens (o .root), few-rows)
 
-  fits-structure : (sheet : List ℕ) {s : Structure} {order : List ℕ} → structureOf sheet ≡ some s → FewGroups order
+  fits-structure : (sheet : List ℕ) {s : Structure} → structureOf sheet ≡ some s
       → StructureSources (λ (i : ℕ). i < mostMembers) (FewBytes mostBytes) (λ (i : ℕ). FewBytes (mostBytes + 17)) (PieceFits (u .body))
-      (u .body) s o order
-  fits-structure sheet {s} says g =
+      (u .body) s o
+  fits-structure sheet {s} says =
       record {
         member = λ m i. omega (arith, index-below zero (s .members) m i, few-members sheet s says);
-        ordered = g .each;
         attribute = λ key v e. omega (
           arith,
           few-bytes,
@@ -169,40 +168,33 @@ unfolding indexed
 length-indexed i [] = refl
 length-indexed i (m ∷ l) = ap suc (length-indexed (suc i) l)
 
--- of a structure, with an order of at most as many groups as there may be members (Few.antt: every order of its groups is one)
-abbrev pub FewIn : Shape → Type 0
-FewIn (structure order) = FewGroups order
-FewIn list = Unit {0}
-FewIn map = Unit {0}
-FewIn strings = Unit {0}
-
 module _ (u : Upload) (call : Call) where
   -- so many entries at most, of a body that is opened
-  few-writes : (room : Room) (shape : Shape) → FewIn shape → (a : Asked (SheetOf shape))
+  few-writes : (shape : Shape) (a : Asked (SheetOf shape))
       → AskedAs u (sheetOf shape (call .sheet)) (call .settings) (call .depth) a
-      → mostMet (call .settings) shape a + mostGroups shape ≤ 8321
-  few-writes room (structure order) g a w =
-      omega (arith, few-members (call .sheet) (a .sheet) (w .says), length-indexed zero (a .sheet .members), few-kids (w .begun), g .few)
-  few-writes room list g a w = omega (arith, few-kids (w .begun))
-  few-writes room map g a w = omega (arith, few-entries (w .begun) (entryName (call .settings) (a .sheet)))
-  few-writes room strings g a w = omega (arith, few-kids (w .begun))
+      → mostEntries (call .settings) shape a ≤ 8321
+  few-writes structure a w =
+      omega (arith, few-members (call .sheet) (a .sheet) (w .says), length-indexed zero (a .sheet .members), few-kids (w .begun))
+  few-writes list a w = omega (arith, few-kids (w .begun))
+  few-writes map a w = omega (arith, few-entries (w .begun) (entryName (call .settings) (a .sheet)))
+  few-writes strings a w = omega (arith, few-kids (w .begun))
 
-  fits-shape : (shape : Shape) → FewIn shape → (a : Asked (SheetOf shape))
+  fits-shape : (shape : Shape) (a : Asked (SheetOf shape))
       → AskedAs u (sheetOf shape (call .sheet)) (call .settings) (call .depth) a
       → ShapeSources (λ (i : ℕ). i < mostMembers) (FewBytes mostBytes) (λ (i : ℕ). FewBytes (mostBytes + 17)) (PieceFits (u .body))
       (u .body) shape a
-  fits-shape (structure order) g a w = fits-structure (w .begun) (call .sheet) (w .says) g
-  fits-shape list g a w = omega arith
-  fits-shape map g a w = omega arith
-  fits-shape strings g a w = omega arith
+  fits-shape structure a w = fits-structure (w .begun) (call .sheet) (w .says)
+  fits-shape list a w = omega arith
+  fits-shape map a w = omega arith
+  fits-shape strings a w = omega arith
 
-pub reading-small : (shape : Shape) → FewIn shape → (u : Upload) (call : Call) (room : Room)
+pub reading-small : (shape : Shape) (u : Upload) (call : Call) (room : Room)
     → Small (u .body) (output (read shape u call room))
-reading-small shape g u call room =
+reading-small shape u call room =
     output-carried u call room shape (Small (u .body)) (none-small (u .body)) (λ a w.
-    steps-small (u .body) (mostMet (call .settings) shape a + mostGroups shape)
-    (output (performed room (askedPlan shape (u .body) (call .settings) (call .depth) a))) (few-bytes (w .begun))
-    (few-writes u call room shape g a w)
+    steps-small (u .body) (mostEntries (call .settings) shape a)
+    (output (perform room (askedPlan shape (u .body) (call .settings) (call .depth) a) nothing)) (few-bytes (w .begun))
+    (few-writes u call shape a w)
     (made-kept (fits-kept (u .body) room)
-    (plan-made (call .settings) (call .depth) shape a (fits-sources (w .begun)) (fits-shape u call shape g a w)
+    (plan-made (call .settings) (call .depth) shape a (fits-sources (w .begun)) (fits-shape u call shape a w)
     (may-stop (call .settings) (call .depth) shape a))))

@@ -92,8 +92,7 @@ in-sources w = placed-sources w (λ c h b e. tt {0}) (λ c h r e. tt {0}) (piece
 
 in-shape : {body : List ℕ} (shape : Shape) (a : Asked (SheetOf shape)) → PieceIn body (rootPiece body (a .opened))
     → ShapeSources Anything Anything (λ (i : ℕ). Anything) (PieceIn body) body shape a
-in-shape (structure order) a h =
-    record { member = λ m i. tt {0}; ordered = λ i j. tt {0}; attribute = λ name v e. tt {0}; group = λ i. tt {0}; root = h }
+in-shape structure a h = record { member = λ m i. tt {0}; attribute = λ name v e. tt {0}; group = λ i. tt {0}; root = h }
 in-shape list a h = tt {0}
 in-shape map a h = tt {0}
 in-shape strings a h = tt {0}

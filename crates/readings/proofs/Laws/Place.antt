@@ -28,7 +28,7 @@ use Rattle.readings.specs.Demand.{TextWanted, of-item, of-field}
 use Rattle.readings.proofs.Conditions.Opening.{OpenedAs, broken-table, no-root, by-table, by-sheet, by-depth, by-root}
 use Rattle.readings.proofs.Conditions.Text.{opened-text-refusal}
 use Rattle.readings.proofs.Conditions.Place.{Telling, seven, other, telling, SevenAt, TellsPlace, text-tells}
-use Rattle.readings.proofs.Conditions.Readings.{Stops, root-differs, no-text, ill-formed, Refused, early, stops, full, groups-full}
+use Rattle.readings.proofs.Conditions.Readings.{Stops, root-differs, no-text, ill-formed, Refused, early, stops, full}
 use Rattle.readings.proofs.Conditions.Numbers.{Only, later, reading-numbers}
 use Rattle.readings.proofs.Conditions.Readings.{any-shape, reading-refused}
 use Rattle.readings.proofs.Conditions.Values.{NotABoolean, not-boolean, NotAnInteger, not-integer, StringTooLong, too-long}
@@ -134,7 +134,6 @@ module _ (shape : Shape) (u : Upload) (call : Call) (room : Room) where
       go (early (by-root t s h n)) = not-seven u strictly (λ e. omega (arith, e))
       go (stops w x) = stops-tell (w .begun) x
       go (full t f) = not-seven u strictly (λ e. omega (arith, e))
-      go (groups-full t v f) = not-seven u strictly (λ e. omega (arith, e))
 
 -- ---- a structure and a list are never refused with 7, so there is no place to tell
 module _ (u : Upload) (call : Call) (room : Room) where
@@ -143,9 +142,8 @@ module _ (u : Upload) (call : Call) (room : Room) where
   tells-none shape f (finished out) e = refl
   tells-none shape f (refused r out) e = no-place r (f r (reading-numbers u call room shape e))
 
-  pub structure-tells-none : (order : List ℕ) → outcomePlace (read (structure order) u call room) ≡ 0
-  structure-tells-none order =
-      tells-none (structure order) (λ r o q. false-true (rw q at o)) (read (structure order) u call room) refl
+  pub structure-tells-none : outcomePlace (read structure u call room) ≡ 0
+  structure-tells-none = tells-none structure (λ r o q. false-true (rw q at o)) (read structure u call room) refl
 
   pub list-tells-none : outcomePlace (read list u call room) ≡ 0
   list-tells-none = tells-none list (λ r o q. false-true (rw q at o)) (read list u call room) refl

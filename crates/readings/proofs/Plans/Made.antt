@@ -8,8 +8,8 @@ use native.Mathlib.Omega.{arith}
 use lib.ListN.{length}
 use Rattle.lists.proofs.Tests.{pick-cases}
 use Rattle.refusal.specs.declared.Refusal.{Refusal}
-use Rattle.readings.specs.Output.{Entry, Room, Output, nothing, Reading, finished, refused, output, fits, appended}
-use Rattle.readings.specs.Plan.{Plan, put, end, stop, perform, followedBy, oneByOne, endTest, Whole, allOrNone, thenGroups, performed}
+use Rattle.readings.specs.Output.{Entry, Room, Output, nothing, Reading, output, fits, appended}
+use Rattle.readings.specs.Plan.{Plan, put, end, stop, perform, followedBy, oneByOne, endTest}
 use Rattle.readings.specs.Demand.{Reaches, here, later}
 
 pub data Made (W : (ℕ → Entry) → List ℕ → Type 0) (S : Refusal → Type 0) : ℕ → Plan → Type 0 where
@@ -46,10 +46,6 @@ module _ {W : (ℕ → Entry) → List ℕ → Type 0} {S : Refusal → Type 0} 
   made-stops (made-stop s) here = s
   made-stops (made-put w t) (later u) = made-stops t u
 
-pub record MadeWhole (W : (ℕ → Entry) → List ℕ → Type 0) (S : Refusal → Type 0) (n m : ℕ) (w : Whole) : Type 0 where
-  pub asMet : Made W S n (w .asMet)
-  pub groups : Made W S m (w .groups)
-
 -- ---- Q n is said of an output after at most n writes
 pub record Keeps (room : Room) (W : (ℕ → Entry) → List ℕ → Type 0) (Q : ℕ → Output → Type 0) : Type 0 where
   pub start : Q 0 nothing
@@ -69,15 +65,5 @@ module _ {room : Room} {W : (ℕ → Entry) → List ℕ → Type 0} {S : Refusa
   keeps-on {n} (made-stop s) m out q = k .idle m (m + n) out (omega arith) q
 
   -- THE LAW: what each write keeps, the whole keeps, finished or refused
-  pub made-kept : {n m : ℕ} {w : Whole} → MadeWhole W S n m w → Q (n + m) (output (performed room w))
-  unfolding performed
-  made-kept {n} {m} {w} t = onMet (perform room (w .asMet) nothing)
-      (k .idle (0 + n) n _ (omega arith) (keeps-on (t .asMet) 0 nothing (k .start)))
-    where
-      onGroups : (out : Output) → Q n out → (y : Reading) → Q (n + m) (output y) → Q (n + m) (output (allOrNone out y))
-      onGroups out q (finished new) r = r
-      onGroups out q (refused why new) r = k .idle n (n + m) out (omega arith) q
-
-      onMet : (x : Reading) → Q n (output x) → Q (n + m) (output (thenGroups room (w .groups) x))
-      onMet (finished out) q = onGroups out q (perform room (w .groups) out) (keeps-on (t .groups) n out q)
-      onMet (refused why out) q = k .idle n (n + m) out (omega arith) q
+  pub made-kept : {n : ℕ} {p : Plan} → Made W S n p → Q n (output (perform room p nothing))
+  made-kept {n} t = k .idle (0 + n) n _ (omega arith) (keeps-on t 0 nothing (k .start))

@@ -12,7 +12,7 @@ use Rattle.lists.specs.Tests.{pick}
 use Rattle.lists.proofs.Tests.{pick-cases, false-true}
 use Rattle.refusal.specs.declared.Refusal.{Refusal}
 use Rattle.readings.specs.Output.{Entry, Room, Output, nothing, Reading, finished, refused, output, fits, appended}
-use Rattle.readings.specs.Plan.{Plan, put, end, stop, perform, followedBy, Whole, allOrNone, thenGroups, performed}
+use Rattle.readings.specs.Plan.{Plan, put, end, stop, perform, followedBy}
 use Rattle.readings.specs.Demand.{Reaches, here, later, Exceeds, too-many, too-long}
 
 -- ---- room
@@ -137,45 +137,6 @@ ended-is {room} (at-stop t w) = perform-reaches room t w
 ended-is {room} (no-room {entry = entry} {bytes = bytes} {last = last} t w f) =
     perform-reaches room t w ∙ rw (not-fits (fits room bytes last) (λ e. within-not (written-within room entry bytes last e) f))
 
--- ---- the same of a whole: as met; or all that is met was written, and it would exceed the room with all the groups
-pub data EndedWhole (room : Room) (w : Whole) : Reading → Type 0 where
-  finishes : {out last : Output} → Ended room (w .asMet) nothing (finished out) → Ended room (w .groups) out (finished last)
-      → EndedWhole room w (finished last)
-  as-met : {r : Refusal} {out : Output} → Ended room (w .asMet) nothing (refused r out) → EndedWhole room w (refused r out)
-  in-groups : {r : Refusal} {out kept : Output} → Ended room (w .asMet) nothing (finished out) → Ended room (w .groups) out (refused r kept)
-      → EndedWhole room w (refused r out)
-
-pub performed-ended : (room : Room) (w : Whole) → EndedWhole room w (performed room w)
-unfolding performed
-performed-ended room w = onMet (perform-ended room (w .asMet) nothing (nothing-within room))
-  where
-    onGroups : {out : Output} → Ended room (w .asMet) nothing (finished out) → {y : Reading} → Ended room (w .groups) out y
-        → EndedWhole room w (allOrNone out y)
-    onGroups m (all-done t h) = finishes m (all-done t h)
-    onGroups m (at-stop t h) = in-groups m (at-stop t h)
-    onGroups m (no-room t h f) = in-groups m (no-room t h f)
-
-    onMet : {y : Reading} → Ended room (w .asMet) nothing y → EndedWhole room w (thenGroups room (w .groups) y)
-    onMet (all-done {last = out} t h) = onGroups (all-done t h) (perform-ended room (w .groups) out h)
-    onMet (at-stop t h) = as-met (at-stop t h)
-    onMet (no-room t h f) = as-met (no-room t h f)
-
-pub ended-whole-is : {room : Room} {w : Whole} {x : Reading} → EndedWhole room w x → performed room w ≡ x
-unfolding performed
-ended-whole-is (finishes m g) = rw (ended-is m, ended-is g)
-ended-whole-is (as-met m) = rw (ended-is m)
-ended-whole-is (in-groups m g) = rw (ended-is m, ended-is g)
-
 -- THE LAW: a plan ends so exactly where it is said to
-pub performed-exactly : (room : Room) (w : Whole) (x : Reading) → (performed room w ≡ x) ↔ EndedWhole room w x
-performed-exactly room w x = (λ e. subst (EndedWhole room w) e (performed-ended room w), ended-whole-is)
-
-pub ended-whole-within : {room : Room} {w : Whole} {x : Reading} → EndedWhole room w x → Within room (output x)
-ended-whole-within (finishes m g) = ended-within g
-ended-whole-within (as-met m) = ended-within m
-ended-whole-within (in-groups m g) = ended-within m
-
--- a plan ends in one way
-pub reaches-one : {p : Plan} {out a b : Output} → Reaches p out end a → Reaches p out end b → a ≡ b
-reaches-one here here = refl
-reaches-one (later t) (later u) = reaches-one t u
+pub perform-exactly : (room : Room) (p : Plan) (x : Reading) → (perform room p nothing ≡ x) ↔ Ended room p nothing x
+perform-exactly room p x = (λ e. subst (Ended room p nothing) e (perform-ended room p nothing (nothing-within room)), ended-is)

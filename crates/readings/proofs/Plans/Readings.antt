@@ -18,70 +18,57 @@ use Rattle.sheet.specs.declared.ShapeDepth.{ShapeDepth}
 use Rattle.sheet.specs.Settings.{Settings, testsRootName}
 use Rattle.sheet.specs.Names.{rootName, attributeName, Indexed, membersOf, resolve, itemName, entryName}
 use Rattle.readings.specs.Call.{Upload, Call}
-use Rattle.readings.specs.Output.{Room, Output, nothing, Reading, finished, refused, output}
-use Rattle.readings.specs.Plan.{Plan, stop, perform, oneByOne, Whole, withoutGroups, thenGroups, performed}
+use Rattle.readings.specs.Output.{Room, Output, nothing, Reading, output}
+use Rattle.readings.specs.Plan.{Plan, stop, perform, oneByOne, endTest}
 use Rattle.readings.specs.Opening.{Opened, Asked, asked, asking}
 use Rattle.readings.specs.Structure.{attributeOf, foundPlan, attributePlan, scalarPlan, memberPlan, childPlan, groupPlan, membersPlan}
-use Rattle.readings.specs.Structure.{rootPiece, rootPlan, unwrappedPlan, withRootName, openedPlan, structurePlan, structureReading}
+use Rattle.readings.specs.Structure.{hasGroup, rootPiece, rootPlan, unwrappedPlan, withRootName, openedPlan, structurePlan}
+use Rattle.readings.specs.Structure.{structureReading}
 use Rattle.readings.specs.Collection.{isWanted, itemPlan, itemsPlan, listPlan, listReading, textPlan, stringPlan, stringsPlan}
 use Rattle.readings.specs.Collection.{stringListPlan, stringListReading, MapValue, Fields, noFields, fieldsPlan, readPlan, entryPlan}
 use Rattle.readings.specs.Collection.{entriesOf, entriesPlan, mapPlan, mapReading}
 use Rattle.readings.specs.Shape.{Shape, structure, list, map, strings, SheetOf, sheetOf, planOf, read}
 use Rattle.readings.specs.Demand.{RootDiffers, differs, TextWanted, of-item, of-field}
-use Rattle.readings.proofs.Laws.Order.{named-in}
+use Rattle.readings.proofs.Laws.Members.{named-in}
 use Rattle.readings.proofs.Conditions.Answers.{Is, is-given, is-refused}
 use Rattle.readings.proofs.Conditions.Opening.{AskedRefused, AskedAs, asked-is}
 use Rattle.readings.proofs.Plans.Made.{Made, made-put, made-end, made-stop, made-more, made-followed, made-each, made-last}
-use Rattle.readings.proofs.Plans.Made.{MadeWhole}
 use Rattle.readings.proofs.Plans.Sources.{Source, of-text, of-failed, of-piece, of-group, of-key-text, of-key-piece, Anything}
 use Rattle.readings.proofs.Plans.Sources.{Sources, ShapeSources}
 use Rattle.readings.proofs.Plans.Fields.{FieldsFrom, fields, no-text, KeyFrom, no-key, key, ValueFrom, no-value, text-value}
 use Rattle.readings.proofs.Plans.Fields.{piece-value, fields-from}
 
 -- ---- a reading is its plan, performed
-alone : (room : Room) (x : Reading) → x ≡ thenGroups room (withoutGroups (stop Refusal.NoRoom) .groups) x
-unfolding perform
-alone room (finished out) = refl
-alone room (refused r out) = refl
-
 pub read-is : (shape : Shape) (u : Upload) (call : Call) (room : Room)
-    → read shape u call room ≡ performed room (planOf shape u call)
-unfolding structureReading listReading mapReading stringListReading performed
-read-is (structure order) u call room = refl
-read-is list u call room = alone room _
-read-is map u call room = alone room _
-read-is strings u call room = alone room _
+    → read shape u call room ≡ perform room (planOf shape u call) nothing
+unfolding structureReading listReading mapReading stringListReading
+read-is structure u call room = refl
+read-is list u call room = refl
+read-is map u call room = refl
+read-is strings u call room = refl
 
 -- ---- what is planned once 1, 2, 3 and 4 are past
-abbrev pub askedPlan : (shape : Shape) → List ℕ → Settings → ShapeDepth → Asked (SheetOf shape) → Whole
-askedPlan (structure order) body settings depth a = openedPlan body settings depth order a
-askedPlan list body settings depth a = withoutGroups (itemsPlan body settings a)
-askedPlan map body settings depth a = withoutGroups (entriesPlan body settings a)
-askedPlan strings body settings depth a = withoutGroups (stringsPlan settings a)
+abbrev pub askedPlan : (shape : Shape) → List ℕ → Settings → ShapeDepth → Asked (SheetOf shape) → Plan
+askedPlan structure body settings depth a = openedPlan body settings depth a
+askedPlan list body settings depth a = itemsPlan body settings a
+askedPlan map body settings depth a = entriesPlan body settings a
+askedPlan strings body settings depth a = stringsPlan settings a
 
 module _ (u : Upload) (call : Call) (shape : Shape) where
   -- a plan stops before it reads anything, or it goes on with what was asked
-  pub data PlanIs : Whole → Type 0 where
-    before : {r : Refusal} → AskedRefused u (sheetOf shape (call .sheet)) (call .settings) (call .depth) r → PlanIs (withoutGroups (stop r))
+  pub data PlanIs : Plan → Type 0 where
+    before : {r : Refusal} → AskedRefused u (sheetOf shape (call .sheet)) (call .settings) (call .depth) r → PlanIs (stop r)
     while : {a : Asked (SheetOf shape)} → AskedAs u (sheetOf shape (call .sheet)) (call .settings) (call .depth) a
         → PlanIs (askedPlan shape (u .body) (call .settings) (call .depth) a)
 
--- without groups, asked or refused
-alone-asked : {A : Type 0} (g : Answer A) (f : A → Plan)
-    → withoutGroups (asking g f stop) ≡ asking g (λ (a : A). withoutGroups (f a)) (λ (r : Refusal). withoutGroups (stop r))
-alone-asked (gives a) f = refl
-alone-asked (refuses r) f = refl
-
 plan-as : (u : Upload) (call : Call) (shape : Shape) → planOf shape u call
     ≡ asking (asked u (sheetOf shape (call .sheet)) (call .settings) (call .depth))
-    (askedPlan shape (u .body) (call .settings) (call .depth)) (λ (r : Refusal). withoutGroups (stop r))
+    (askedPlan shape (u .body) (call .settings) (call .depth)) stop
 unfolding structurePlan listPlan mapPlan stringListPlan
-plan-as u call (structure order) = refl
-plan-as u call list = alone-asked (asked u (sheetOf list (call .sheet)) (call .settings) (call .depth))
-    (itemsPlan (u .body) (call .settings))
-plan-as u call map = alone-asked (asked u (sheetOf map (call .sheet)) (call .settings) (call .depth))
-    (entriesPlan (u .body) (call .settings))
-plan-as u call strings = alone-asked (asked u (sheetOf strings (call .sheet)) (call .settings) (call .depth)) (stringsPlan (call .settings))
+plan-as u call structure = refl
+plan-as u call list = refl
+plan-as u call map = refl
+plan-as u call strings = refl
 
 pub plan-is : (u : Upload) (call : Call) (shape : Shape) → PlanIs u call shape (planOf shape u call)
 plan-is u call shape = subst⁻¹ (PlanIs u call shape) (plan-as u call shape)
@@ -90,36 +77,31 @@ plan-is u call shape = subst⁻¹ (PlanIs u call shape) (plan-as u call shape)
     go : {g : Answer (Asked (SheetOf shape))}
         → Is (AskedAs u (sheetOf shape (call .sheet)) (call .settings) (call .depth))
         (AskedRefused u (sheetOf shape (call .sheet)) (call .settings) (call .depth)) g
-        → PlanIs u call shape (asking g (askedPlan shape (u .body) (call .settings) (call .depth))
-        (λ (r : Refusal). withoutGroups (stop r)))
+        → PlanIs u call shape (asking g (askedPlan shape (u .body) (call .settings) (call .depth)) stop)
     go (is-given w) = while w
     go (is-refused w) = before w
 
 -- so what is said of nothing, and of the output of each such plan, is said of the output of the reading
 pub output-carried : (u : Upload) (call : Call) (room : Room) (shape : Shape) (R : Output → Type 0) → R nothing
     → ((a : Asked (SheetOf shape)) → AskedAs u (sheetOf shape (call .sheet)) (call .settings) (call .depth) a
-    → R (output (performed room (askedPlan shape (u .body) (call .settings) (call .depth) a))))
+    → R (output (perform room (askedPlan shape (u .body) (call .settings) (call .depth) a) nothing)))
     → R (output (read shape u call room))
-unfolding performed perform
+unfolding perform
 output-carried u call room shape R base f =
     subst⁻¹ (λ (x : Reading). R (output x)) (read-is shape u call room) (go (plan-is u call shape))
   where
-    go : {w : Whole} → PlanIs u call shape w → R (output (performed room w))
+    go : {p : Plan} → PlanIs u call shape p → R (output (perform room p nothing))
     go (before r) = base
     go (while {a = a} w) = f a w
 
--- ---- how many entries are put at most: as met, and in groups
-abbrev pub mostMet : Settings → (shape : Shape) → Asked (SheetOf shape) → ℕ
-mostMet settings (structure order) a = 1 + (length (membersOf (a .sheet)) + length (childrenOf (a .opened .root)))
-mostMet settings list a = length (childrenOf (a .opened .root))
-mostMet settings map a = length (entriesOf (entryName settings (a .sheet)) (a .opened .root))
-mostMet settings strings a = length (childrenOf (a .opened .root))
-
-abbrev pub mostGroups : Shape → ℕ
-mostGroups (structure order) = length order
-mostGroups list = 0
-mostGroups map = 0
-mostGroups strings = 0
+-- ---- how many entries are put at most; of a structure: the root alone, or attributes, children and groups
+abbrev pub mostEntries : Settings → (shape : Shape) → Asked (SheetOf shape) → ℕ
+mostEntries settings structure a =
+    let members = length (membersOf (a .sheet)) in
+    1 + (members + (length (childrenOf (a .opened .root)) + members))
+mostEntries settings list a = length (childrenOf (a .opened .root))
+mostEntries settings map a = length (entriesOf (entryName settings (a .sheet)) (a .opened .root))
+mostEntries settings strings a = length (childrenOf (a .opened .root))
 
 -- ---- where a plan may stop: at its end, at the root's name, and where a text that is wanted has none
 pub record MayStop (settings : Settings) (depth : ShapeDepth) (Here : Child → Type 0) (S : Refusal → Type 0) (shape : Shape)
@@ -179,41 +161,32 @@ module _ {Here : Child → Type 0} {M : ℕ → Type 0} {T : List ℕ → Type 0
   pub plan-made : (settings : Settings) (depth : ShapeDepth) (shape : Shape) (a : Asked (SheetOf shape))
       → Sources Here T F P body (a .opened) → ShapeSources M T G P body shape a
       → MayStop settings depth Here S shape a
-      → MadeWhole (Source M T F G P) S (mostMet settings shape a) (mostGroups shape) (askedPlan shape body settings depth a)
+      → Made (Source M T F G P) S (mostEntries settings shape a) (askedPlan shape body settings depth a)
   unfolding itemsPlan itemPlan stringsPlan stringPlan entriesPlan entryPlan openedPlan membersPlan attributePlan childPlan groupPlan
       unwrappedPlan
   plan-made settings depth list a x y st =
       let kids = childrenOf (a .opened .root) in
-      record {
-        asMet = made-more _ (omega arith)
-            (made-followed (made-each _ kids (λ c i. pick-all (Made (Source M T F G P) S 1) (isWanted (itemName settings (a .sheet)) c) _ _
-            (made-put (of-piece y (x .piece c (x .children (a .opened .root) (x .root) c i))) made-end) made-end))
-            (made-last {n = 0} (a .opened .seen .illFormed) (st .illFormed)));
-        groups = made-end;
-      }
+      made-more _ (omega arith)
+      (made-followed (made-each _ kids (λ c i. pick-all (Made (Source M T F G P) S 1) (isWanted (itemName settings (a .sheet)) c) _ _
+      (made-put (of-piece y (x .piece c (x .children (a .opened .root) (x .root) c i))) made-end) made-end))
+      (made-last {n = 0} (a .opened .seen .illFormed) (st .illFormed)))
   plan-made settings depth strings a x y st =
       let kids = childrenOf (a .opened .root) in
-      record {
-        asMet = made-more _ (omega arith)
-            (made-followed (made-each _ kids
-            (λ c i. pick-cases (Made (Source M T F G P) S 1) (isWanted (itemName settings (a .sheet)) c) _ _
-            (λ e. let h = x .children (a .opened .root) (x .root) c i in text-made x y c h (st .text c h (of-item a i e))) (λ e. made-end)))
-            (made-last {n = 0} (a .opened .seen .illFormed) (st .illFormed)));
-        groups = made-end;
-      }
+      made-more _ (omega arith)
+      (made-followed (made-each _ kids
+      (λ c i. pick-cases (Made (Source M T F G P) S 1) (isWanted (itemName settings (a .sheet)) c) _ _
+      (λ e. let h = x .children (a .opened .root) (x .root) c i in text-made x y c h (st .text c h (of-item a i e))) (λ e. made-end)))
+      (made-last {n = 0} (a .opened .seen .illFormed) (st .illFormed)))
   plan-made settings depth map a x y st =
       let name = entryName settings (a .sheet) in
-      record {
-        asMet = made-more _ (omega arith)
-            (made-followed (made-each _ (entriesOf name (a .opened .root))
-            (λ c i. pick-cases (Made (Source M T F G P) S 1) (isWanted name c) _ _
-            (λ e. entry-made x st c (x .entries name (a .opened .root) (x .root) c i) i e
-            (fields-from body (a .opened .seen) (a .sheet) (childrenOf c) (childrenOf c) (λ z j. j) noFields no-key no-value))
-            (λ e. made-end)))
-            (made-last {n = 0} (a .opened .seen .illFormed) (st .illFormed)));
-        groups = made-end;
-      }
-  plan-made settings depth (structure order) a x y st =
+      made-more _ (omega arith)
+      (made-followed (made-each _ (entriesOf name (a .opened .root))
+      (λ c i. pick-cases (Made (Source M T F G P) S 1) (isWanted name c) _ _
+      (λ e. entry-made x st c (x .entries name (a .opened .root) (x .root) c i) i e
+      (fields-from body (a .opened .seen) (a .sheet) (childrenOf c) (childrenOf c) (λ z j. j) noFields no-key no-value))
+      (λ e. made-end)))
+      (made-last {n = 0} (a .opened .seen .illFormed) (st .illFormed)))
+  plan-made settings depth structure a x y st =
       named (testsRootName settings depth) (nameMatches (a .opened .root .start .name) (rootName (a .sheet))) refl refl
     where
       o : Opened
@@ -245,27 +218,27 @@ module _ {Here : Child → Type 0} {M : ℕ → Type 0} {T : List ℕ → Type 0
       children = made-each (childPlan body (o .seen) (a .sheet)) kids
           (λ c i. member-made x c (x .children (o .root) (x .root) c i) (resolve (a .sheet) (c .start .name .local)) (resolved _))
 
-      either : MadeWhole (Source M T F G P) S (mostMet settings (structure order) a) (length order)
-          (pick (a .sheet .unwrapped) (withoutGroups (unwrappedPlan body (a .sheet) o)) (membersPlan body (a .sheet) order o))
+      groups : Made (Source M T F G P) S (length (membersOf (a .sheet)))
+          (oneByOne (groupPlan body (o .seen) (a .sheet) kids) (membersOf (a .sheet)))
+      groups = made-each (groupPlan body (o .seen) (a .sheet) kids) (membersOf (a .sheet))
+          (λ m i. pick-all (Made (Source M T F G P) S 1) (hasGroup (a .sheet) (m .index) kids) _ _
+          (made-put (of-group (y .member m i) (y .group (m .index))) made-end) made-end)
+
+      -- the test that the body is well-formed puts nothing
+      tested : Made (Source M T F G P) S 0 (endTest (o .seen .illFormed))
+      tested = made-last (o .seen .illFormed) (st .illFormed)
+
+      either : Made (Source M T F G P) S (mostEntries settings structure a)
+          (pick (a .sheet .unwrapped) (unwrappedPlan body (a .sheet) o) (membersPlan body (a .sheet) o))
       either =
-          pick-all (MadeWhole (Source M T F G P) S (mostMet settings (structure order) a) (length order)) (a .sheet .unwrapped) _ _
-          (record {
-            asMet = made-more _ (omega arith)
-                (made-followed (made-last {n = 0} (o .seen .illFormed) (st .illFormed))
-                (atRoot (resolve (a .sheet) (o .root .start .name .local)) refl));
-            groups = made-end;
-          })
-          (record {
-            asMet = made-more _ (omega arith)
-                (made-followed attributes (made-followed children (made-last {n = 0} (o .seen .illFormed) (st .illFormed))));
-            groups = made-each _ order (λ i j. made-put (of-group (y .ordered i j) (y .group i)) made-end);
-          })
+          pick-all (Made (Source M T F G P) S (mostEntries settings structure a)) (a .sheet .unwrapped) _ _
+          (made-more _ (omega arith) (made-followed tested (atRoot (resolve (a .sheet) (o .root .start .name .local)) refl)))
+          (made-more _ (omega arith) (made-followed attributes (made-followed children (made-followed tested groups))))
 
       named : (tests matches : Bool) → testsRootName settings depth ≡ tests
           → nameMatches (o .root .start .name) (rootName (a .sheet)) ≡ matches
-          → MadeWhole (Source M T F G P) S (mostMet settings (structure order) a) (length order)
-          (withRootName tests matches (pick (a .sheet .unwrapped) (withoutGroups (unwrappedPlan body (a .sheet) o))
-          (membersPlan body (a .sheet) order o)))
+          → Made (Source M T F G P) S (mostEntries settings structure a)
+          (withRootName tests matches (pick (a .sheet .unwrapped) (unwrappedPlan body (a .sheet) o) (membersPlan body (a .sheet) o)))
       named false matches p q = either
       named true true p q = either
-      named true false p q = record { asMet = made-stop (st .rootName (differs a p q)); groups = made-end }
+      named true false p q = made-stop (st .rootName (differs a p q))

@@ -42,16 +42,15 @@ pub record Sources (Here : Child → Type 0) (T : List ℕ → Type 0) (F : Refu
 
 -- of a structure besides
 pub record StructureSources (M : ℕ → Type 0) (T : List ℕ → Type 0) (G : ℕ → List ℕ → Type 0) (P : Piece → Type 0) (body : List ℕ)
-    (s : Structure) (o : Opened) (order : List ℕ) : Type 0 where
+    (s : Structure) (o : Opened) : Type 0 where
   pub member : (m : Indexed) → List·Memᴰ m (membersOf s) → M (m .index)
-  pub ordered : (i : ℕ) → List·Memᴰ i order → M i
   pub attribute : (name v : List ℕ) → attributeOf (o .root .start .attributes) name ≡ some v → T v
   pub group : (i : ℕ) → G i (groupOf body (o .seen) s (childrenOf (o .root)) i)
   pub root : P (rootPiece body o)
 
 abbrev pub ShapeSources : (M : ℕ → Type 0) (T : List ℕ → Type 0) (G : ℕ → List ℕ → Type 0) (P : Piece → Type 0) → List ℕ → (shape : Shape)
     → Asked (SheetOf shape) → Type 0
-ShapeSources M T G P body (structure order) a = StructureSources M T G P body (a .sheet) (a .opened) order
+ShapeSources M T G P body structure a = StructureSources M T G P body (a .sheet) (a .opened)
 ShapeSources M T G P body list a = M 0
 ShapeSources M T G P body map a = M 0
 ShapeSources M T G P body strings a = M 0

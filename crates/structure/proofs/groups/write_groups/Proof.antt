@@ -1,46 +1,99 @@
--- Where both sums fit there is room for each group in turn, so none is refused after another was written.
-use Rattle.structure.proofs.Gathering.{all-laws}
-use borrow.Author.Needs.{needs}
+-- The groups of the members before i are written; no child is in two, so the bytes used stay in 32 bits.
+use Prim.Native.Nat.{_-_}
+use Rattle.structure.proofs.Gathering.{groups-laws, groups-on, GroupsAt}
 use Rattle.structure.proofs.groups.write_groups.Statement.{statement}
 use Rattle.structure.proofs.groups.write_groups.Tie as tie
 
-groups-size-requires : tie.Need-groups-size-requires
-groups-size-requires c κs = search needs
+abbrev Inv-loop : tie.InvT-loop
+Inv-loop body kept n entries₀ texts₀ held₀ i₀ entries texts held i = GroupsAt body kept n entries₀ texts₀ held₀ entries texts held i
 
-sub-if1 : tie.Need-sub-if1
-sub-if1 c = search needs
+abbrev μ-loop : tie.MeasureT-loop
+μ-loop body kept n entries₀ texts₀ held₀ i₀ entries texts held i = n - i
 
-returns : tie.Need-returns
-returns c = search all-laws
+loop-holds : tie.Need-loop-holds Inv-loop μ-loop
+loop-holds c = search groups-laws
 
-sub-if2 : tie.Need-sub-if2
-sub-if2 c = search needs
+cast-has-group : tie.Need-cast-has-group Inv-loop μ-loop
+cast-has-group c = search groups-laws
 
-returns-2 : tie.Need-returns-2
-returns-2 c = search all-laws
+has-group-requires : tie.Need-has-group-requires Inv-loop μ-loop
+has-group-requires c κs = search groups-laws
 
-each-group-requires : tie.Need-each-group-requires
-each-group-requires c κs = search needs
+cast-write-group : tie.Need-cast-write-group Inv-loop μ-loop
+cast-write-group c = search groups-laws
 
-same-length : tie.Need-same-length
-same-length c = search needs
+write-group-requires : tie.Need-write-group-requires Inv-loop μ-loop
+write-group-requires c κs = search groups-laws
 
-same-length-2 : tie.Need-same-length-2
-same-length-2 c = search needs
+enum-known-more : tie.Need-enum-known-more Inv-loop μ-loop
+enum-known-more c = search groups-laws
 
-returns-3 : tie.Need-returns-3
-returns-3 c = search all-laws
+add-i : tie.Need-add-i Inv-loop μ-loop
+add-i c = search groups-laws
+
+loop-less : tie.Need-loop-less Inv-loop μ-loop
+loop-less c = search groups-laws
+
+loop-again : tie.Need-loop-again Inv-loop μ-loop
+loop-again c =
+    let done = c .before .before .before .before .before .before .before in
+    let turn = done .before .before .before .before .before in
+    groups-on (turn .before .loop .inv) (turn .loop-test .taken)
+    (done .before .before .before .before .has-group .ensures) (done .before .before .before .if1 .taken)
+    (done .write-group .ensures) (search groups-laws) (search groups-laws) (search groups-laws)
+
+enum-known-why : tie.Need-enum-known-why Inv-loop μ-loop
+enum-known-why c = search groups-laws
+
+same-length : tie.Need-same-length Inv-loop μ-loop
+same-length c = search groups-laws
+
+same-length-2 : tie.Need-same-length-2 Inv-loop μ-loop
+same-length-2 c = search groups-laws
+
+returns : tie.Need-returns Inv-loop μ-loop
+returns c = search groups-laws
+
+add-i-2 : tie.Need-add-i-2 Inv-loop μ-loop
+add-i-2 c = search groups-laws
+
+loop-less-2 : tie.Need-loop-less-2 Inv-loop μ-loop
+loop-less-2 c = search groups-laws
+
+loop-again-2 : tie.Need-loop-again-2 Inv-loop μ-loop
+loop-again-2 c = search groups-laws
+
+same-length-3 : tie.Need-same-length-3 Inv-loop μ-loop
+same-length-3 c = search groups-laws
+
+same-length-4 : tie.Need-same-length-4 Inv-loop μ-loop
+same-length-4 c = search groups-laws
+
+returns-2 : tie.Need-returns-2 Inv-loop μ-loop
+returns-2 c = search groups-laws
 
 pub write-groups-spec : {M : Type 1} → statement M
 write-groups-spec =
     tie.close
     (tie.spec
-    groups-size-requires
-    sub-if1
-    returns
-    sub-if2
-    returns-2
-    each-group-requires
+    Inv-loop
+    μ-loop
+    loop-holds
+    cast-has-group
+    has-group-requires
+    cast-write-group
+    write-group-requires
+    enum-known-more
+    add-i
+    loop-less
+    loop-again
+    enum-known-why
     same-length
     same-length-2
-    returns-3)
+    returns
+    add-i-2
+    loop-less-2
+    loop-again-2
+    same-length-3
+    same-length-4
+    returns-2)

@@ -1,0 +1,177 @@
+-- "Flattened groups are to come by rising member index" (change request 2), on every input: in what a structure reading writes, finished or
+-- refused, the groups stand behind all other entries, and come by strictly rising member index.
+use Prim.Native.Nat.{ℕ, suc, _≤_}
+use mathlib.Core.Path.{_≡_, refl, sym, _∙_, subst⁻¹}
+use mathlib.Core.Bool.{Bool, true, false}
+use mathlib.Core.List.{List, [], _∷_, _++_, append-assoc, append-nil}
+use mathlib.Core.Option.{Option, none, some}
+use native.Mathlib.Omega.{arith}
+use lib.ListN.{length}
+use Rattle.lists.proofs.Tests.{pick-all}
+use Rattle.refusal.specs.declared.Refusal.{Refusal}
+use Rattle.refusal.specs.Answer.{Answer, gives, refuses}
+use Rattle.document.specs.Names.{nameMatches}
+use Rattle.document.specs.Scope.{Child, childrenOf, Piece, pieceOf}
+use Rattle.document.specs.Text.{textOf}
+use Rattle.sheet.specs.declared.ShapeDepth.{ShapeDepth}
+use Rattle.sheet.specs.Settings.{Settings, testsRootName}
+use Rattle.sheet.specs.Sheet.{Member, Structure}
+use Rattle.sheet.specs.Names.{rootName, attributeName, Indexed, indexed, membersOf, resolve}
+use Rattle.readings.specs.Call.{Upload, Call}
+use Rattle.readings.specs.Output.{Entry, groupKind, Room, Output, nothing, Reading, output, fits, appended}
+use Rattle.readings.specs.Output.{textEntry, pieceEntry, failedEntry}
+use Rattle.readings.specs.Plan.{Plan, put, end, stop, perform, followedBy, oneByOne, endTest}
+use Rattle.readings.specs.Opening.{Opened, Asked}
+use Rattle.readings.specs.Structure.{attributeOf, foundPlan, attributePlan, scalarPlan, memberPlan, childPlan, hasGroup}
+use Rattle.readings.specs.Structure.{groupPlan, membersPlan, rootPiece, rootPlan, unwrappedPlan, withRootName, openedPlan}
+use Rattle.readings.specs.Structure.{structureReading}
+use Rattle.readings.specs.Shape.{structure}
+use Rattle.readings.proofs.Plans.Made.{Made, made-put, made-end, made-stop, made-each, made-last}
+use Rattle.readings.proofs.Plans.Sources.{Anything}
+use Rattle.readings.proofs.Plans.Readings.{output-carried}
+
+-- groups alone, by strictly rising member index, from i on
+pub data Rising : ℕ → List Entry → Type 0 where
+  no-more : {i : ℕ} → Rising i []
+  group : {i : ℕ} {e : Entry} {l : List Entry} → e .kind ≡ groupKind → i ≤ e .member → Rising (suc (e .member)) l → Rising i (e ∷ l)
+
+-- entries of other kinds, and behind them the groups
+pub data GroupsLast : List Entry → Type 0 where
+  groups : {l : List Entry} → Rising 0 l → GroupsLast l
+  other : {e : Entry} {l : List Entry} → (e .kind ≡ groupKind → ⊥) → GroupsLast l → GroupsLast (e ∷ l)
+
+-- from a lower index on as well
+from-lower : {i : ℕ} {l : List Entry} → Rising (suc i) l → Rising i l
+from-lower no-more = no-more
+from-lower {i} (group {e = e} k h r) = group {i = i} {e = e} k (omega (arith, h)) r
+
+-- ---- what is written behind what was written before: entries of which R holds
+record Adds (R : List Entry → Type 0) (before after : List Entry) : Type 0 where
+  added : List Entry
+  is : after ≡ before ++ added
+  so : R added
+
+-- a plan writes such entries behind any output, in any room
+record Puts (R : List Entry → Type 0) (p : Plan) : Type 0 where
+  does : (room : Room) (out : Output) → Adds R (out .entries) (output (perform room p out) .entries)
+
+-- nothing more
+idle : {R : List Entry → Type 0} (before : List Entry) → R [] → Adds R before before
+idle before r = record { added = []; is = sym (append-nil before); so = r }
+
+puts-end : {R : List Entry → Type 0} → R [] → Puts R end
+unfolding perform
+puts-end r = record { does = λ room out. idle (out .entries) r }
+
+puts-stop : {R : List Entry → Type 0} {refusal : Refusal} → R [] → Puts R (stop refusal)
+unfolding perform
+puts-stop r = record { does = λ room out. idle (out .entries) r }
+
+-- an entry, and what comes then; or nothing, where there is no room for it
+puts-more : {Q R : List Entry → Type 0} {entry : ℕ → Entry} {bytes : List ℕ} {p : Plan} → R []
+    → ((at : ℕ) (l : List Entry) → Q l → R (entry at ∷ l)) → Puts Q p → Puts R (put entry bytes p)
+unfolding perform
+puts-more {R = R} {entry = entry} {bytes = bytes} r f t = record {
+  does = λ room out.
+      let a = t .does room (appended entry bytes out) in
+      pick-all (λ (x : Reading). Adds R (out .entries) (output x .entries)) (fits room bytes out) _ _
+      (record {
+        added = entry (length (out .texts)) ∷ a .added;
+        is = a .is ∙ append-assoc (out .entries) (entry (length (out .texts)) ∷ []) (a .added);
+        so = f (length (out .texts)) (a .added) (a .so);
+      })
+      (idle (out .entries) r);
+}
+
+-- what follows from it
+puts-so : {Q R : List Entry → Type 0} {p : Plan} → ((l : List Entry) → Q l → R l) → Puts Q p → Puts R p
+puts-so f t = record {
+  does = λ room out. let a = t .does room out in record { added = a .added; is = a .is; so = f (a .added) (a .so) };
+}
+
+-- ---- plans that put no group
+abbrev NoGroup : (ℕ → Entry) → List ℕ → Type 0
+NoGroup entry bytes = (at : ℕ) → entry at .kind ≡ groupKind → ⊥
+
+-- they may stand before groups
+before-groups : {n : ℕ} {p q : Plan} → Made NoGroup Anything n p → Puts GroupsLast q → Puts GroupsLast (followedBy p q)
+unfolding followedBy
+before-groups (made-put f t) u = puts-more (groups no-more) (λ at l r. other (f at) r) (before-groups t u)
+before-groups made-end u = u
+before-groups (made-stop s) u = puts-stop (groups no-more)
+
+root : (piece : Piece) (m : Option Indexed) → Puts GroupsLast (rootPlan piece m)
+root piece none = puts-end (groups no-more)
+root piece (some m) = puts-more (groups no-more) (λ at l r. other (λ e. omega (arith, e)) r) (puts-end (groups no-more))
+
+module _ (body : List ℕ) (s : Structure) (o : Opened) where
+  attributes : Made NoGroup Anything (length (membersOf s)) (oneByOne (attributePlan (o .root .start .attributes)) (membersOf s))
+  unfolding attributePlan
+  attributes =
+      made-each _ (membersOf s) (λ m i. pick-all (Made NoGroup Anything 1) (m .member .attribute) _ _
+      (found m (attributeOf (o .root .start .attributes) (attributeName (m .member)))) made-end)
+    where
+      found : (m : Indexed) (v : Option (List ℕ)) → Made NoGroup Anything 1 (foundPlan (m .index) v)
+      found m none = made-end
+      found m (some v) = made-put {entry = textEntry (m .index) v} (λ at e. omega (arith, e)) made-end
+
+  children : Made NoGroup Anything (length (childrenOf (o .root))) (oneByOne (childPlan body (o .seen) s) (childrenOf (o .root)))
+  unfolding childPlan
+  children = made-each _ (childrenOf (o .root)) (λ c i. kept c (resolve s (c .start .name .local)))
+    where
+      scalar : (m : Indexed) (a : Answer (List ℕ)) → Made NoGroup Anything 1 (scalarPlan (m .index) a)
+      scalar m (gives b) = made-put {entry = textEntry (m .index) b} (λ at e. omega (arith, e)) made-end
+      scalar m (refuses r) = made-put {entry = failedEntry (m .index) r} (λ at e. omega (arith, e)) made-end
+
+      kept : (c : Child) (m : Option Indexed) → Made NoGroup Anything 1 (memberPlan body (o .seen) c m)
+      kept c none = made-end
+      kept c (some m) =
+          pick-all (Made NoGroup Anything 1) (m .member .aggregate) _ _
+          (pick-all (Made NoGroup Anything 1) (m .member .flattened) _ _ made-end
+          (made-put {entry = pieceEntry (m .index) (pieceOf body (o .seen) c)} (λ at e. omega (arith, e)) made-end))
+          (scalar m (textOf (o .seen) c))
+
+  -- the test that the body is well-formed puts nothing
+  tested : Made NoGroup Anything 0 (endTest (o .seen .illFormed))
+  tested = made-last (o .seen .illFormed) (λ e. tt {0})
+
+  -- the groups of the members, indexed from i on
+  abbrev groupsFrom : ℕ → List Member → Plan
+  groupsFrom i l = oneByOne (groupPlan body (o .seen) s (childrenOf (o .root))) (indexed i l)
+
+  rising : (i : ℕ) (l : List Member) → Puts (Rising i) (groupsFrom i l)
+  unfolding oneByOne followedBy indexed groupPlan
+  rising i [] = puts-end no-more
+  rising i (m ∷ l) =
+      pick-all (λ (p : Plan). Puts (Rising i) (followedBy p (groupsFrom (suc i) l))) (hasGroup s i (childrenOf (o .root))) _ _
+      (puts-more no-more (λ at l r. group refl (omega arith) r) (rising (suc i) l))
+      (puts-so (λ l r. from-lower r) (rising (suc i) l))
+
+  -- the members: attributes, children, the test, and the groups last
+  wrapped : Puts GroupsLast (membersPlan body s o)
+  unfolding membersPlan
+  wrapped = before-groups attributes (before-groups children (before-groups tested (puts-so (λ l r. groups r) (rising 0 (s .members)))))
+
+  -- or the root alone
+  unwrapped : Puts GroupsLast (unwrappedPlan body s o)
+  unfolding unwrappedPlan
+  unwrapped = before-groups tested (root (rootPiece body o) (resolve s (o .root .start .name .local)))
+
+named : (tests matches : Bool) {p : Plan} → Puts GroupsLast p → Puts GroupsLast (withRootName tests matches p)
+named false matches t = t
+named true true t = t
+named true false t = puts-stop (groups no-more)
+
+opened : (body : List ℕ) (settings : Settings) (depth : ShapeDepth) (a : Asked Structure)
+    → Puts GroupsLast (openedPlan body settings depth a)
+unfolding openedPlan
+opened body settings depth a =
+    named (testsRootName settings depth) (nameMatches (a .opened .root .start .name) (rootName (a .sheet)))
+    (pick-all (Puts GroupsLast) (a .sheet .unwrapped) _ _ (unwrapped body (a .sheet) (a .opened)) (wrapped body (a .sheet) (a .opened)))
+
+-- THE LAW
+pub groups-rise : (u : Upload) (call : Call) (room : Room) → GroupsLast (output (structureReading u call room) .entries)
+groups-rise u call room =
+    output-carried u call room structure (λ (out : Output). GroupsLast (out .entries)) (groups no-more) (λ a w.
+    let x = opened (u .body) (call .settings) (call .depth) a .does room nothing in
+    subst⁻¹ GroupsLast (x .is) (x .so))
