@@ -79,8 +79,8 @@ impl Asker {
         beside_rust(kind, lent.body, asked, &told, compared)
     }
 
-    /// The same in less room: just enough, one less of each, a share of each, and a byte
-    /// too few for the longest group.
+    /// The same in less room: a byte too few for the longest group, just enough, one less
+    /// of each, and a share of each.
     pub fn in_less_room(
         &mut self,
         kind: Kind,
@@ -90,14 +90,14 @@ impl Asker {
     ) -> Outcome {
         let most = reader::read(kind, lent, asked, enough(lent));
         let (entries, bytes) = (most.entries.len(), most.texts.len());
-        let rooms = [
+        let mut rooms = vec![
             (entries, bytes),
             (entries.saturating_sub(1), bytes),
             (entries, bytes.saturating_sub(1)),
             (share % (entries + 1), bytes),
             (entries, share % (bytes + 1)),
-            (entries, short_of_a_group(&most).unwrap_or(bytes)),
         ];
+        rooms.splice(..0, short_of_a_group(&most).map(|bytes| (entries, bytes)));
         let mut compared = Compared {
             strict: is_strict(asked.flags, asked.depth),
             ..Compared::default()

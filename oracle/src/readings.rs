@@ -37,7 +37,7 @@ pub fn reading<'b>(
     let mut entries = Vec::new();
     let result = read(&mut reader, &mut entries);
     assert_eq!(reader.oracle_depth(), depth, "the depth is put back");
-    // The groups come last, from a hash map: give them in member order.
+    // The groups come last, from a hash map, and are a set: give them by member.
     let groups = entries.iter().position(|entry| entry.starts_with("3,"));
     if let Some(groups) = groups {
         assert!(entries[groups..]

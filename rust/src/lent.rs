@@ -164,8 +164,8 @@ pub(crate) fn read(
 }
 
 /// Reads a structure by its sheet: attribute members in sheet order, children in body
-/// order, then the gathered groups by rising member index, each if it fits; those before
-/// one that does not stay written. The [module](self) has a longer example.
+/// order, then the gathered groups by rising member index, to the first that does not fit;
+/// those before it stay written. The [module](self) has a longer example.
 ///
 /// ```
 /// use falzheod::lent::{read_struct, Lent};

@@ -29,9 +29,8 @@ use Rattle.decode.proofs.Places.{start-scope}
 use Rattle.output.specs.declared.Written.{Written}
 use Rattle.output.specs.declared.Step.{Step}
 use Rattle.output.specs.Held.{Holds, Does, Sound, Adds}
-use Rattle.output.proofs.Sound.{holds-within}
 use Rattle.output.proofs.Called.{holds-nothing}
-use Rattle.output.proofs.Sound.{used-next}
+use Rattle.output.proofs.Sound.{holds-within, used-next}
 use Rattle.output.proofs.Then.{Midway, midway-start, each-goes, each-stops, each-ends, does-as}
 use Rattle.opening.specs.Wanted.{wanted}
 use Rattle.opening.specs.Level.{levelAt, AfterIs, none-written, ChildDoes, ChildrenDo, ElementDoes}

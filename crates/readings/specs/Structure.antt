@@ -90,7 +90,7 @@ unfoldable pub groupOf : List ℕ → View → Structure → List Child → ℕ 
 unfolding siblings
 groupOf body v s children i = ascii "<__flat>" ++ (siblings body v s i children ++ ascii "</__flat>")
 
--- a child is in the group of member i
+-- member i has a group: one of these children is in it
 unfoldable pub hasGroup : Structure → ℕ → List Child → Bool
 unfolding inGroup
 hasGroup s i [] = false

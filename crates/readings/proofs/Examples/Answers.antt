@@ -15,7 +15,7 @@ use Rattle.readings.specs.Structure.{inGroup}
 use Rattle.readings.specs.Shape.{structure}
 use Rattle.readings.proofs.Examples.Asking.{reading, ask, answer, case, Answered, plain, settings, lenient, strict, rootNames, room}
 use Rattle.readings.proofs.Examples.Asking.{enough, named, scalarA, scalarsAB, unwrappedA}
-use Rattle.readings.proofs.Examples.Tables.{empty, bare, one, two, four, nested, nested-text, nested-empty, two-unclosed}
+use Rattle.readings.proofs.Examples.Tables.{empty, bare, one, two, four, five-empty, nested, nested-text, nested-empty, two-unclosed}
 use Rattle.readings.proofs.Examples.Tables.{behind-comment, comment, prefixed, prefixed-one, prefixed-end, attribute}
 use Rattle.readings.proofs.Examples.Tables.{attribute-empty, attribute-child, attributes-two, attributes-prefixed, attribute-second}
 use Rattle.readings.proofs.Examples.Tables.{one-text4, element-text, second-error, blank}
@@ -211,6 +211,11 @@ pub groups : Answered ask (
     (plain (3 ∷ 26 ∷ named "b" ++ (26 ∷ named "c" ++ (26 ∷ named "a")))) lenient 0 (room 2 66))
     (answer 0 2 (3 ∷ 0 ∷ 0 ∷ 0 ∷ 0 ∷ 33 ∷ 3 ∷ 2 ∷ 0 ∷ 0 ∷ 33 ∷ 33 ∷ [])
     "<__flat><b>2</b><b>4</b></__flat><__flat><a>1</a><a>3</a></__flat>")
+    -- late in the sheet, and of a late child
+    ∷ case (reading structure "<r><a/><a/><a/><a/><b/></r>" five-empty 27
+    (plain (6 ∷ 26 ∷ named "a" ++ (2 ∷ named "c" ++ (2 ∷ named "d" ++ (2 ∷ named "e" ++ (2 ∷ named "f" ++ (26 ∷ named "b"))))))) lenient 0
+    (room 2 54))
+    (answer 0 2 (3 ∷ 0 ∷ 0 ∷ 0 ∷ 0 ∷ 33 ∷ 3 ∷ 5 ∷ 0 ∷ 0 ∷ 33 ∷ 21 ∷ []) "<__flat><a/><a/><a/><a/></__flat><__flat><b/></__flat>")
     -- behind the texts; a flattened scalar is no group
     ∷ case (reading structure "<r><a>1</a><b>2</b><a>3</a><b>4</b></r>" four 39
     (plain (2 ∷ 26 ∷ named "a" ++ (10 ∷ named "b"))) lenient 0 enough)

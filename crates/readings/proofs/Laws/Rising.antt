@@ -1,13 +1,17 @@
 -- "Flattened groups are to come by rising member index" (change request 2), on every input: in what a structure reading writes, finished or
--- refused, the groups stand behind all other entries, and come by strictly rising member index.
+-- refused, the groups stand behind all other entries, and come by strictly rising member index. And which members have one: those that a
+-- child is kept for.
 use Prim.Native.Nat.{ℕ, suc, _≤_}
 use mathlib.Core.Path.{_≡_, refl, sym, _∙_, subst⁻¹}
+use mathlib.Core.Logic.{_↔_}
 use mathlib.Core.Bool.{Bool, true, false}
-use mathlib.Core.List.{List, [], _∷_, _++_, append-assoc, append-nil}
+use mathlib.Core.List.{List, [], _∷_, _++_, append-assoc, append-nil, List·Memᴰ, List·Memᴰ·head, List·Memᴰ·tail}
 use mathlib.Core.Option.{Option, none, some}
 use native.Mathlib.Omega.{arith}
+use borrow.Author.Tests.{eqb-true, eq-eqb}
 use lib.ListN.{length}
-use Rattle.lists.proofs.Tests.{pick-all}
+use Rattle.lists.specs.Tests.{pick}
+use Rattle.lists.proofs.Tests.{pick-all, false-true}
 use Rattle.refusal.specs.declared.Refusal.{Refusal}
 use Rattle.refusal.specs.Answer.{Answer, gives, refuses}
 use Rattle.document.specs.Names.{nameMatches}
@@ -22,7 +26,8 @@ use Rattle.readings.specs.Output.{Entry, groupKind, Room, Output, nothin
 use Rattle.readings.specs.Output.{textEntry, pieceEntry, failedEntry}
 use Rattle.readings.specs.Plan.{Plan, put, end, stop, perform, followedBy, oneByOne, endTest}
 use Rattle.readings.specs.Opening.{Opened, Asked}
-use Rattle.readings.specs.Structure.{attributeOf, foundPlan, attributePlan, scalarPlan, memberPlan, childPlan, hasGroup}
+use Rattle.readings.specs.Structure.{attributeOf, foundPlan, attributePlan, scalarPlan, memberPlan, childPlan, flatMember}
+use Rattle.readings.specs.Structure.{isIndex, inGroup, hasGroup}
 use Rattle.readings.specs.Structure.{groupPlan, membersPlan, rootPiece, rootPlan, unwrappedPlan, withRootName, openedPlan}
 use Rattle.readings.specs.Structure.{structureReading}
 use Rattle.readings.specs.Shape.{structure}
@@ -175,3 +180,54 @@ groups-rise u call room =
     output-carried u call room structure (λ (out : Output). GroupsLast (out .entries)) (groups no-more) (λ a w.
     let x = opened (u .body) (call .settings) (call .depth) a .does room nothing in
     subst⁻¹ GroupsLast (x .is) (x .so))
+
+-- ---- which members have a group
+-- a child is kept for member i: its local name resolves to that member, and it is a flattened aggregate
+pub record KeptFor (s : Structure) (i : ℕ) (c : Child) : Type 0 where
+  pub member : Indexed
+  pub resolved : resolve s (c .start .name .local) ≡ some member
+  pub index : member .index ≡ i
+  pub aggregate : member .member .aggregate ≡ true
+  pub flattened : member .member .flattened ≡ true
+
+pub in-group-is : (s : Structure) (i : ℕ) (c : Child) → (inGroup s i c ≡ true) ↔ KeptFor s i c
+unfolding inGroup
+in-group-is s i c = (go (resolve s (c .start .name .local)) refl, back)
+  where
+    kept : (m : Indexed) → resolve s (c .start .name .local) ≡ some m → (a f : Bool) → m .member .aggregate ≡ a → m .member .flattened ≡ f
+        → isIndex (pick a (pick f (some (m .index)) none) none) i ≡ true → KeptFor s i c
+    kept m r true true a f e = record { member = m; resolved = r; index = eqb-true (m .index) i e; aggregate = a; flattened = f }
+    kept m r true false a f e = false-true e
+    kept m r false f a q e = false-true e
+
+    go : (o : Option Indexed) → resolve s (c .start .name .local) ≡ o → isIndex (flatMember o) i ≡ true → KeptFor s i c
+    go none r e = false-true e
+    go (some m) r e = kept m r (m .member .aggregate) (m .member .flattened) refl refl e
+
+    back : KeptFor s i c → isIndex (flatMember (resolve s (c .start .name .local))) i ≡ true
+    back k = rw (k .resolved, k .aggregate, k .flattened) (eq-eqb (k .member .index) i (k .index))
+
+-- a member has a group exactly where one of the children is in it
+module _ (s : Structure) (i : ℕ) where
+  a-child : (l : List Child) → hasGroup s i l ≡ true → (c : Child) × (List·Memᴰ c l × (inGroup s i c ≡ true))
+  unfolding hasGroup
+  a-child [] e = false-true e
+  a-child (c ∷ l) e = go (inGroup s i c) refl e (a-child l)
+    where
+      go : (t : Bool) → inGroup s i c ≡ t → pick t true (hasGroup s i l) ≡ true
+          → (hasGroup s i l ≡ true → (c : Child) × (List·Memᴰ c l × (inGroup s i c ≡ true)))
+          → (x : Child) × (List·Memᴰ x (c ∷ l) × (inGroup s i x ≡ true))
+      go true q e ih = (c, (List·Memᴰ·head refl, q))
+      go false q e ih = let x = ih e in (x .0, (List·Memᴰ·tail (x .1 .0), x .1 .1))
+
+  has-child : (l : List Child) (c : Child) → List·Memᴰ c l → inGroup s i c ≡ true → hasGroup s i l ≡ true
+  unfolding hasGroup
+  has-child l c (List·Memᴰ·head q) e = rw (← q, e)
+  has-child l c (List·Memᴰ·tail {x = x} m) e = go (inGroup s i x) (has-child _ c m e)
+    where
+      go : (t : Bool) {u : Bool} → u ≡ true → pick t true u ≡ true
+      go true e = refl
+      go false e = e
+
+  pub has-group-is : (l : List Child) → (hasGroup s i l ≡ true) ↔ ((c : Child) × (List·Memᴰ c l × (inGroup s i c ≡ true)))
+  has-group-is l = (a-child l, λ x. has-child l (x .0) (x .1 .0) (x .1 .1))

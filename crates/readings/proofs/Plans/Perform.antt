@@ -20,7 +20,7 @@ pub record Within (room : Room) (out : Output) : Type 0 where
   pub entries : length (out .entries) ≤ room .entries
   pub texts : length (out .texts) ≤ room .bytes
 
-pub within-not : {room : Room} {out : Output} → Within room out → Exceeds room out → ⊥
+within-not : {room : Room} {out : Output} → Within room out → Exceeds room out → ⊥
 within-not w (too-many h) = omega (arith, h, w .entries)
 within-not w (too-long h) = omega (arith, h, w .texts)
 
@@ -117,7 +117,7 @@ reaches-more (later {entry = entry} {bytes = bytes} {out = out} t) =
     )
 
 -- what is reached within the room is performed
-pub perform-reaches : (room : Room) {p q : Plan} {out last : Output} → Reaches p out q last → Within room last
+perform-reaches : (room : Room) {p q : Plan} {out last : Output} → Reaches p out q last → Within room last
     → perform room p out ≡ perform room q last
 unfolding perform
 perform-reaches room here w = refl
