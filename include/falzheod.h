@@ -267,8 +267,9 @@ uint32_t falzheod_drain(const uint8_t *body, size_t body_len, const uint32_t *ro
  * members are candidates for children too. Then attribute members come in sheet order,
  * children in body order (a text, a failed text, or, of an aggregate member, a piece),
  * the test of a strict reading, and the groups of flattened aggregate members by rising
- * member index; those before one that does not fit stay written. An unwrapped sheet
- * gives, after the test of a strict reading, one piece, the root element, or none.
+ * member index, to the first that does not fit; those before it stay written. An
+ * unwrapped sheet gives, after the test of a strict reading, one piece, the root
+ * element, or none.
  *
  * Not in place: `entries`, `texts`, `*count` and `*length` must not overlap `body`, `rows`,
  * `sheet` or one another. */

@@ -30,7 +30,7 @@ pub data Stops (settings : Settings) (depth : ShapeDepth) (shape : Shape) (a : A
       → Stops settings depth shape a r
   ill-formed : a .opened .seen .illFormed ≡ true → Stops settings depth shape a Refusal.IllFormed
 
-any-source : (body : List ℕ) (o : Opened) → Sources Anything Anything Anything Anything body o
+pub any-source : (body : List ℕ) (o : Opened) → Sources Anything Anything Anything Anything body o
 any-source body o =
     record {
       root = tt {0};

@@ -13,27 +13,23 @@ use lib.ListN.{length}
 use Rattle.lists.specs.Tests.{pick}
 use Rattle.lists.proofs.Tests.{pick-all, false-true}
 use Rattle.refusal.specs.declared.Refusal.{Refusal}
-use Rattle.refusal.specs.Answer.{Answer, gives, refuses}
 use Rattle.document.specs.Names.{nameMatches}
-use Rattle.document.specs.Scope.{Child, childrenOf, Piece, pieceOf}
-use Rattle.document.specs.Text.{textOf}
+use Rattle.document.specs.Scope.{Child, childrenOf, Piece}
 use Rattle.sheet.specs.declared.ShapeDepth.{ShapeDepth}
 use Rattle.sheet.specs.Settings.{Settings, testsRootName}
 use Rattle.sheet.specs.Sheet.{Member, Structure}
-use Rattle.sheet.specs.Names.{rootName, attributeName, Indexed, indexed, membersOf, resolve}
+use Rattle.sheet.specs.Names.{rootName, Indexed, indexed, membersOf, resolve}
 use Rattle.readings.specs.Call.{Upload, Call}
 use Rattle.readings.specs.Output.{Entry, groupKind, Room, Output, nothing, Reading, output, fits, appended}
-use Rattle.readings.specs.Output.{textEntry, pieceEntry, failedEntry}
 use Rattle.readings.specs.Plan.{Plan, put, end, stop, perform, followedBy, oneByOne, endTest}
 use Rattle.readings.specs.Opening.{Opened, Asked}
-use Rattle.readings.specs.Structure.{attributeOf, foundPlan, attributePlan, scalarPlan, memberPlan, childPlan, flatMember}
-use Rattle.readings.specs.Structure.{isIndex, inGroup, hasGroup}
-use Rattle.readings.specs.Structure.{groupPlan, membersPlan, rootPiece, rootPlan, unwrappedPlan, withRootName, openedPlan}
-use Rattle.readings.specs.Structure.{structureReading}
+use Rattle.readings.specs.Structure.{attributePlan, childPlan, flatMember, isIndex, inGroup, hasGroup, groupPlan, membersPlan}
+use Rattle.readings.specs.Structure.{rootPiece, rootPlan, unwrappedPlan, withRootName, openedPlan, structureReading}
 use Rattle.readings.specs.Shape.{structure}
-use Rattle.readings.proofs.Plans.Made.{Made, made-put, made-end, made-stop, made-each, made-last}
-use Rattle.readings.proofs.Plans.Sources.{Anything}
-use Rattle.readings.proofs.Plans.Readings.{output-carried}
+use Rattle.readings.proofs.Plans.Made.{Made, made-put, made-end, made-stop, made-last}
+use Rattle.readings.proofs.Plans.Sources.{Source, of-text, of-failed, of-piece, of-group, of-key-text, of-key-piece, Anything}
+use Rattle.readings.proofs.Plans.Readings.{attributes-made, children-made, output-carried}
+use Rattle.readings.proofs.Conditions.Readings.{any-source}
 
 -- groups alone, by strictly rising member index, from i on
 pub data Rising : ℕ → List Entry → Type 0 where
@@ -96,12 +92,20 @@ puts-so f t = record {
 
 -- ---- plans that put no group
 abbrev NoGroup : (ℕ → Entry) → List ℕ → Type 0
-NoGroup entry bytes = (at : ℕ) → entry at .kind ≡ groupKind → ⊥
+NoGroup = Source Anything Anything Anything (λ (i : ℕ) (b : List ℕ). ⊥) Anything
+
+another-kind : {entry : ℕ → Entry} {bytes : List ℕ} → NoGroup entry bytes → (at : ℕ) → entry at .kind ≡ groupKind → ⊥
+another-kind (of-text m t) at e = omega (arith, e)
+another-kind (of-failed m r) at e = omega (arith, e)
+another-kind (of-piece m p) at e = omega (arith, e)
+another-kind (of-group m g) at e = g
+another-kind (of-key-text k t) at e = omega (arith, e)
+another-kind (of-key-piece k p) at e = omega (arith, e)
 
 -- they may stand before groups
 before-groups : {n : ℕ} {p q : Plan} → Made NoGroup Anything n p → Puts GroupsLast q → Puts GroupsLast (followedBy p q)
 unfolding followedBy
-before-groups (made-put f t) u = puts-more (groups no-more) (λ at l r. other (f at) r) (before-groups t u)
+before-groups (made-put f t) u = puts-more (groups no-more) (λ at l r. other (another-kind f at) r) (before-groups t u)
 before-groups made-end u = u
 before-groups (made-stop s) u = puts-stop (groups no-more)
 
@@ -111,30 +115,10 @@ root piece (some m) = puts-more (groups no-more) (λ at l r. other (λ e. omega 
 
 module _ (body : List ℕ) (s : Structure) (o : Opened) where
   attributes : Made NoGroup Anything (length (membersOf s)) (oneByOne (attributePlan (o .root .start .attributes)) (membersOf s))
-  unfolding attributePlan
-  attributes =
-      made-each _ (membersOf s) (λ m i. pick-all (Made NoGroup Anything 1) (m .member .attribute) _ _
-      (found m (attributeOf (o .root .start .attributes) (attributeName (m .member)))) made-end)
-    where
-      found : (m : Indexed) (v : Option (List ℕ)) → Made NoGroup Anything 1 (foundPlan (m .index) v)
-      found m none = made-end
-      found m (some v) = made-put {entry = textEntry (m .index) v} (λ at e. omega (arith, e)) made-end
+  attributes = attributes-made s o (λ m i. tt {0}) (λ name v e. tt {0})
 
   children : Made NoGroup Anything (length (childrenOf (o .root))) (oneByOne (childPlan body (o .seen) s) (childrenOf (o .root)))
-  unfolding childPlan
-  children = made-each _ (childrenOf (o .root)) (λ c i. kept c (resolve s (c .start .name .local)))
-    where
-      scalar : (m : Indexed) (a : Answer (List ℕ)) → Made NoGroup Anything 1 (scalarPlan (m .index) a)
-      scalar m (gives b) = made-put {entry = textEntry (m .index) b} (λ at e. omega (arith, e)) made-end
-      scalar m (refuses r) = made-put {entry = failedEntry (m .index) r} (λ at e. omega (arith, e)) made-end
-
-      kept : (c : Child) (m : Option Indexed) → Made NoGroup Anything 1 (memberPlan body (o .seen) c m)
-      kept c none = made-end
-      kept c (some m) =
-          pick-all (Made NoGroup Anything 1) (m .member .aggregate) _ _
-          (pick-all (Made NoGroup Anything 1) (m .member .flattened) _ _ made-end
-          (made-put {entry = pieceEntry (m .index) (pieceOf body (o .seen) c)} (λ at e. omega (arith, e)) made-end))
-          (scalar m (textOf (o .seen) c))
+  children = children-made s (any-source body o) (λ m i. tt {0})
 
   -- the test that the body is well-formed puts nothing
   tested : Made NoGroup Anything 0 (endTest (o .seen .illFormed))

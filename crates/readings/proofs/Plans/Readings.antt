@@ -16,6 +16,7 @@ use Rattle.document.specs.Scope.{Child, childrenOf, Piece}
 use Rattle.document.specs.Text.{textOf}
 use Rattle.sheet.specs.declared.ShapeDepth.{ShapeDepth}
 use Rattle.sheet.specs.Settings.{Settings, testsRootName}
+use Rattle.sheet.specs.Sheet.{Structure}
 use Rattle.sheet.specs.Names.{rootName, attributeName, Indexed, membersOf, resolve, itemName, entryName}
 use Rattle.readings.specs.Call.{Upload, Call}
 use Rattle.readings.specs.Output.{Room, Output, nothing, Reading, output}
@@ -115,6 +116,22 @@ pub may-stop : {Here : Child → Type 0} (settings : Settings) (depth : ShapeDep
     → MayStop settings depth Here Anything shape a
 may-stop settings depth shape a = record { illFormed = λ e. tt {0}; rootName = λ d. tt {0}; text = λ c h w r e. tt {0} }
 
+module _ {M : ℕ → Type 0} {T : List ℕ → Type 0} {F : Refusal → Type 0} {G : ℕ → List ℕ → Type 0} {P : Piece → Type 0}
+    {S : Refusal → Type 0} where
+  -- a structure's attributes
+  pub attributes-made : (s : Structure) (o : Opened) → ((m : Indexed) → List·Memᴰ m (membersOf s) → M (m .index))
+      → ((name v : List ℕ) → attributeOf (o .root .start .attributes) name ≡ some v → T v)
+      → Made (Source M T F G P) S (length (membersOf s)) (oneByOne (attributePlan (o .root .start .attributes)) (membersOf s))
+  unfolding attributePlan
+  attributes-made s o f g =
+      made-each _ (membersOf s) (λ m i. pick-all (Made (Source M T F G P) S 1) (m .member .attribute) _ _
+      (found m i (attributeOf (o .root .start .attributes) (attributeName (m .member))) refl) made-end)
+    where
+      found : (m : Indexed) → List·Memᴰ m (membersOf s) → (v : Option (List ℕ))
+          → attributeOf (o .root .start .attributes) (attributeName (m .member)) ≡ v → Made (Source M T F G P) S 1 (foundPlan (m .index) v)
+      found m i none e = made-end
+      found m i (some v) e = made-put (of-text (f m i) (g _ v e)) made-end
+
 module _ {Here : Child → Type 0} {M : ℕ → Type 0} {T : List ℕ → Type 0} {F : Refusal → Type 0} {G : ℕ → List ℕ → Type 0}
     {P : Piece → Type 0} {S : Refusal → Type 0} {body : List ℕ} where
   text-made : {o : Opened} → Sources Here T F P body o → M 0 → (c : Child) → Here c
@@ -157,6 +174,14 @@ module _ {Here : Child → Type 0} {M : ℕ → Type 0} {T : List ℕ → Type 0
       go (key {c = d} {k = k} i e) (piece-value {c = y} j) =
           made-put (of-key-piece (x .text d (x .children c h d i) k e) (x .piece y (x .children c h y j))) made-end
 
+  -- what it puts of its children as they are met
+  pub children-made : (s : Structure) {o : Opened} → Sources Here T F P body o
+      → ((m : Indexed) → List·Memᴰ m (membersOf s) → M (m .index))
+      → Made (Source M T F G P) S (length (childrenOf (o .root))) (oneByOne (childPlan body (o .seen) s) (childrenOf (o .root)))
+  unfolding childPlan
+  children-made s {o} x f = made-each _ (childrenOf (o .root)) (λ c i. member-made x c (x .children (o .root) (x .root) c i)
+      (resolve s (c .start .name .local)) (λ m e. f m (named-in (membersOf s) (c .start .name .local) m e)))
+
   -- THE INDUCTION
   pub plan-made : (settings : Settings) (depth : ShapeDepth) (shape : Shape) (a : Asked (SheetOf shape))
       → Sources Here T F P body (a .opened) → ShapeSources M T G P body shape a
@@ -195,28 +220,10 @@ module _ {Here : Child → Type 0} {M : ℕ → Type 0} {T : List ℕ → Type 0
       kids : List Child
       kids = childrenOf (o .root)
 
-      resolved : (local : List ℕ) (m : Indexed) → resolve (a .sheet) local ≡ some m → M (m .index)
-      resolved local m e = y .member m (named-in (membersOf (a .sheet)) local m e)
-
-      found : (m : Indexed) → List·Memᴰ m (membersOf (a .sheet)) → (v : Option (List ℕ))
-          → attributeOf (o .root .start .attributes) (attributeName (m .member)) ≡ v → Made (Source M T F G P) S 1 (foundPlan (m .index) v)
-      found m i none e = made-end
-      found m i (some v) e = made-put (of-text (y .member m i) (y .attribute _ v e)) made-end
-
       atRoot : (m : Option Indexed) → resolve (a .sheet) (o .root .start .name .local) ≡ m
           → Made (Source M T F G P) S 1 (rootPlan (rootPiece body o) m)
       atRoot none e = made-end
-      atRoot (some m) e = made-put (of-piece (resolved _ m e) (y .root)) made-end
-
-      attributes : Made (Source M T F G P) S (length (membersOf (a .sheet)))
-          (oneByOne (attributePlan (o .root .start .attributes)) (membersOf (a .sheet)))
-      attributes = made-each (attributePlan (o .root .start .attributes)) (membersOf (a .sheet))
-          (λ m i. pick-all (Made (Source M T F G P) S 1) (m .member .attribute) _ _
-          (found m i (attributeOf (o .root .start .attributes) (attributeName (m .member))) refl) made-end)
-
-      children : Made (Source M T F G P) S (length kids) (oneByOne (childPlan body (o .seen) (a .sheet)) kids)
-      children = made-each (childPlan body (o .seen) (a .sheet)) kids
-          (λ c i. member-made x c (x .children (o .root) (x .root) c i) (resolve (a .sheet) (c .start .name .local)) (resolved _))
+      atRoot (some m) e = made-put (of-piece (y .member m (named-in (membersOf (a .sheet)) _ m e)) (y .root)) made-end
 
       groups : Made (Source M T F G P) S (length (membersOf (a .sheet)))
           (oneByOne (groupPlan body (o .seen) (a .sheet) kids) (membersOf (a .sheet)))
@@ -233,7 +240,8 @@ module _ {Here : Child → Type 0} {M : ℕ → Type 0} {T : List ℕ → Type 0
       either =
           pick-all (Made (Source M T F G P) S (mostEntries settings structure a)) (a .sheet .unwrapped) _ _
           (made-more _ (omega arith) (made-followed tested (atRoot (resolve (a .sheet) (o .root .start .name .local)) refl)))
-          (made-more _ (omega arith) (made-followed attributes (made-followed children (made-followed tested groups))))
+          (made-more _ (omega arith) (made-followed (attributes-made (a .sheet) o (y .member) (y .attribute))
+          (made-followed (children-made (a .sheet) x (y .member)) (made-followed tested groups))))
 
       named : (tests matches : Bool) → testsRootName settings depth ≡ tests
           → nameMatches (o .root .start .name) (rootName (a .sheet)) ≡ matches
