@@ -42,6 +42,16 @@ const LENIENT: Manner = Manner {
     column: "lenient ns",
 };
 
+impl Manner {
+    /// The same, with the names of items and map entries tested.
+    fn with_names(&self) -> Self {
+        Manner {
+            flags: self.flags | 4,
+            ..*self
+        }
+    }
+}
+
 /// Which lines are asked for, how they are read, and those that are behind.
 struct Lines {
     words: Vec<String>,
@@ -86,6 +96,12 @@ impl Lines {
     /// A line, read in every manner.
     fn add(&mut self, name: impl AsRef<str>, reading: &Reading, body: &[u8]) {
         let manners = self.manners.clone();
+        self.add_in(&manners, name.as_ref(), reading, body);
+    }
+
+    /// A line of a collection whose children are asked for by their name.
+    fn add_named(&mut self, name: impl AsRef<str>, reading: &Reading, body: &[u8]) {
+        let manners: Vec<Manner> = self.manners.iter().map(Manner::with_names).collect();
         self.add_in(&manners, name.as_ref(), reading, body);
     }
 
@@ -159,6 +175,16 @@ fn group(name: &str) -> Member {
 fn items(kind: Kind) -> Reading {
     let sheet = List {
         member: true,
+        ..List::default()
+    };
+    BySheet(kind, sheet.bytes())
+}
+
+/// The children of this name are items.
+fn items_named(kind: Kind, name: &str) -> Reading {
+    let sheet = List {
+        member: true,
+        xml_name: Some(name.as_bytes().to_vec()),
         ..List::default()
     };
     BySheet(kind, sheet.bytes())
@@ -263,6 +289,32 @@ fn collections(lines: &mut Lines) {
             &filled(size, referring),
         );
     }
+}
+
+/// Collections whose children are asked for by their name: by the item name's two parts,
+/// by its local name alone, and where no child has it.
+fn named_items(lines: &mut Lines) {
+    let rings = filled(LARGE, |random, _| {
+        format!("<t:rings>{}</t:rings>", widths(random))
+    });
+    for (kind, name) in [(Kind::List, "list"), (Kind::Strings, "string list")] {
+        let reading = items_named(kind, "t:rings");
+        lines.add_named(format!("{name} of 60 KB, items t:rings"), &reading, &rings);
+    }
+    for (rows, child, other) in [
+        (8_192, "t:ring", "t:core"),
+        (6_003, "measurements:ring", "measurements:core"),
+    ] {
+        let body = rowed(rows, 2, |_| format!("<{child}/>"));
+        for item in [child, "ring", other] {
+            let reading = items_named(Kind::List, item);
+            lines.add_named(format!("empty {child}, items {item}"), &reading, &body);
+        }
+    }
+    let entries = rowed(8_192, 11, |number| {
+        format!("<entry><key>c{number:04}</key><value>larch</value></entry>")
+    });
+    lines.add_named("map, entries named", &pairs(), &entries);
 }
 
 fn scalars(lines: &mut Lines) {
@@ -452,6 +504,8 @@ fn main() {
     structures(&mut lines);
     collections(&mut lines);
     scalars(&mut lines);
+    lines.heading("by the names of items");
+    named_items(&mut lines);
     heading("find, which is always lenient", &["Rust ns", "ratio"]);
     finds(&mut lines);
     heading("growth with rows", &["Rust ns", "ratio"]);

@@ -3,19 +3,27 @@ ghost use Prim.Native.Nat.{_*_, _+_};
 ghost use lib.ListN.{getD};
 ghost use mathlib.Core.Path.{_≡_};
 ghost use Rattle.decode.specs.Rows.{InTable, Readable, SpanAt, nameAt};
-ghost use Rattle.document.specs.Names.{nameMatches, named};
+ghost use Rattle.document.specs.Names.{beforeColon, nameMatches, named};
 ghost use Rattle.table.specs.Row.{cut};
 ghost use Rattle.xml.specs.Drain.{sameName};
 use table::field;
 use table::number::LOCAL;
 use table::number::PREFIX;
 
-// Whether a name, given by its prefix and its local name, is what a pattern asks for: `local`, or `prefix:local`.
-pub fn matches(prefix: &[u8], local: &[u8], pattern: &[u8]) -> bool
+// Where a pattern is split: at its first colon, or at its end where it has none. Who matches many names by it looks for it once.
+pub fn split(pattern: &[u8]) -> usize
+    ensures { λ r. ⌜ r ≡ beforeColon (now (pattern .entry)) ⌝ }
+{
+    slices::find(pattern, 0, b':')
+}
+
+// `Name::matches`: whether a name, given by its prefix and its local name, is what a pattern asks for, `local` or `prefix:local`, once that
+// is split at `colon`.
+fn matches_split(prefix: &[u8], local: &[u8], pattern: &[u8], colon: usize) -> bool
+    requires { ⌜ colon ≡ beforeColon (now pattern) ⌝ }
     ensures { λ r. ⌜ r ≡ nameMatches (named (now (prefix .entry)) (now (local .entry))) (now (pattern .entry)) ⌝ }
 {
-    let colon = slices::find(pattern, 0, b':');
-    if colon == pattern.len() {
+    if pattern.len() <= colon {
         return slices::same(pattern, local);
     }
     let from = colon + 1;
@@ -48,15 +56,25 @@ pub fn same_name(body: &[u8], rows: &[u32], i: usize, j: usize) -> bool
     false
 }
 
-// Whether a pattern asks for the name of row k.
+// Whether a pattern, split at `colon`, asks for the name of row k.
+pub fn row_matches_split(body: &[u8], rows: &[u32], k: usize, pattern: &[u8], colon: usize) -> bool
+    requires { ⌜ Readable (now body) (now rows) ⌝ }
+    requires { ⌜ InTable (now rows) k × (colon ≡ beforeColon (now pattern)) ⌝ }
+    ensures { λ r. ⌜ r ≡ nameMatches (nameAt (now (body .entry)) (now (rows .entry)) k) (now (pattern .entry)) ⌝ }
+{
+    matches_split(
+        span(body, rows, k, PREFIX),
+        span(body, rows, k, LOCAL),
+        pattern,
+        colon,
+    )
+}
+
+// Whether a pattern that was not split before asks for the name of row k.
 pub fn row_matches(body: &[u8], rows: &[u32], k: usize, pattern: &[u8]) -> bool
     requires { ⌜ Readable (now body) (now rows) ⌝ }
     requires { ⌜ InTable (now rows) k ⌝ }
     ensures { λ r. ⌜ r ≡ nameMatches (nameAt (now (body .entry)) (now (rows .entry)) k) (now (pattern .entry)) ⌝ }
 {
-    matches(
-        span(body, rows, k, PREFIX),
-        span(body, rows, k, LOCAL),
-        pattern,
-    )
+    row_matches_split(body, rows, k, pattern, split(pattern))
 }

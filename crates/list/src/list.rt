@@ -1,4 +1,6 @@
 // The list reading: each item a piece.
+ghost use mathlib.Core.Path.{_≡_};
+ghost use Rattle.document.specs.Names.{beforeColon};
 ghost use Rattle.document.specs.Scope.{dropping};
 ghost use Rattle.sheet.specs.Names.{itemName};
 ghost use Rattle.codec.specs.Settings.{settingsOf};
@@ -28,6 +30,7 @@ fn read_item(
     view: View,
     named: bool,
     name: &[u8],
+    colon: usize,
     start: StartRow,
     at: Cursor,
     past: Past,
@@ -35,6 +38,7 @@ fn read_item(
     w: Written,
 ) -> Step
     requires { ⌜ Viewed (now body) (now rows) view ⌝ }
+    requires { ⌜ colon ≡ beforeColon (now name) ⌝ }
     requires { ⌜ StartIn (now body) (now rows) (view .count) start ⌝ }
     requires { ⌜ DroppedIs (now body) (now rows) (view .count) start at past ⌝ }
     ensures { λ r. ⌜ ChildEnters (now (body .entry)) (now (rows .entry)) view
@@ -42,7 +46,7 @@ fn read_item(
         (now (entries .entry)) w (now (entries .exit)) r ⌝ }
 {
     let row = start.row;
-    if opening::is_wanted(body, rows, named, name, row) {
+    if opening::is_wanted(body, rows, named, name, colon, row) {
         let piece = decode::piece::piece_of(body, rows, view, start, at, past);
         return output::write_piece(entries, w, 0, piece.start as u32, piece.len as u32);
     }
@@ -56,11 +60,13 @@ fn items_from(
     view: View,
     named: bool,
     name: &[u8],
+    colon: usize,
     scope: ScopeRow,
     at: Cursor,
     entries: &mut [u32],
 ) -> Step
     requires { ⌜ Viewed (now body) (now rows) view ⌝ }
+    requires { ⌜ colon ≡ beforeColon (now name) ⌝ }
     requires { ⌜ HasRow (now rows) scope ⌝ }
     requires { ⌜ Outside (now body) (now rows) (view .count) (at .depth .0) (at .row) ⌝ }
     ensures { λ r. ⌜ ChildrenEnter (now (body .entry)) (now (rows .entry)) view
@@ -82,6 +88,7 @@ fn items_from(
                     view,
                     named,
                     name,
+                    colon,
                     start,
                     inner,
                     past,
@@ -108,11 +115,13 @@ fn read_items(
     view: View,
     named: bool,
     name: &[u8],
+    colon: usize,
     root: StartRow,
     at: Cursor,
     entries: &mut [u32],
 ) -> Step
     requires { ⌜ Viewed (now body) (now rows) view ⌝ }
+    requires { ⌜ colon ≡ beforeColon (now name) ⌝ }
     requires { ⌜ StartIn (now body) (now rows) (view .count) root ⌝ }
     requires { ⌜ Outside (now body) (now rows) (view .count) (at .depth .0) (at .row) ⌝ }
     ensures { λ r. ⌜ ElementEnters (now (body .entry)) (now (rows .entry)) view
@@ -124,7 +133,7 @@ fn read_items(
     }
     let own = root.depth;
     let scope = ScopeRow::Element(own, root.row);
-    items_from(body, rows, view, named, name, scope, at, entries)
+    items_from(body, rows, view, named, name, colon, scope, at, entries)
 }
 
 // The list of a root that was found, by its sheet: "10 as met; 9 last".
@@ -146,6 +155,8 @@ pub fn list_at(
 {
     let named = codec::collection::names_items(settings, said);
     let name = codec::collection::item_name(sheet, said, b"member");
-    let got = read_items(body, rows, view, named, name, root, at, entries);
+    // once, before the first child
+    let colon = decode::name::split(name);
+    let got = read_items(body, rows, view, named, name, colon, root, at, entries);
     opening::tested(view.ill_formed, got)
 }

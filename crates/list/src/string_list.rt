@@ -1,4 +1,6 @@
 // The string list reading: each item a text.
+ghost use mathlib.Core.Path.{_≡_};
+ghost use Rattle.document.specs.Names.{beforeColon};
 ghost use Rattle.document.specs.Scope.{dropping};
 ghost use Rattle.sheet.specs.Names.{itemName};
 ghost use Rattle.codec.specs.Settings.{settingsOf};
@@ -56,6 +58,7 @@ fn read_string(
     view: View,
     named: bool,
     name: &[u8],
+    colon: usize,
     start: StartRow,
     at: Cursor,
     entries: &mut [u32],
@@ -63,6 +66,7 @@ fn read_string(
     w: Written,
 ) -> Step
     requires { ⌜ Viewed (now body) (now rows) view ⌝ }
+    requires { ⌜ colon ≡ beforeColon (now name) ⌝ }
     requires { ⌜ StartIn (now body) (now rows) (view .count) start ⌝ }
     requires { ⌜ TextPlace (now body) (now rows) w ⌝ }
     ensures { λ r. ⌜ ChildDoes (now (body .entry)) (now (rows .entry)) view
@@ -70,7 +74,7 @@ fn read_string(
         (now (texts .entry)) w (now (entries .exit)) (now (texts .exit)) r ⌝ }
 {
     let row = start.row;
-    if opening::is_wanted(body, rows, named, name, row) {
+    if opening::is_wanted(body, rows, named, name, colon, row) {
         let txt = decode::text::try_data(body, rows, view, start, at);
         return put_text(body, rows, txt, entries, texts, w);
     }
@@ -84,12 +88,14 @@ fn strings_from(
     view: View,
     named: bool,
     name: &[u8],
+    colon: usize,
     scope: ScopeRow,
     at: Cursor,
     entries: &mut [u32],
     texts: &mut [u8],
 ) -> Step
     requires { ⌜ Viewed (now body) (now rows) view ⌝ }
+    requires { ⌜ colon ≡ beforeColon (now name) ⌝ }
     requires { ⌜ HasRow (now rows) scope ⌝ }
     requires { ⌜ Outside (now body) (now rows) (view .count) (at .depth .0) (at .row) ⌝ }
     ensures { λ r. ⌜ ChildrenDo (now (body .entry)) (now (rows .entry)) view
@@ -111,6 +117,7 @@ fn strings_from(
                     view,
                     named,
                     name,
+                    colon,
                     start,
                     inner,
                     entries,
@@ -137,12 +144,14 @@ fn read_strings(
     view: View,
     named: bool,
     name: &[u8],
+    colon: usize,
     root: StartRow,
     at: Cursor,
     entries: &mut [u32],
     texts: &mut [u8],
 ) -> Step
     requires { ⌜ Viewed (now body) (now rows) view ⌝ }
+    requires { ⌜ colon ≡ beforeColon (now name) ⌝ }
     requires { ⌜ StartIn (now body) (now rows) (view .count) root ⌝ }
     requires { ⌜ Outside (now body) (now rows) (view .count) (at .depth .0) (at .row) ⌝ }
     ensures { λ r. ⌜ ElementDoes (now (body .entry)) (now (rows .entry)) view
@@ -154,7 +163,18 @@ fn read_strings(
     }
     let own = root.depth;
     let scope = ScopeRow::Element(own, root.row);
-    strings_from(body, rows, view, named, name, scope, at, entries, texts)
+    strings_from(
+        body,
+        rows,
+        view,
+        named,
+        name,
+        colon,
+        scope,
+        at,
+        entries,
+        texts,
+    )
 }
 
 // The string list of a root that was found, by its sheet: "As list, with 6 to 9 as met."
@@ -178,6 +198,19 @@ pub fn string_list_at(
 {
     let named = codec::collection::names_items(settings, said);
     let name = codec::collection::item_name(sheet, said, b"member");
-    let got = read_strings(body, rows, view, named, name, root, at, entries, texts);
+    // once, before the first child
+    let colon = decode::name::split(name);
+    let got = read_strings(
+        body,
+        rows,
+        view,
+        named,
+        name,
+        colon,
+        root,
+        at,
+        entries,
+        texts,
+    );
     opening::tested(view.ill_formed, got)
 }

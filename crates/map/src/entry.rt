@@ -129,7 +129,7 @@ pub fn entry_of(
     ensures { λ r. ⌜ EntryIs (now (body .entry)) (now (rows .entry)) view (mapSaid (now (sheet .entry))) named start at r ⌝ }
 {
     let row = start.row;
-    if opening::is_wanted(body, rows, named, b"entry", row) {
+    if opening::is_wanted(body, rows, named, b"entry", b"entry".len(), row) {
         return read_entry(body, rows, view, sheet, map, start, at);
     }
     let past = decode::reader::drop_element(body, rows, view.count, start, at);

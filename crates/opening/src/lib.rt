@@ -4,6 +4,7 @@
 ghost use mathlib.Core.Path.{_≡_};
 ghost use Rattle.table.specs.Row.{rowsOf};
 ghost use Rattle.table.specs.Rules.{TableRules};
+ghost use Rattle.document.specs.Names.{beforeColon};
 ghost use Rattle.document.specs.View.{view};
 ghost use Rattle.readings.specs.Call.{uploaded};
 ghost use Rattle.readings.specs.Opening.{rooted, opened};
@@ -70,14 +71,22 @@ pub fn ask(body: &[u8], rows: &[u32], end: u32, said: bool, deep: bool, strict: 
     root(strict, body, rows, wide(end))
 }
 
-// Whether the element of row k is wanted: it has the name that is asked for, or none is.
-pub fn is_wanted(body: &[u8], rows: &[u32], named: bool, name: &[u8], k: usize) -> bool
+// Whether the element of row k is wanted: it has the name that is asked for, split at `colon`, or none is.
+pub fn is_wanted(
+    body: &[u8],
+    rows: &[u32],
+    named: bool,
+    name: &[u8],
+    colon: usize,
+    k: usize,
+) -> bool
     requires { ⌜ Readable (now body) (now rows) ⌝ }
     requires { ⌜ InTable (now rows) k ⌝ }
+    requires { ⌜ colon ≡ beforeColon (now name) ⌝ }
     ensures { λ r. ⌜ r ≡ wanted (nameIf named (now (name .entry))) (nameAt (now (body .entry)) (now (rows .entry)) k) ⌝ }
 {
     if named {
-        return decode::name::row_matches(body, rows, k, name);
+        return decode::name::row_matches_split(body, rows, k, name, colon);
     }
     true
 }

@@ -1,5 +1,7 @@
 -- The texts before the place are written, at most 65536 bytes each, so every place fits; the others are still planned.
 use Prim.Native.Nat.{_-_}
+use mathlib.Core.Path.{_≡_}
+use Rattle.document.specs.Names.{beforeColon}
 use Rattle.document.specs.Scope.{dropping}
 use Rattle.decode.specs.View.{viewAt}
 use Rattle.opening.specs.Wanted.{nameIf}
@@ -10,12 +12,13 @@ use Rattle.list.proofs.string_list.strings_from.Statement.{statement}
 use Rattle.list.proofs.string_list.strings_from.Tie as tie
 
 abbrev Inv-loop : tie.InvT-loop
-Inv-loop body rows view named name scope entries₀ texts₀ c₀ held₀ entries texts c held =
-    ChildrenAt body rows view (stringPlan (viewAt rows view) (nameIf named name)) 65536 dropping scope c₀ entries₀ texts₀ entries texts held
-    c
+Inv-loop body rows view named name colon scope entries₀ texts₀ c₀ held₀ entries texts c held =
+    (colon ≡ beforeColon name)
+    × ChildrenAt body rows view (stringPlan (viewAt rows view) (nameIf named name)) 65536 dropping scope c₀ entries₀ texts₀ entries texts
+    held c
 
 abbrev μ-loop : tie.MeasureT-loop
-μ-loop body rows view named name scope entries₀ texts₀ c₀ held₀ entries texts c held = view .count - c .row
+μ-loop body rows view named name colon scope entries₀ texts₀ c₀ held₀ entries texts c held = view .count - c .row
 
 loop-holds : tie.Need-loop-holds Inv-loop μ-loop
 loop-holds c = search strings-laws
@@ -42,7 +45,7 @@ drop-element-requires : tie.Need-drop-element-requires Inv-loop μ-loop
 drop-element-requires c κs = search strings-laws
 
 read-string-requires : tie.Need-read-string-requires Inv-loop μ-loop
-read-string-requires c κs = (search strings-laws, (search strings-laws, search strings-laws))
+read-string-requires c κs = (search strings-laws, (search strings-laws, (search strings-laws, search strings-laws)))
 
 enum-known-more : tie.Need-enum-known-more Inv-loop μ-loop
 enum-known-more c = search strings-laws

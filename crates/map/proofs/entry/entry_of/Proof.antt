@@ -1,4 +1,5 @@
 -- A child that is wanted is read as an entry; any other is dropped, and without fields it plans nothing.
+use Rattle.document.specs.Names.{beforeColon}
 use Rattle.map.proofs.Reading.{child-laws}
 use borrow.Author.Needs.{needs}
 use Rattle.map.proofs.entry.entry_of.Statement.{statement}
@@ -8,6 +9,7 @@ slice-aggregate-is-wanted : tie.Need-slice-aggregate-is-wanted
 slice-aggregate-is-wanted c = search needs
 
 is-wanted-requires : tie.Need-is-wanted-requires
+unfolding beforeColon
 is-wanted-requires c κs = search needs
 
 read-entry-requires : tie.Need-read-entry-requires

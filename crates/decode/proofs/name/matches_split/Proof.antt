@@ -1,11 +1,8 @@
 -- The first colon parts the pattern: without one all of it is the local name, with one both sides must agree.
 use Rattle.decode.proofs.Names.{match-laws}
 use borrow.Author.Needs.{needs}
-use Rattle.decode.proofs.name.matches.Statement.{statement}
-use Rattle.decode.proofs.name.matches.Tie as tie
-
-find-requires : tie.Need-find-requires
-find-requires c κs = search needs
+use Rattle.decode.proofs.name.matches_split.Statement.{statement}
+use Rattle.decode.proofs.name.matches_split.Tie as tie
 
 same-requires : tie.Need-same-requires
 same-requires c κs = search needs
@@ -46,11 +43,10 @@ returns-2 c = search match-laws
 returns-3 : tie.Need-returns-3
 returns-3 c = search match-laws
 
-pub matches-spec : {M : Type 1} → statement M
-matches-spec =
+pub matches-split-spec : {M : Type 1} → statement M
+matches-split-spec =
     tie.close
     (tie.spec
-    find-requires
     same-requires
     returns
     add-from
