@@ -17,8 +17,8 @@ pub fn split(pattern: &[u8]) -> usize
     slices::find(pattern, 0, b':')
 }
 
-// `Name::matches`: whether a name, given by its prefix and its local name, is what a pattern asks for, `local` or `prefix:local`, once that
-// is split at `colon`.
+// `Name::matches`: whether a name, given by its prefix and its local name, is what a pattern asks for. The pattern, `local` or
+// `prefix:local`, was split at `colon`.
 fn matches_split(prefix: &[u8], local: &[u8], pattern: &[u8], colon: usize) -> bool
     requires { ⌜ colon ≡ beforeColon (now pattern) ⌝ }
     ensures { λ r. ⌜ r ≡ nameMatches (named (now (prefix .entry)) (now (local .entry))) (now (pattern .entry)) ⌝ }

@@ -1,4 +1,4 @@
--- Laws and worked examples of `Name::matches`: a pattern that was split once matches every name as the whole one does.
+-- Worked examples of `Name::matches`, and its law of the split: a pattern that was split once matches every name as the whole one does.
 use Prim.Native.Nat.{ℕ, suc, _+_, _≤_, _<_}
 use mathlib.Core.Path.{_≡_, refl}
 use mathlib.Core.Bool.{Bool, true, false}
@@ -13,6 +13,24 @@ use Rattle.lists.specs.Bytes.{ascii, sameb}
 use Rattle.lists.proofs.Tests.{pick-cases}
 use Rattle.table.specs.Row.{Name}
 use Rattle.document.specs.Names.{named, beforeColon, nameMatches}
+
+-- ---- worked examples, as the Rust has them: of the name `p:b`, and of `b` without a prefix
+pub match-examples :
+    map (nameMatches (named (ascii "p") (ascii "b"))) (map ascii ("b" ∷ "p:b" ∷ "q:b" ∷ ":b" ∷ "p:" ∷ "p" ∷ "p:b:c" ∷ ":" ∷ "" ∷ []))
+    ≡ true ∷ true ∷ false ∷ false ∷ false ∷ false ∷ false ∷ false ∷ false ∷ []
+unfolding nameMatches beforeColon sameb
+match-examples = refl
+
+pub match-plain-examples :
+    map (nameMatches (named [] (ascii "b"))) (map ascii ("b" ∷ ":b" ∷ "p:b" ∷ "b:" ∷ "" ∷ [])) ≡ true ∷ true ∷ false ∷ false ∷ false ∷ []
+unfolding nameMatches beforeColon sameb
+match-plain-examples = refl
+
+-- of a pattern with two colons: it is split at the first
+pub match-first-colon :
+    map (λ n. nameMatches n (ascii "p:b:c")) (named (ascii "p") (ascii "b:c") ∷ named (ascii "p:b") (ascii "c") ∷ []) ≡ true ∷ false ∷ []
+unfolding nameMatches beforeColon sameb
+match-first-colon = refl
 
 -- ---- a pattern that was split at its first colon: a local name alone, or a prefix and a local name
 pub data Split : Type 0 where
@@ -65,21 +83,3 @@ split-matches prefix local pattern =
     pick-cases (λ x. matchesSplit (named prefix local) (split pattern) ≡ x) (ltb (beforeColon pattern) (length pattern)) _ _
     (λ e. rw (split-prefixed pattern (ltb-true _ _ e)))
     (λ e. rw (split-alone pattern (ltb-false _ _ e)))
-
--- ---- worked examples, as the Rust has them: of the name `p:b`, of `b` without a prefix, and of the empty local name
-pub match-examples :
-    map (nameMatches (named (ascii "p") (ascii "b"))) (map ascii ("b" ∷ "p:b" ∷ "q:b" ∷ ":b" ∷ "p:" ∷ "p" ∷ "p:b:c" ∷ ":" ∷ "" ∷ []))
-    ≡ true ∷ true ∷ false ∷ false ∷ false ∷ false ∷ false ∷ false ∷ false ∷ []
-unfolding nameMatches beforeColon sameb
-match-examples = refl
-
-pub match-plain-examples :
-    map (nameMatches (named [] (ascii "b"))) (map ascii ("b" ∷ ":b" ∷ "p:b" ∷ "b:" ∷ "" ∷ [])) ≡ true ∷ true ∷ false ∷ false ∷ false ∷ []
-unfolding nameMatches beforeColon sameb
-match-plain-examples = refl
-
--- of a pattern with two colons: it is split at the first
-pub match-first-colon :
-    map (λ n. nameMatches n (ascii "p:b:c")) (named (ascii "p") (ascii "b:c") ∷ named (ascii "p:b") (ascii "c") ∷ []) ≡ true ∷ false ∷ []
-unfolding nameMatches beforeColon sameb
-match-first-colon = refl

@@ -60,19 +60,19 @@ fn items_from(
     view: View,
     named: bool,
     name: &[u8],
-    colon: usize,
     scope: ScopeRow,
     at: Cursor,
     entries: &mut [u32],
 ) -> Step
     requires { ⌜ Viewed (now body) (now rows) view ⌝ }
-    requires { ⌜ colon ≡ beforeColon (now name) ⌝ }
     requires { ⌜ HasRow (now rows) scope ⌝ }
     requires { ⌜ Outside (now body) (now rows) (view .count) (at .depth .0) (at .row) ⌝ }
     ensures { λ r. ⌜ ChildrenEnter (now (body .entry)) (now (rows .entry)) view
         (itemPlan (now (body .entry)) (viewAt (now (rows .entry)) view) (nameIf named (now (name .entry)))) dropping scope at
         (now (entries .entry)) (now (entries .exit)) r ⌝ }
 {
+    // looked for once, before the first child
+    let colon = decode::name::split(name);
     let mut c = at;
     let mut held = Written { count: 0, used: 0 };
     loop {
@@ -115,13 +115,11 @@ fn read_items(
     view: View,
     named: bool,
     name: &[u8],
-    colon: usize,
     root: StartRow,
     at: Cursor,
     entries: &mut [u32],
 ) -> Step
     requires { ⌜ Viewed (now body) (now rows) view ⌝ }
-    requires { ⌜ colon ≡ beforeColon (now name) ⌝ }
     requires { ⌜ StartIn (now body) (now rows) (view .count) root ⌝ }
     requires { ⌜ Outside (now body) (now rows) (view .count) (at .depth .0) (at .row) ⌝ }
     ensures { λ r. ⌜ ElementEnters (now (body .entry)) (now (rows .entry)) view
@@ -133,7 +131,7 @@ fn read_items(
     }
     let own = root.depth;
     let scope = ScopeRow::Element(own, root.row);
-    items_from(body, rows, view, named, name, colon, scope, at, entries)
+    items_from(body, rows, view, named, name, scope, at, entries)
 }
 
 // The list of a root that was found, by its sheet: "10 as met; 9 last".
@@ -155,8 +153,6 @@ pub fn list_at(
 {
     let named = codec::collection::names_items(settings, said);
     let name = codec::collection::item_name(sheet, said, b"member");
-    // once, before the first child
-    let colon = decode::name::split(name);
-    let got = read_items(body, rows, view, named, name, colon, root, at, entries);
+    let got = read_items(body, rows, view, named, name, root, at, entries);
     opening::tested(view.ill_formed, got)
 }

@@ -88,20 +88,20 @@ fn strings_from(
     view: View,
     named: bool,
     name: &[u8],
-    colon: usize,
     scope: ScopeRow,
     at: Cursor,
     entries: &mut [u32],
     texts: &mut [u8],
 ) -> Step
     requires { ⌜ Viewed (now body) (now rows) view ⌝ }
-    requires { ⌜ colon ≡ beforeColon (now name) ⌝ }
     requires { ⌜ HasRow (now rows) scope ⌝ }
     requires { ⌜ Outside (now body) (now rows) (view .count) (at .depth .0) (at .row) ⌝ }
     ensures { λ r. ⌜ ChildrenDo (now (body .entry)) (now (rows .entry)) view
         (stringPlan (viewAt (now (rows .entry)) view) (nameIf named (now (name .entry)))) dropping scope at (now (entries .entry))
         (now (texts .entry)) (now (entries .exit)) (now (texts .exit)) r ⌝ }
 {
+    // looked for once, before the first child
+    let colon = decode::name::split(name);
     let mut c = at;
     let mut held = Written { count: 0, used: 0 };
     loop {
@@ -144,14 +144,12 @@ fn read_strings(
     view: View,
     named: bool,
     name: &[u8],
-    colon: usize,
     root: StartRow,
     at: Cursor,
     entries: &mut [u32],
     texts: &mut [u8],
 ) -> Step
     requires { ⌜ Viewed (now body) (now rows) view ⌝ }
-    requires { ⌜ colon ≡ beforeColon (now name) ⌝ }
     requires { ⌜ StartIn (now body) (now rows) (view .count) root ⌝ }
     requires { ⌜ Outside (now body) (now rows) (view .count) (at .depth .0) (at .row) ⌝ }
     ensures { λ r. ⌜ ElementDoes (now (body .entry)) (now (rows .entry)) view
@@ -163,18 +161,7 @@ fn read_strings(
     }
     let own = root.depth;
     let scope = ScopeRow::Element(own, root.row);
-    strings_from(
-        body,
-        rows,
-        view,
-        named,
-        name,
-        colon,
-        scope,
-        at,
-        entries,
-        texts,
-    )
+    strings_from(body, rows, view, named, name, scope, at, entries, texts)
 }
 
 // The string list of a root that was found, by its sheet: "As list, with 6 to 9 as met."
@@ -198,19 +185,6 @@ pub fn string_list_at(
 {
     let named = codec::collection::names_items(settings, said);
     let name = codec::collection::item_name(sheet, said, b"member");
-    // once, before the first child
-    let colon = decode::name::split(name);
-    let got = read_strings(
-        body,
-        rows,
-        view,
-        named,
-        name,
-        colon,
-        root,
-        at,
-        entries,
-        texts,
-    );
+    let got = read_strings(body, rows, view, named, name, root, at, entries, texts);
     opening::tested(view.ill_formed, got)
 }

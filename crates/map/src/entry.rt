@@ -129,6 +129,7 @@ pub fn entry_of(
     ensures { λ r. ⌜ EntryIs (now (body .entry)) (now (rows .entry)) view (mapSaid (now (sheet .entry))) named start at r ⌝ }
 {
     let row = start.row;
+    // a name without a colon is split at its end
     if opening::is_wanted(body, rows, named, b"entry", b"entry".len(), row) {
         return read_entry(body, rows, view, sheet, map, start, at);
     }

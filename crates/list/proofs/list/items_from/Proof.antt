@@ -1,4 +1,4 @@
--- The items before the place are written, and those from the place on are still planned; whatever the texts are.
+-- The colon is the name's; the items before the place are written, those from the place on still planned; whatever the texts are.
 use Prim.Native.Nat.{_-_}
 use mathlib.Core.Path.{_≡_}
 use Rattle.document.specs.Names.{beforeColon}
@@ -6,16 +6,20 @@ use Rattle.decode.specs.View.{viewAt}
 use Rattle.opening.specs.Wanted.{nameIf}
 use Rattle.opening.proofs.Children.{EntersAt, enters-laws}
 use Rattle.readings.specs.Collection.{itemPlan}
+use borrow.Author.Needs.{needs}
 use Rattle.list.proofs.list.items_from.Statement.{statement}
 use Rattle.list.proofs.list.items_from.Tie as tie
 
 abbrev Inv-loop : tie.InvT-loop
-Inv-loop body rows view named name colon scope entries₀ c₀ held₀ entries c held =
+Inv-loop body rows view named name scope entries₀ colon c₀ held₀ entries c held =
     (colon ≡ beforeColon name)
     × EntersAt body rows view (itemPlan body (viewAt rows view) (nameIf named name)) scope c₀ entries₀ entries held c
 
 abbrev μ-loop : tie.MeasureT-loop
-μ-loop body rows view named name colon scope entries₀ c₀ held₀ entries c held = view .count - c .row
+μ-loop body rows view named name scope entries₀ colon c₀ held₀ entries c held = view .count - c .row
+
+split-requires : tie.Need-split-requires Inv-loop μ-loop
+split-requires c κs = search needs
 
 loop-holds : tie.Need-loop-holds Inv-loop μ-loop
 loop-holds c = search enters-laws
@@ -39,7 +43,7 @@ drop-element-requires : tie.Need-drop-element-requires Inv-loop μ-loop
 drop-element-requires c κs = search enters-laws
 
 read-item-requires : tie.Need-read-item-requires Inv-loop μ-loop
-read-item-requires c κs = (search enters-laws, (search enters-laws, (search enters-laws, search enters-laws)))
+read-item-requires c κs = (search enters-laws, (search enters-laws, search enters-laws))
 
 enum-known-more : tie.Need-enum-known-more Inv-loop μ-loop
 enum-known-more c = search enters-laws
@@ -65,6 +69,7 @@ items-from-spec =
     (tie.spec
     Inv-loop
     μ-loop
+    split-requires
     loop-holds
     next-start-element-requires
     enum-told

@@ -8,8 +8,7 @@ returns : tie.Need-returns
 returns c = search enters-element-laws
 
 items-from-requires : tie.Need-items-from-requires
-items-from-requires c κs =
-    (search enters-element-laws, (search enters-element-laws, (search enters-element-laws, search enters-element-laws)))
+items-from-requires c κs = search enters-element-laws
 
 same-length : tie.Need-same-length
 same-length c = search needs

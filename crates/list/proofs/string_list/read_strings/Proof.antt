@@ -8,7 +8,7 @@ returns : tie.Need-returns
 returns c = search element-laws
 
 strings-from-requires : tie.Need-strings-from-requires
-strings-from-requires c κs = (search element-laws, (search element-laws, (search element-laws, search element-laws)))
+strings-from-requires c κs = search element-laws
 
 same-length : tie.Need-same-length
 same-length c = search needs

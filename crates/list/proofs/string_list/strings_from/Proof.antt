@@ -1,4 +1,4 @@
--- The texts before the place are written, at most 65536 bytes each, so every place fits; the others are still planned.
+-- The colon is the name's; the texts before the place are written, at most 65536 bytes each, so every place fits; the others planned.
 use Prim.Native.Nat.{_-_}
 use mathlib.Core.Path.{_≡_}
 use Rattle.document.specs.Names.{beforeColon}
@@ -7,18 +7,22 @@ use Rattle.decode.specs.View.{viewAt}
 use Rattle.opening.specs.Wanted.{nameIf}
 use Rattle.opening.proofs.Children.{ChildrenAt}
 use Rattle.readings.specs.Collection.{stringPlan}
+use borrow.Author.Needs.{needs}
 use Rattle.list.proofs.Strings.{strings-laws}
 use Rattle.list.proofs.string_list.strings_from.Statement.{statement}
 use Rattle.list.proofs.string_list.strings_from.Tie as tie
 
 abbrev Inv-loop : tie.InvT-loop
-Inv-loop body rows view named name colon scope entries₀ texts₀ c₀ held₀ entries texts c held =
+Inv-loop body rows view named name scope entries₀ texts₀ colon c₀ held₀ entries texts c held =
     (colon ≡ beforeColon name)
     × ChildrenAt body rows view (stringPlan (viewAt rows view) (nameIf named name)) 65536 dropping scope c₀ entries₀ texts₀ entries texts
     held c
 
 abbrev μ-loop : tie.MeasureT-loop
-μ-loop body rows view named name colon scope entries₀ texts₀ c₀ held₀ entries texts c held = view .count - c .row
+μ-loop body rows view named name scope entries₀ texts₀ colon c₀ held₀ entries texts c held = view .count - c .row
+
+split-requires : tie.Need-split-requires Inv-loop μ-loop
+split-requires c κs = search needs
 
 loop-holds : tie.Need-loop-holds Inv-loop μ-loop
 loop-holds c = search strings-laws
@@ -45,7 +49,7 @@ drop-element-requires : tie.Need-drop-element-requires Inv-loop μ-loop
 drop-element-requires c κs = search strings-laws
 
 read-string-requires : tie.Need-read-string-requires Inv-loop μ-loop
-read-string-requires c κs = (search strings-laws, (search strings-laws, (search strings-laws, search strings-laws)))
+read-string-requires c κs = (search strings-laws, (search strings-laws, search strings-laws))
 
 enum-known-more : tie.Need-enum-known-more Inv-loop μ-loop
 enum-known-more c = search strings-laws
@@ -74,6 +78,7 @@ strings-from-spec =
     (tie.spec
     Inv-loop
     μ-loop
+    split-requires
     loop-holds
     next-start-element-requires
     enum-told
