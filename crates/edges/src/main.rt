@@ -3,6 +3,7 @@
 // failing `&`. For each body with a table a line: the body, and the drain's number, row, cause and place, the causes counted from 1 in the
 // paper's order; then readings, with their entries and texts, and integers. `stdout` has what the paper expects, written by hand from the
 // paper and from change request 1, and the check compares. It rests on `unescape` and `falzheod`.
+#![tactic(auto)]
 mod bodies;
 mod show;
 

@@ -2,6 +2,7 @@
 // that this gets no refusal but the six is proved from the contracts of the drain and of the readings. Here it runs: a list of two cores,
 // each core read as a structure, and then the same upload cut after its first core, of which nothing is handed on. It rests on
 // `falzheod`, `deserializer` and `element`.
+#![tactic(auto)]
 mod pieces;
 
 use libc::STDOUT_FILENO;

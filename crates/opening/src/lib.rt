@@ -1,6 +1,7 @@
 // What readings have in common: what each asks first, in 01's order, 1 the table, 2 the sheet, 3 the depth, 4 the root; which children of
 // a collection are wanted; and "9 last". What is answered is defined in `readings` (Opening.antt, Collection.antt); the crate rests on
 // `table` for the rules and on `decode` for the view and the root. Its proofs have the loop over the children of an element, for any step.
+#![tactic(auto)]
 ghost use Rattle.std.specs.Prelude.{◌≡◌};
 ghost use Rattle.table.specs.Row.{rows_of};
 ghost use Rattle.table.specs.Rules.{TableRules};

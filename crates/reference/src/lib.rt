@@ -1,5 +1,6 @@
 // What `unescape` and `validate_references` answer, as definitions, and their laws: this crate has types and specs/, and no function.
 // It rests on `lists` and on `utf8`, for the bytes of a character.
+#![tactic(auto)]
 
 // A number that was read, or a character: or that there is none.
 #[derive(Drop)]

@@ -1,5 +1,7 @@
 // The refusals of 01 ("What each operation may refuse"), named once, with their numbers; specs/ has besides them an answer that is a value
 // or a refusal. The crate rests on nothing.
+#![tactic(auto)]
+
 ghost use Rattle.std.specs.Prelude.{◌≡◌, ◌+◌};
 ghost use Rattle.refusal.specs.declared.Refusal.{Refusal};
 ghost use Rattle.refusal.specs.Numbers.{number, place, SmallPlace};

@@ -4,6 +4,7 @@
 // cause where it is 9. The program says how many answers it replayed and how many differ, and names the first lines that differ or that it
 // cannot read, so its output is the expected one only where all agree. It rests on `unescape` and `falzheod`, and on the recording being
 // the Rust's; that the input is read as it stands rests on the system's calls.
+#![tactic(auto)]
 mod answer;
 mod field;
 mod reading;

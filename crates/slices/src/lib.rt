@@ -1,5 +1,7 @@
 // Functions on slices of bytes that the language lacks: whether two are the same, where a byte stands next, and a copy into a place.
 // What they answer is defined in `lists`, on which the crate rests; specs/ has the laws of their loops.
+#![tactic(auto)]
+
 ghost use Rattle.std.specs.Prelude.{◌≡◌, ◌+◌, ◌≤◌, ◌<◌, length, take, drop, eqb, ltb};
 ghost use Rattle.lists.specs.Bytes.{sameb};
 ghost use Rattle.lists.specs.Find.{Clear, NextAt};

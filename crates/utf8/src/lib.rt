@@ -1,5 +1,7 @@
 // UTF-8 by the Unicode Standard: whether a slice is well-formed (3.9, Table 3-7), and the bytes of a scalar value (Table 3-6).
 // The definitions and their laws are in specs/; the crate rests on `lists`.
+#![tactic(auto)]
+
 ghost use Rattle.std.specs.Prelude.{◌≡◌, ◌+◌, ◌≤◌, ◌<◌, length, get_or, [], ◌∷◌};
 ghost use Rattle.utf8.specs.Encode.{scalar, encode, EncodedLen};
 ghost use Rattle.lists.specs.Overwrite.{Stored};

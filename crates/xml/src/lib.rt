@@ -1,5 +1,6 @@
 // Well-formed documents: the grammar of XML 1.0 over the tokens of a table, and the strict drain (01, "Drain") as a definition, with
 // the theorems that join the two. This crate has types and specs/, and no function; it rests on `table` and on `reference`.
+#![tactic(auto)]
 
 // Why a body is ill-formed (01, "Drain").
 #[derive(Drop)]

@@ -1,0 +1,11 @@
+-- After each ASCII byte the walk begins anew, so from i on it ends as it does from the start.
+use Prim.Native.Nat.{◌-◌}
+use lib.ListN.{length}
+use Rattle.utf8.specs.Scan.{Run}
+use Rattle.utf8.proofs.past_ascii.Given as goal
+
+abbrev pub invariant-loop-i : goal.invariant-loop-i
+invariant-loop-i l = Run l.s l.from l.i
+
+abbrev pub decreases-loop-i : goal.decreases-loop-i
+decreases-loop-i l = length l.s - l.i

@@ -1,0 +1,11 @@
+-- All 32 bytes of each block before i are ASCII, and after such a byte the walk begins anew.
+use Prim.Native.Nat.{◌-◌}
+use lib.ListN.{length}
+use Rattle.utf8.specs.Scan.{Run}
+use Rattle.utf8.proofs.past_blocks.Given as goal
+
+abbrev pub invariant-loop-i : goal.invariant-loop-i
+invariant-loop-i l = Run l.s l.from l.i
+
+abbrev pub decreases-loop-i : goal.decreases-loop-i
+decreases-loop-i l = length l.s - l.i
