@@ -9,4 +9,3 @@ pub mod Structures
 pub mod Resolving
 pub mod Collections
 pub mod Depths
-pub mod Lent

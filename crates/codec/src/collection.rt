@@ -9,7 +9,7 @@ use crate::field::{MarkedPair, Span, both, fields_at, has_bit, name_or, or_else}
 use crate::settings::Settings;
 
 // A list sheet that was read. The name is the XML name, else the member name.
-#[derive(Drop)]
+#[derive(Clone, Copy)]
 pub struct ListSheet {
     pub ok: bool,
     pub member: bool,
@@ -18,7 +18,7 @@ pub struct ListSheet {
 }
 
 // A map sheet that was read.
-#[derive(Drop)]
+#[derive(Clone, Copy)]
 pub struct MapSheet {
     pub ok: bool,
     pub flattened: bool,

@@ -7,14 +7,14 @@ ghost use Rattle.sheet.specs.Front.{bit};
 ghost use Rattle.codec.specs.Field.{Byte, bytes_at, span_name, LengthRead, FieldRead, PairRead, FieldsRead, OrElse};
 
 // A name in a sheet: its place, and its length, 0 where there is no name.
-#[derive(Drop)]
+#[derive(Clone, Copy)]
 pub struct Span {
     pub from: usize,
     pub len: usize,
 }
 
 // A name that may stand at a place of a sheet, and the place after it; not ok where the sheet is broken there.
-#[derive(Drop)]
+#[derive(Clone, Copy)]
 pub struct Field {
     pub ok: bool,
     pub name: Span,
@@ -22,7 +22,7 @@ pub struct Field {
 }
 
 // Two names that may stand one after the other, and the place after them.
-#[derive(Drop)]
+#[derive(Clone, Copy)]
 pub struct Pair {
     pub ok: bool,
     pub first: Span,
@@ -31,7 +31,7 @@ pub struct Pair {
 }
 
 // A bit map, two names that may follow it, and the place after them.
-#[derive(Drop)]
+#[derive(Clone, Copy)]
 pub struct MarkedPair {
     pub ok: bool,
     pub bits: usize,

@@ -4,7 +4,7 @@ ghost use Rattle.lists.specs.Tests.{pick};
 ghost use Rattle.codec.specs.Guard.{at_maximum, entered, left};
 
 // The depth of shapes and its maximum, lent to enter and leave and changed by them.
-#[derive(Drop)]
+#[derive(Clone, Copy)]
 pub struct Guard {
     pub depth: u32,
     pub max: u32,

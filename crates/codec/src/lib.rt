@@ -2,6 +2,7 @@
 // in the sheet and no copies. What a sheet says, the names that a reading asks for and what the settings ask are defined in `sheet`, on
 // which the crate rests; names are compared by `slices`.
 #![tactic(auto)]
+
 pub mod collection;
 pub mod field;
 pub mod guard;

@@ -7,7 +7,7 @@ use crate::field::both;
 use crate::guard::enters;
 use sheet::ShapeDepth;
 
-#[derive(Drop)]
+#[derive(Clone, Copy)]
 pub struct Settings {
     pub max_depth: u32,
     pub validate_document: bool,

@@ -22,7 +22,7 @@ pub struct StructureSheet {
 }
 
 // What stands before the count of members, and the place after it.
-#[derive(Drop)]
+#[derive(Clone, Copy)]
 struct Head {
     ok: bool,
     unwrapped: bool,
@@ -31,7 +31,7 @@ struct Head {
 }
 
 // How many members follow, and the place after that byte.
-#[derive(Drop)]
+#[derive(Clone, Copy)]
 struct Count {
     ok: bool,
     count: usize,
@@ -166,7 +166,7 @@ pub fn parse_structure(sheet: &[u8]) -> StructureSheet
 // ---- what was read
 
 // A member: its flags, and its name, which is the XML name, else the member name.
-#[derive(Drop)]
+#[derive(Clone, Copy)]
 pub struct Member {
     pub attribute: bool,
     pub flattened: bool,
@@ -175,7 +175,7 @@ pub struct Member {
 }
 
 // A member by its index, or none.
-#[derive(Drop)]
+#[derive(Clone, Copy)]
 pub enum Found {
     At(usize),
     Nothing,

@@ -16,7 +16,7 @@ use table::{field, open_after};
 use xml::{Cause, Drained};
 
 // What is wrong with a row, if anything is.
-#[derive(Drop)]
+#[derive(Clone, Copy)]
 pub enum Fault {
     Nothing,
     Is(Cause),
@@ -40,7 +40,7 @@ fn is_repeated(body: &[u8], rows: &[u32], tag: usize, k: usize) -> bool
 }
 
 // A part of the body where no `&` stands.
-#[derive(Drop)]
+#[derive(Clone, Copy)]
 struct Plain {
     from: usize,
     to: usize,

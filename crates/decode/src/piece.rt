@@ -13,7 +13,7 @@ use table::field;
 use table::number::{LOCAL, POSITION};
 
 // A part of the body.
-#[derive(Drop)]
+#[derive(Clone, Copy)]
 pub struct Piece {
     pub start: usize,
     pub len: usize,

@@ -15,14 +15,14 @@ use table::number::{KIND, VALUE};
 use table::{field, one_less};
 
 // A scope: the whole document, or the element of a depth that starts in a row.
-#[derive(Drop)]
+#[derive(Clone, Copy)]
 pub enum ScopeRow {
     Document,
     Element(Depth, usize),
 }
 
 // Where a reader stands: the number of the next row, and the element depth.
-#[derive(Drop)]
+#[derive(Clone, Copy)]
 pub struct Cursor {
     pub row: usize,
     pub depth: Depth,
@@ -30,14 +30,14 @@ pub struct Cursor {
 
 // The rows of a view, which are lent, and the number of the next row. The functions over it are few and thin, since each is proved by hand:
 // they take it apart, and leave the loops to functions of a slice and numbers.
-#[derive(Drop)]
+#[derive(Clone, Copy)]
 pub struct Reader<'a> {
     pub rows: &'a [u32],
     pub next: usize,
 }
 
 // Where it stands once a scope is over, and whether the scope's own end was read.
-#[derive(Drop)]
+#[derive(Clone, Copy)]
 pub struct Past {
     pub ended: bool,
     pub at: Cursor,
@@ -45,7 +45,7 @@ pub struct Past {
 
 // A start element: its row, the row that ends its start tag (the rows between are its attributes), whether that is `/>`, and the depth
 // before it.
-#[derive(Drop)]
+#[derive(Clone, Copy)]
 pub struct StartRow {
     pub row: usize,
     pub end: usize,
@@ -54,14 +54,14 @@ pub struct StartRow {
 }
 
 // The next start element, with the reader after its start tag; or none.
-#[derive(Drop)]
+#[derive(Clone, Copy)]
 pub enum Next {
     Found(StartRow, Cursor),
     Gone(Past),
 }
 
 // The row of an attribute, or none.
-#[derive(Drop)]
+#[derive(Clone, Copy)]
 pub enum Attribute {
     Row(usize),
     Nothing,

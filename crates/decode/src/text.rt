@@ -14,7 +14,7 @@ use table::kind::{START, TEXT};
 use table::number::KIND;
 
 // The first text of an element: the value of a row, to be unescaped; the empty text; or a refusal.
-#[derive(Drop)]
+#[derive(Clone, Copy)]
 pub enum Text {
     Row(usize),
     Empty,

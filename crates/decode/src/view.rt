@@ -14,7 +14,7 @@ use table::number::{KIND, POSITION};
 use xml::{Cause, Drained};
 
 // What a reader meets where the rows of its view run out, if anything.
-#[derive(Drop)]
+#[derive(Clone, Copy)]
 pub enum Failure {
     Nothing,
     Is(Refusal),
@@ -22,7 +22,7 @@ pub enum Failure {
 
 // The view: how many rows are seen, what is met where they run out, whether the reading is refused with 9 at its end, and the stream
 // position where the rows run out.
-#[derive(Drop)]
+#[derive(Clone, Copy)]
 pub struct View {
     pub count: usize,
     pub failure: Failure,

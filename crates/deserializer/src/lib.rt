@@ -23,7 +23,7 @@ pub const MAP: u32 = 3;
 pub const STRING_LIST: u32 = 4;
 
 // What is read by a sheet.
-#[derive(Drop)]
+#[derive(Clone, Copy)]
 pub enum Shape {
     Struct,
     List,

@@ -3,5 +3,5 @@
 #![tactic(auto)]
 
 // The depth of an element: 0 is the root's. The depth of shapes is another counter, and another type.
-#[derive(Drop)]
+#[derive(Clone, Copy)]
 pub struct Depth(pub usize);

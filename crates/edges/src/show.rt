@@ -5,7 +5,7 @@ use falzheod::scalars::falzheod_text_integer;
 use libc::STDOUT_FILENO;
 
 // Entries and texts as they were lent, and what came of it.
-#[derive(Drop)]
+#[derive(Clone, Copy)]
 struct Read {
     number: u32,
     place: usize,

@@ -1,6 +1,7 @@
 // The rows of an element, counted from its first byte: a table of its own, with the element's bytes as body and their number as final
 // position (01, the end of "Token table"). What they are is defined in `table` (Piece.antt); the crate rests on it for the numbers of rows.
 #![tactic(auto)]
+
 ghost use Rattle.std.specs.Prelude.{◌≡◌, ◌+◌, ◌-◌, ◌*◌, ◌/◌, ◌≤◌, ◌<◌, length, get_or};
 ghost use Rattle.std.proofs.lemmas.List.Edits.{sets};
 ghost use Rattle.lists.specs.Tests.{pick};

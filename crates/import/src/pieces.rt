@@ -10,7 +10,7 @@ ghost use Rattle.import.specs.Import.{Passes, Reread, RereadOne, EachReread, Imp
 use output::kind::PIECE;
 
 // What came of an upload: the drain's number; where that is 0, the reading's number and how many entries and text bytes it wrote.
-#[derive(Drop)]
+#[derive(Clone, Copy)]
 pub struct Imported {
     pub drained: u32,
     pub read: u32,

@@ -16,7 +16,7 @@ use output::{Step, Written};
 use refusal::Refusal;
 
 // The fields of an entry, and where the reader stands after it; or a refusal.
-#[derive(Drop)]
+#[derive(Clone, Copy)]
 pub enum Entry {
     Refused(Refusal),
     Read(Fields, Cursor),

@@ -22,7 +22,7 @@ use table::field;
 use table::number::{LOCAL, VALUE, VALUE_LEN};
 
 // A text whose references are right: its part of the body, and to how many bytes it comes.
-#[derive(Drop)]
+#[derive(Clone, Copy)]
 pub struct Measured {
     pub start: usize,
     pub len: usize,
@@ -30,42 +30,42 @@ pub struct Measured {
 }
 
 // A first text, or why there is none.
-#[derive(Drop)]
+#[derive(Clone, Copy)]
 pub enum FirstText {
     Refused(Refusal),
     Read(Measured),
 }
 
 // The key of an entry, if it was met.
-#[derive(Drop)]
+#[derive(Clone, Copy)]
 pub enum Key {
     Nothing,
     Text(Measured),
 }
 
 // Its value, if it was met.
-#[derive(Drop)]
+#[derive(Clone, Copy)]
 pub enum Value {
     Nothing,
     Text(Measured),
     Piece(Piece),
 }
 
-#[derive(Drop)]
+#[derive(Clone, Copy)]
 pub struct Fields {
     pub key: Key,
     pub value: Value,
 }
 
 // What a child of an entry makes of its fields.
-#[derive(Drop)]
+#[derive(Clone, Copy)]
 pub enum Field {
     Refused(Refusal),
     Read(Fields),
 }
 
 // What a child of an entry is.
-#[derive(Drop)]
+#[derive(Clone, Copy)]
 pub enum Role {
     Key,
     Value,

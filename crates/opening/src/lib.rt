@@ -20,7 +20,7 @@ use output::Step;
 use refusal::Refusal;
 
 // Refused, or the view, the root in it, and the reader after the root's start tag.
-#[derive(Drop)]
+#[derive(Clone, Copy)]
 pub enum Opening {
     Refused(Refusal),
     Found(View, StartRow, Cursor),

@@ -19,21 +19,21 @@ use reference::Unescaped;
 use refusal::{Refusal, bad_at};
 
 // How many entries, and how many text bytes, are written.
-#[derive(Drop)]
+#[derive(Clone, Copy)]
 pub struct Written {
     pub count: usize,
     pub used: usize,
 }
 
 // A step of a reading: it goes on, or it is refused; with what is written then.
-#[derive(Drop)]
+#[derive(Clone, Copy)]
 pub enum Step {
     Done(Written),
     Refused(Refusal, Written),
 }
 
 // The six numbers of an entry.
-#[derive(Drop)]
+#[derive(Clone, Copy)]
 pub struct Six {
     pub kind: u32,
     pub member: u32,

@@ -3,14 +3,14 @@
 #![tactic(auto)]
 
 // A number that was read, or a character: or that there is none.
-#[derive(Drop)]
+#[derive(Clone, Copy)]
 pub enum Number {
     Value(u32),
     No,
 }
 
 // What a reference stands for, with the number of its bytes after `&`; or that it is bad.
-#[derive(Drop)]
+#[derive(Clone, Copy)]
 pub enum Reference {
     Char { code: u32, len: usize },
     Bad,
@@ -18,7 +18,7 @@ pub enum Reference {
 
 // What `validate_references` answers: 01's number 7 is BadReference, with the place of the first `&` that begins no reference, counted
 // from the start of the text.
-#[derive(Drop)]
+#[derive(Clone, Copy)]
 pub enum Validated {
     Valid,
     BadReference { at: usize },
@@ -26,7 +26,7 @@ pub enum Validated {
 
 // What `unescape` answers: the length of the result, or 01's number 7, BadReference, with the place of the first `&` that begins no
 // reference, counted from the start of the text, or 10, NoRoom.
-#[derive(Drop)]
+#[derive(Clone, Copy)]
 pub enum Unescaped {
     Length(usize),
     BadReference { at: usize },

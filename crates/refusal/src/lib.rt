@@ -8,7 +8,7 @@ ghost use Rattle.refusal.specs.Numbers.{number, place, SmallPlace};
 
 // Why an operation refused, in 01's words and in the order of its numbers. A reference has the place of the failing `&`, an offset in the
 // body that was lent: 16 bits hold it, and keep the refusal small enough for every answer that may be one.
-#[derive(Drop)]
+#[derive(Clone, Copy)]
 pub enum Refusal {
     Table,
     Sheet,

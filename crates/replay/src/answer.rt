@@ -7,7 +7,7 @@ use reference::{Unescaped, Validated};
 use unescape::{unescape, validate_references};
 
 // What a line comes to: for either operation, whether the recorded answer is ours too.
-#[derive(Drop)]
+#[derive(Clone, Copy)]
 pub enum Outcome {
     Unescape { agrees: bool },
     Validate { agrees: bool },
@@ -127,7 +127,7 @@ fn replay_unescape(text: &[u8], rest: &[u8]) -> Outcome {
 }
 
 // What the Rust's drain answered.
-#[derive(Drop)]
+#[derive(Clone, Copy)]
 enum Recorded {
     Passes,
     IllFormed { row: u32, cause: u32 },

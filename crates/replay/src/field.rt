@@ -4,7 +4,7 @@ ghost use Rattle.std.specs.Prelude.{◌≤◌, ◌≡◌, length};
 use check::same;
 
 // How many bytes a field stands for, or that it is not one.
-#[derive(Drop)]
+#[derive(Clone, Copy)]
 pub enum Decoded {
     Length(usize),
     Malformed,
@@ -79,7 +79,7 @@ pub fn bytes(field: &[u8], out: &mut [u8]) -> Decoded {
 }
 
 // A number, or that there is none.
-#[derive(Drop)]
+#[derive(Clone, Copy)]
 pub enum Number {
     Value(u32),
     Malformed,
@@ -135,7 +135,7 @@ pub fn numbers(field: &[u8], out: &mut [u32]) -> Decoded {
 }
 
 // A field of a line: its bytes stand from one place up to another.
-#[derive(Drop)]
+#[derive(Clone, Copy)]
 pub struct Word {
     pub from: usize,
     pub to: usize,

@@ -13,7 +13,7 @@ use answer::Outcome;
 use libc::{STDIN_FILENO, STDOUT_FILENO};
 
 // How far the replay is: the lines of each kind, the bytes held of the line that is being read, and whether there may be more to read.
-#[derive(Drop)]
+#[derive(Clone, Copy)]
 struct Progress {
     unescape: u64,
     validate: u64,

@@ -22,7 +22,7 @@ const FAILED: u32 = 4;
 const REFERENCE: u32 = 7;
 
 // What is asked of a reading by a sheet, beside the table and the sheet.
-#[derive(Drop)]
+#[derive(Clone, Copy)]
 struct Asked {
     end: u32,
     flags: u32,

@@ -12,28 +12,28 @@ use decode::piece::Piece;
 use refusal::Refusal;
 
 // What reading a boolean answers.
-#[derive(Drop)]
+#[derive(Clone, Copy)]
 pub enum Boolean {
     Is(bool),
     Refused(Refusal),
 }
 
 // What reading an integer answers.
-#[derive(Drop)]
+#[derive(Clone, Copy)]
 pub enum Integer {
     Is(i32),
     Refused(Refusal),
 }
 
 // What reading a text into a lent buffer answers: how many bytes were written at its front.
-#[derive(Drop)]
+#[derive(Clone, Copy)]
 pub enum Copied {
     Length(usize),
     Refused(Refusal),
 }
 
 // What a search for a part of the body answers.
-#[derive(Drop)]
+#[derive(Clone, Copy)]
 pub enum Finding {
     Part(Piece),
     Refused(Refusal),

@@ -31,7 +31,7 @@ use xml::Drained;
 
 // What a row of the content of an element does to its text: it is a text; it is a start, which is refused; it ends the element; or the text
 // goes on after it at a depth.
-#[derive(Drop)]
+#[derive(Clone, Copy)]
 enum Turn {
     Text,
     Element,

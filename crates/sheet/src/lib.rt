@@ -3,5 +3,5 @@
 #![tactic(auto)]
 
 // The depth of shapes, the deserializer's `depth`, given with each call. The depth of elements is another counter, and another type.
-#[derive(Drop)]
+#[derive(Clone, Copy)]
 pub struct ShapeDepth(pub u32);

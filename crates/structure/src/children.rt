@@ -25,7 +25,7 @@ use table::field;
 use table::number::{LOCAL, VALUE};
 
 // What was taken of the children so far: what is written, and how many are kept; or a refusal.
-#[derive(Drop)]
+#[derive(Clone, Copy)]
 pub enum Taken {
     Done(Written, usize),
     Refused(Refusal, Written),

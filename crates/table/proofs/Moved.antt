@@ -110,9 +110,10 @@ module _ (body : List ℕ) (s n : ℕ) {p : Place} {r : Row} {rest : List Row} (
 -- positions never fall in a front of the rows
 pub last_taken : {body : List ℕ} {p : Place} {rows : List Row} → EachRow body p rows → (c : ℕ)
     → p.position ≤ last_position p.position (take c rows)
-last_taken t zero = omega arith
-last_taken none (suc c) = omega arith
-last_taken (row o t) (suc c) = let x = last_taken t c in omega (arith, o.position_rises)
+last_taken {body = body} {p = p} t zero = omega arith
+last_taken {body = body} {p = p} none (suc c) = omega arith
+last_taken {body = body} {p = p} (row {r = r} {rest = rest} o t) (suc c) =
+    let x = last_taken {body = body} {p = after p r} t c in omega (arith, o.position_rises)
 
 -- the first c rows, in a piece that holds them, stand for the same tokens as in the body
 pub moved_toks : (body : List ℕ) (s n c : ℕ) {p : Place} {rows : List Row} → EachRow body p rows → s ≤ p.position

@@ -1,6 +1,7 @@
 // The rows of a token table, the token that each stands for, and the table rules, with one test that is their conjunction.
 // It rests on `lists`, and on `utf8` for the rule on the body.
 #![tactic(auto)]
+
 ghost use Rattle.std.specs.Prelude.{◌≡◌, [], ◌∷◌, ◌+◌, ◌-◌, ◌*◌, ◌≤◌, ◌<◌, ◌^◌, length, get_or};
 ghost use Rattle.lists.specs.Decide.{is_yes, Says};
 ghost use Rattle.table.specs.Rules.{may_be_in_tag, among, uses_name, uses_value, open_count, at_first};
@@ -274,7 +275,7 @@ fn open_order(kind: usize, nesting: usize, rooted: bool) -> bool
 
 // What the rows before have come to: the last position, whether a start tag is not ended, how many elements are open, whether the root has
 // begun.
-#[derive(Drop)]
+#[derive(Clone, Copy)]
 struct Place {
     position: usize,
     in_tag: bool,

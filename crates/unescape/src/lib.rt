@@ -2,6 +2,7 @@
 // What both answer is defined in `reference`; the crate rests on it, on `utf8` for the bytes of a character and on `slices` for runs of
 // plain bytes; specs/ has the laws of the loops.
 #![tactic(auto)]
+
 ghost use Rattle.std.specs.Prelude.{◌≡◌, false, eqb, ◌+◌, ◌-◌, ◌≤◌, ◌<◌, length, get_or, drop};
 ghost use Rattle.reference.specs.Number.{digit, digits};
 ghost use Rattle.reference.specs.Entity.{numeric, reader, xml_char, allowed};

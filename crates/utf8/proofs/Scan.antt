@@ -1,6 +1,6 @@
 -- Laws for `is_utf8`: the invariants of its loops, and one law for each way through its functions.
 use Prim.Native.Nat.{ℕ, zero, suc, ◌+◌, ◌-◌, ◌^◌, ◌≤◌, ◌<◌}
-use mathlib.Core.Path.{◌≡◌, refl, sym, ◌∙◌}
+use mathlib.Core.Path.{◌≡◌, refl, sym, ◌∙◌, ap}
 use mathlib.Core.Bool.{Bool, true, false}
 use mathlib.Core.List.{List, [], ◌∷◌, Memᴰ}
 use native.Mathlib.Numerals.{add-one}
@@ -185,7 +185,7 @@ module _ {s : List ℕ} {at : ℕ} (h : at < length s) where
   char_of_lem rs {t} {r} e p q = go t p q
     where
       step : walk [] (drop at s) ≡ walk rs (drop (at + 1) s)
-      step = rw (add-one at, drop-cons s at 0 h, e, walk)
+      step = rw (drop-cons s at 0 h, e, walk) (ap (λ (k : ℕ). walk rs (drop k s)) (sym (add-one at)))
 
       go : (t : Bool) → Follow rs s (at + 1) t → r ≡ pick t (suc (length rs)) 0 → CharLen s at r
       go true p q =

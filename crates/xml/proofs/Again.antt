@@ -1,6 +1,6 @@
 -- A part of the grammar does not depend on what follows it: the same rows with another rest are the same part.
 use Prim.Native.Nat.{ℕ, suc, ◌+◌}
-use mathlib.Core.Path.{◌≡◌, refl}
+use mathlib.Core.Path.{◌≡◌, refl, ap, ◌∙◌}
 use mathlib.Core.List.{List, ◌∷◌, ◌++◌}
 use native.Mathlib.Omega.{arith}
 use lib.ListN.{length}
@@ -42,7 +42,7 @@ mutual
   pub same_content : {l r : List Tok} (c : Content l r) → again_content c r ≡ l
   same_content no_content = refl
   same_content (between_tags e c) = rw (same_content c)
-  same_content (child e c) = rw (same_content c, same_element e)
+  same_content (child e c) = ap (again_element e) (same_content c) ∙ same_element e
 
 -- with another rest it is the same part
 pub is_attributes : {s : List Name} {l r : List Tok} (a : Attributes s l r) (q : List Tok) → Attributes s (again_attributes a q) q
@@ -79,7 +79,7 @@ mutual
   pub append_content : {l r : List Tok} (c : Content l r) (p q : List Tok) → again_content c (p ++ q) ≡ again_content c p ++ q
   append_content no_content p q = refl
   append_content (between_tags e c) p q = rw (append_content c p q)
-  append_content (child e c) p q = rw (append_content c p q, append_element e (again_content c p) q)
+  append_content (child e c) p q = ap (again_element e) (append_content c p q) ∙ append_element e (again_content c p) q
 
 -- how many they are
 pub length_attributes : {s : List Name} {l r : List Tok} (a : Attributes s l r) (k : ℕ) (q : List Tok)

@@ -3,7 +3,7 @@
 #![tactic(auto)]
 
 // Why a body is ill-formed (01, "Drain").
-#[derive(Drop)]
+#[derive(Clone, Copy)]
 pub enum Cause {
     TokenError,
     MismatchedEnd,
@@ -13,7 +13,7 @@ pub enum Cause {
 }
 
 // What the drain answers: passes, or 01's number 1, Table, or 9, IllFormed, with the first failing row and its cause.
-#[derive(Drop)]
+#[derive(Clone, Copy)]
 pub enum Drained {
     Passes,
     Table,

@@ -18,7 +18,7 @@ pub loop-k-smaller : goal.loop-k-smaller
 loop-k-smaller c = search block_laws
 
 pub loop-k-preserved : goal.loop-k-preserved
-loop-k-preserved c = ⊎_elim (λ w. search block_laws) (λ w. search block_laws) c.if-b-most.branch
+loop-k-preserved c = search block_laws
 
 pub returns : goal.returns
 returns c = search block_laws
