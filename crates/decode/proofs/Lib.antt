@@ -12,4 +12,3 @@ pub mod Seeking
 pub mod Attributes
 pub mod Pieces
 pub mod Texts
-pub mod Readers

@@ -10,7 +10,7 @@ use lib.Dec.{leb}
 use lib.ListN.{length, get_or, take}
 use Rattle.lists.proofs.Tests.{false_true}
 use Rattle.table.specs.Row.{Row, toks_of, rows_of}
-use Rattle.table.specs.Rules.{Place, RowRules, EachRow}
+use Rattle.table.specs.Rules.{Place, RowRules, EachRow, after}
 use Rattle.table.proofs.Test.{first}
 use Rattle.table.specs.Flat.{row_at, rows_from}
 use Rattle.table.proofs.Flat.{length_rows, rows_same, rows_whole}
@@ -58,32 +58,33 @@ module _ (body t : List ℕ) where
   pub error_at_lem : {p : Place} (s m : ℕ) → EachRow body p (rows_from t s (suc m)) → is_error (tok_at body t (s + m)) ≡ true
       → error_at (toks_of body (rows_from t s (suc m))) ≡ some m
   unfolding error_at
-  error_at_lem s zero e q = let z : s + 0 ≡ s = omega arith in rw (rw z at q)
-  error_at_lem s (suc m) e q =
+  error_at_lem {p = p} s zero e q = let z : s + 0 ≡ s = omega arith in rw (rw z at q)
+  error_at_lem {p = p} s (suc m) e q =
       let z : s + suc m ≡ suc s + m = omega arith in
-      rw (error_early s m e, error_at_lem (suc s) m (first e).1 (rw z at q))
+      rw (error_early s m e, error_at_lem {p = after p (row_at t s)} (suc s) m (first e).1 (rw z at q))
 
   pub error_none : {p : Place} (s m : ℕ) → EachRow body p (rows_from t s (suc m)) → is_error (tok_at body t (s + m)) ≡ false
       → error_at (toks_of body (rows_from t s (suc m))) ≡ none
   unfolding error_at
-  error_none s zero e q = let z : s + 0 ≡ s = omega arith in rw (rw z at q)
-  error_none s (suc m) e q =
+  error_none {p = p} s zero e q = let z : s + 0 ≡ s = omega arith in rw (rw z at q)
+  error_none {p = p} s (suc m) e q =
       let z : s + suc m ≡ suc s + m = omega arith in
-      rw (error_early s m e, error_none (suc s) m (first e).1 (rw z at q))
+      rw (error_early s m e, error_none {p = after p (row_at t s)} (suc s) m (first e).1 (rw z at q))
 
   error_last_lem : {p : Place} (m s k : ℕ) → EachRow body p (rows_from t s m) → s ≤ k → k < s + m → is_error (tok_at body t k) ≡ true
       → s + m ≤ k + 1
-  error_last_lem zero s k e l u q = absurd (omega arith)
-  error_last_lem (suc zero) s k e l u q = omega arith
-  error_last_lem (suc (suc m)) s k e l u q = go (leb (suc s) k) refl (λ h. error_last_lem (suc m) (suc s) k (first e).1 h (omega arith) q)
+  error_last_lem {p = p} zero s k e l u q = absurd (omega arith)
+  error_last_lem {p = p} (suc zero) s k e l u q = omega arith
+  error_last_lem {p = p} (suc (suc m)) s k e l u q =
+      go (leb (suc s) k) refl (λ h. error_last_lem {p = after p (row_at t s)} (suc m) (suc s) k (first e).1 h (omega arith) q)
     where
       go : (b : Bool) → leb (suc s) k ≡ b → (suc s ≤ k → suc s + suc m ≤ k + 1) → s + suc (suc m) ≤ k + 1
       go true z f = omega (arith, f (leb-true (suc s) k z))
       go false z f = let y : k ≡ s = omega (arith, leb-false (suc s) k z) in false_true (sym (error_early s m e) ∙ rw y at q)
 
   pub rules_at : {p : Place} (m s k : ℕ) → EachRow body p (rows_from t s m) → s ≤ k → k < s + m → RulesAt body t k
-  rules_at zero s k e l u = absurd (omega arith)
-  rules_at {p} (suc m) s k e l u = go (leb (suc s) k) refl (λ h. rules_at m (suc s) k (first e).1 h (omega arith))
+  rules_at {p = p} zero s k e l u = absurd (omega arith)
+  rules_at {p = p} (suc m) s k e l u = go (leb (suc s) k) refl (λ h. rules_at {p = after p (row_at t s)} m (suc s) k (first e).1 h (omega arith))
     where
       here : RulesAt body t s
       here = record { place = p; rest = rows_from t (suc s) m; rules = (first e).0 }

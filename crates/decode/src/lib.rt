@@ -2,6 +2,7 @@
 // scopes, start elements, texts and pieces. What they answer is defined in `xml` (the drain) and in `document`; the crate rests on `table`
 // for the rows and their rules, on `unescape` for references and on `slices`.
 #![tactic(auto)]
+
 pub mod drain;
 pub mod name;
 pub mod piece;

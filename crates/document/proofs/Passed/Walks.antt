@@ -149,15 +149,21 @@ module _ (past : Child → Reader) (goes : PastElements past) (own : Depth) (n :
   level_done f k r = rw (eq-eqb own.0 own.0 refl, name_same n)
 
   -- in the content of an element the level is the grammar's, and ends at the element's end tag
-  pub level_content : {l r : List Tok} (c : Content l (close n ∷ r)) (f k : ℕ) → count c < f
+  level_within : {l q r : List Tok} (c : Content l q) → q ≡ close n ∷ r → (f k : ℕ) → count c < f
       → level f past (element own n) (reader (deeper own) k l) ≡ as_level c (deeper own) k (shut (reader own (suc (past_content c k)) r))
   unfolding level as_level count past_element
-  level_content c zero k h = absurd (omega (arith, h))
-  level_content {r = r} no_content (suc f) k h = level_done f k r
-  level_content (between_tags e c) (suc f) k h = level_content c (suc f) (suc k) h
-  level_content {r = r} (child x c) (suc f) k h =
+  level_within no_content e zero k h = absurd (omega (arith, h))
+  level_within {r = r} no_content e (suc f) k h = rw e (level_done f k r)
+  level_within (between_tags b c) e zero k h = absurd (omega (arith, h))
+  level_within (between_tags b c) e (suc f) k h = level_within c e (suc f) (suc k) h
+  level_within (child x c) e zero k h = absurd (omega (arith, h))
+  level_within (child x c) e (suc f) k h =
       level_child x f k
-      ∙ ap {B = Level} (λ t. meets (as_child x (deeper own) k) t) (level_content c f (past_element x k) (omega (arith, h)))
+      ∙ ap {B = Level} (λ t. meets (as_child x (deeper own) k) t) (level_within c e f (past_element x k) (omega (arith, h)))
+
+  pub level_content : {l r : List Tok} (c : Content l (close n ∷ r)) (f k : ℕ) → count c < f
+      → level f past (element own n) (reader (deeper own) k l) ≡ as_level c (deeper own) k (shut (reader own (suc (past_content c k)) r))
+  level_content c f k h = level_within c refl f k h
 
 -- the children of an element, by the grammar
 unfoldable pub contents : {l r : List Tok} → Content l r → Depth → ℕ → List Child

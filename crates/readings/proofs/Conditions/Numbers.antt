@@ -84,11 +84,16 @@ module _ (u : Upload) (call : Call) (room : Room) where
       → Stops call.settings call.depth shape a r → Only (1 ∷ 2 ∷ 3 ∷ 4 ∷ later shape) r
   stops_among structure a w (root_differs d) = refl
   stops_among structure a w (ill_formed_lem e) = refl
+  stops_among structure a w (no_text c t e) = elim t [ ]
   stops_among list a w (ill_formed_lem e) = refl
+  stops_among list a w (root_differs d) = elim d [ ]
+  stops_among list a w (no_text c t e) = elim t [ ]
   stops_among map a w (no_text c {r = r} t e) = text_among (text_number ((opened_text_refusal u w.begun c r).0 e).inside)
   stops_among map a w (ill_formed_lem e) = refl
+  stops_among map a w (root_differs d) = elim d [ ]
   stops_among strings a w (no_text c {r = r} t e) = text_among (text_number ((opened_text_refusal u w.begun c r).0 e).inside)
   stops_among strings a w (ill_formed_lem e) = refl
+  stops_among strings a w (root_differs d) = elim d [ ]
 
   full_among : (shape : Shape) → Only (1 ∷ 2 ∷ 3 ∷ 4 ∷ later shape) Refusal.NoRoom
   full_among structure = refl

@@ -190,6 +190,8 @@ module _ (u : Upload) (passes : drained u.body u.rows u.end ≡ Drained.Passes) 
     wanted_met map a w c (of_field b {e = entry} i h j t) =
         children_met toks entry (entries_met (entry_name call.settings a.sheet) a.opened.root (root call.sheet map a w) entry i)
         c j
+    wanted_met structure a w c x = elim x [ ]
+    wanted_met list a w c x = elim x [ ]
 
     -- where the plan stops
     stopped : (shape : Shape) (a : Asked (SheetOf shape)) → ReadOf u call.sheet shape a → {r : Refusal} {out : Output}

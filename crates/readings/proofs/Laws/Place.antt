@@ -104,6 +104,8 @@ wanted_placed u settings {strict} strings a c w (of_item b i e) =
 wanted_placed u settings {strict} map a c w (of_field b {e = entry} i h j t) =
     let x = placed u strict w in
     x.children entry (x.entries (entry_name settings a.sheet) a.opened.root x.root entry i) c j
+wanted_placed u settings structure a c w x = elim x [ ]
+wanted_placed u settings list a c w x = elim x [ ]
 
 module _ (shape : Shape) (u : Upload) (call : Call) (room : Room) where
   abbrev strictly : Bool

@@ -204,14 +204,14 @@ module _ (s : Structure) (i : ℕ) where
       go true q e ih = (c, (Memᴰ.head refl, q))
       go false q e ih = let x = ih e in (x.0, (Memᴰ.tail x.1.0, x.1.1))
 
-  has_child : (l : List Child) (c : Child) → Memᴰ c l → in_group s i c ≡ true → has_group s i l ≡ true
+  has_child : (c : Child) (l : List Child) → Memᴰ c l → in_group s i c ≡ true → has_group s i l ≡ true
   unfolding has_group
-  has_child l c (Memᴰ.head q) e = rw (← q, e)
-  has_child l c (Memᴰ.tail {x = x} m) e = go (in_group s i x) (has_child _ c m e)
+  has_child c l (Memᴰ.head q) e = rw (← q, e)
+  has_child c l (Memᴰ.tail {x = x} m) e = go (in_group s i x) (has_child c _ m e)
     where
       go : (t : Bool) {u : Bool} → u ≡ true → pick t true u ≡ true
       go true e = refl
       go false e = e
 
   pub has_group_is : (l : List Child) → (has_group s i l ≡ true) ↔ ((c : Child) × (Memᴰ c l × (in_group s i c ≡ true)))
-  has_group_is l = (a_child l, λ x. has_child l x.0 x.1.0 x.1.1)
+  has_group_is l = (a_child l, λ x. has_child x.0 l x.1.0 x.1.1)

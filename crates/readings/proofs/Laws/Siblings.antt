@@ -9,7 +9,7 @@ use Rattle.lists.specs.Bytes.{ascii}
 use Rattle.lists.specs.Tests.{pick}
 use Rattle.lists.proofs.Tests.{pick_all, pick_cases, false_true}
 use Rattle.table.specs.Row.{Row, cut, toks_of}
-use Rattle.table.specs.Rules.{Place, EachRow, none, row, last_position}
+use Rattle.table.specs.Rules.{Place, after, EachRow, none, row, last_position}
 use Rattle.table.proofs.Moved.{last_taken}
 use Rattle.table.proofs.Element.{each_take}
 use Rattle.document.specs.View.{View}
@@ -26,10 +26,11 @@ use Rattle.readings.specs.Structure.{in_group, siblings, group_of}
 -- positions never fall from one front of the rows to a longer one
 last_rises : {body : List ℕ} {p : Place} {rows : List Row} → EachRow body p rows → (k m : ℕ) → k ≤ m
     → last_position p.position (take k rows) ≤ last_position p.position (take m rows)
-last_rises e zero m h = last_taken e m
-last_rises e (suc k) zero h = absurd (omega (arith, h))
-last_rises none (suc k) (suc m) h = omega arith
-last_rises (row o t) (suc k) (suc m) h = last_rises t k m (omega (arith, h))
+last_rises {body = body} {p = p} e zero m h = last_taken e m
+last_rises {body = body} {p = p} e (suc k) zero h = absurd (omega (arith, h))
+last_rises {body = body} {p = p} none (suc k) (suc m) h = omega arith
+last_rises {body = body} {p = p} (row {r = r} {rest = rest} o t) (suc k) (suc m) h =
+    last_rises {body = body} {p = after p r} t k m (omega (arith, h))
 
 -- a child that is dropped without its end leaves no token
 dropped_leaves_none : (c : Child) → (dropped c).ended ≡ false → length (dropped c).reader.rest ≡ 0

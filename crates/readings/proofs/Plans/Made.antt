@@ -45,6 +45,7 @@ module _ {W : (ℕ → Entry) → List ℕ → Type 0} {S : Refusal → Type 0} 
   pub made_stops : {n : ℕ} {p : Plan} {out last : Output} {r : Refusal} → Made W S n p → Reaches p out (stop r) last → S r
   made_stops (made_stop s) here = s
   made_stops (made_put w t) (later u) = made_stops t u
+  made_stops {out = out} {last = last} {r = r} (made_end {n = n}) x = elim x [ ]
 
 -- ---- Q n is said of an output after at most n writes
 pub record Keeps (room : Room) (W : (ℕ → Entry) → List ℕ → Type 0) (Q : ℕ → Output → Type 0) : Type 0 where
