@@ -2,6 +2,7 @@
 // written is defined in `readings` (Output.antt, Structure.antt); each function refuses where the definition has no room, and then leaves
 // both buffers as they were. The crate rests on `unescape` and `slices` for the bytes of a text, and on `refusal` for numbers.
 #![tactic(auto)]
+
 ghost use Rattle.std.specs.Prelude.{◌≡◌, [], ◌∷◌, ◌++◌, ◌+◌, ◌*◌, ◌^◌, ◌≤◌, ◌<◌, length};
 ghost use Rattle.std.proofs.lemmas.List.Edits.{sets};
 ghost use Rattle.lists.specs.Overwrite.{Stored};
