@@ -2,6 +2,7 @@
 // a collection are wanted; and "9 last". What is answered is defined in `readings` (Opening.antt, Collection.antt); the crate rests on
 // `table` for the rules and on `decode` for the view and the root. Its proofs have the loop over the children of an element, for any step.
 #![tactic(auto)]
+
 ghost use Rattle.std.specs.Prelude.{◌≡◌};
 ghost use Rattle.table.specs.Row.{rows_of};
 ghost use Rattle.table.specs.Rules.{TableRules};
