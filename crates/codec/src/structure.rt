@@ -12,7 +12,7 @@ use crate::field::{Span, both, bytes_at, fields_at, has_bit, or_else, pair_at, w
 // ---- reading a sheet
 
 // A structure sheet that was read: the root's name, and the members in the first `count * 3` numbers.
-#[derive(Drop)]
+#[derive(Clone, Copy)]
 pub struct StructureSheet {
     pub ok: bool,
     pub unwrapped: bool,

@@ -2,5 +2,6 @@
 // `readings` (Collection.antt); the crate rests on `opening` for the children that are wanted, on `decode` for the rows, on `codec` for the
 // sheet and on `output` for what is written.
 #![tactic(auto)]
+
 pub mod list;
 pub mod string_list;

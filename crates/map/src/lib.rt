@@ -2,6 +2,7 @@
 // `readings` (Collection.antt); the crate rests on `opening` for the children that are wanted, on `decode` for the rows, on `codec` for the
 // sheet and on `output` for what is written.
 #![tactic(auto)]
+
 ghost use Rattle.sheet.specs.Names.{entry_name};
 ghost use Rattle.codec.specs.Settings.{settings_of};
 ghost use Rattle.codec.specs.Collection.{map_said, MapSaid};

@@ -2,6 +2,7 @@
 // is answered is defined in `readings` (Scalar.antt, Find.antt); the crate rests on `opening` for the table and the root, on `decode` for
 // the rows, on `unescape` for references and on `codec` for the settings. specs/Calls.antt sets out 01's number and values of each answer.
 #![tactic(auto)]
+
 pub mod calls;
 pub mod find;
 pub mod read;

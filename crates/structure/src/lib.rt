@@ -3,6 +3,7 @@
 // `readings` (Structure.antt); the crate rests on `decode` for the rows, on `codec` for the sheet, on `output` for what is written and on
 // `opening` for what is known of the root.
 #![tactic(auto)]
+
 pub mod attributes;
 pub mod children;
 pub mod groups;
