@@ -14,12 +14,14 @@ pub drop_element-past-requires : goal.drop_element-past-requires
 drop_element-past-requires c = search children_laws
 
 pub read_child-requires : goal.read_child-requires
-read_child-requires c =
-    let at = c.before in
-    let inv = at.loop.invariant in (
-      search (children_laws, at.before.before.before.before.before.before.before.before.requires, inv),
-      (search children_laws, (search children_laws, (search (children_laws, inv), search (children_laws, inv)))),
-    )
+read_child-requires c = 
+    let inv = c.loop-start.invariant in record {
+      given = search (children_laws, c.requires, inv);
+      start_in = search children_laws;
+      dropped_is = search children_laws;
+      space = search (children_laws, inv);
+      kept_room = search (children_laws, inv);
+    }
 
 pub loop-start-smaller : goal.loop-start-smaller
 loop-start-smaller c = search children_laws

@@ -24,11 +24,10 @@ loop-i-smaller-in-Done c = search groups_laws
 
 pub loop-i-preserved-in-Done : goal.loop-i-preserved-in-Done
 loop-i-preserved-in-Done c =
-    let done = c.before in
-    let turn = done.before.before.before.before.before in
-    groups_on turn.before.loop.invariant turn.loop-test.true
-    done.before.before.before.before.has-group.ensures done.before.before.before.if1.true
-    done.write-group.ensures (search groups_laws) (search groups_laws) (search groups_laws)
+    groups_on
+    c.loop-i.invariant c.loop-i-test.true
+    c.has_group.ensures c.if-has_group.true
+    c.write_group.ensures (search groups_laws) (search groups_laws) (search groups_laws)
 
 pub returns-in-Refused : goal.returns-in-Refused
 returns-in-Refused c = search groups_laws

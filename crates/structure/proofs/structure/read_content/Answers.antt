@@ -15,21 +15,13 @@ pub write_groups-requires : goal.write_groups-requires
 write_groups-requires c = record {
   kept_in = search content_laws;
   n_bound = search content_laws;
-  begins = taken_begins c.read_children.ensures
-      c.held-1.given.1;
+  begins = taken_begins c.read_children.ensures c.in-Done.is;
 }
 
 pub returns-in-Refused : goal.returns-in-Refused
 returns-in-Refused c = search content_laws
 
 pub returns-else-view : goal.returns-else-view
-returns-else-view c =
-    content_groups _ _
-    c.read_children.ensures
-    c.held-1.given.1
-    (search content_laws)
-    (search (
-      content_laws,
-      c.requires,
-    ))
+returns-else-view c = 
+    content_groups _ _ c.read_children.ensures c.in-Done.is (search content_laws) (search (content_laws, c.requires))
     c.write_groups.ensures
