@@ -1,6 +1,7 @@
 // The port of src/codec/deserializer.rs: the readings by a sheet, from what is asked first to 9 at the end. What each answers is defined in
 // `readings`.
 #![tactic(auto)]
+
 ghost use Rattle.codec.specs.Settings.{settings_of};
 ghost use Rattle.deserializer.specs.Call.{EnteredRead, SetBy, Tells, EnteredCall, ToldCall, SheetCall, SheetPlace, settings_by};
 ghost use Rattle.deserializer.specs.Call.{shape_depth, shape_of};
