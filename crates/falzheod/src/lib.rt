@@ -1,6 +1,7 @@
 // The open operations as a static library for C and Rust (include/falzheod.h, rust/): each answers 01's number, 0 where it finished.
 // It only turns the answers of the crates below into numbers; specs/ sets out the number and the values of each case.
 #![tactic(auto)]
+
 ghost use Rattle.std.specs.Prelude.{◌≡◌};
 ghost use Rattle.lists.specs.Tests.{yes_no};
 ghost use Rattle.reference.specs.Text.{validated};
