@@ -11,8 +11,7 @@ ghost use Rattle.readings.specs.Call.{uploaded, calling};
 use deserializer::{LIST, MAP, STRING_LIST, STRUCT};
 
 // The structure reading: 0, 1, 2, 3, 4, 5, 9 or 10.
-#[unsafe(no_mangle)]
-pub extern "C" fn falzheod_read_struct(
+pub fn falzheod_read_struct(
     body: &[u8],
     rows: &[u32],
     end: u32,
@@ -38,8 +37,7 @@ pub extern "C" fn falzheod_read_struct(
 }
 
 // The list reading: 0, 1, 2, 3, 4, 9 or 10. No text is written.
-#[unsafe(no_mangle)]
-pub extern "C" fn falzheod_read_list(
+pub fn falzheod_read_list(
     body: &[u8],
     rows: &[u32],
     end: u32,
@@ -65,8 +63,7 @@ pub extern "C" fn falzheod_read_list(
 }
 
 // The map reading: 0, 1, 2, 3, 4, 6, 7, 8, 9 or 10.
-#[unsafe(no_mangle)]
-pub extern "C" fn falzheod_read_map(
+pub fn falzheod_read_map(
     body: &[u8],
     rows: &[u32],
     end: u32,
@@ -96,8 +93,7 @@ pub extern "C" fn falzheod_read_map(
 }
 
 // The string list reading: 0, 1, 2, 3, 4, 6, 7, 8, 9 or 10.
-#[unsafe(no_mangle)]
-pub extern "C" fn falzheod_read_string_list(
+pub fn falzheod_read_string_list(
     body: &[u8],
     rows: &[u32],
     end: u32,

@@ -17,8 +17,7 @@ use reference::{Unescaped, Validated};
 use xml::{Cause, Drained};
 
 // 0 where each reference of the text is right, else 7; `place` is then where the first failing `&` stands in the text, else 0.
-#[unsafe(no_mangle)]
-pub extern "C" fn falzheod_validate_references(text: &[u8], place: &mut usize) -> u32
+pub fn falzheod_validate_references(text: &[u8], place: &mut usize) -> u32
     ensures validated { ValidateCall (validated text.now) place.new result }
 {
     match unescape::validate_references(text) {
@@ -35,13 +34,7 @@ pub extern "C" fn falzheod_validate_references(text: &[u8], place: &mut usize) -
 
 // Replaces each reference of the text by its character, into out: 0, 7 or 10. `length` is how many bytes of out were written, and `place`
 // where the first failing `&` stands in the text, 0 where the number is not 7.
-#[unsafe(no_mangle)]
-pub extern "C" fn falzheod_unescape(
-    text: &[u8],
-    out: &mut [u8],
-    length: &mut usize,
-    place: &mut usize,
-) -> u32
+pub fn falzheod_unescape(text: &[u8], out: &mut [u8], length: &mut usize, place: &mut usize) -> u32
     ensures unescaped { UnescapeCall text.now out.old out.new length.new
         place.new result }
 {
@@ -65,8 +58,7 @@ pub extern "C" fn falzheod_unescape(
 }
 
 // 1 where the text is well-formed UTF-8, else 0.
-#[unsafe(no_mangle)]
-pub extern "C" fn falzheod_is_utf8(text: &[u8]) -> u32
+pub fn falzheod_is_utf8(text: &[u8]) -> u32
     ensures well_formed { result ≡ yes_no (is_utf8 text.now) }
 {
     if utf8::is_utf8(text) { 1 } else { 0 }
@@ -87,8 +79,7 @@ fn cause_number(cause: Cause) -> u32
 
 // The strict drain of a body by its table: 0, 1 or 9. `row` and `cause` are the first failing row and its cause where it is 9, else 0;
 // `place` is where the failing `&` stands in the body where the cause is a reference, else 0.
-#[unsafe(no_mangle)]
-pub extern "C" fn falzheod_drain(
+pub fn falzheod_drain(
     body: &[u8],
     rows: &[u32],
     end: u32,

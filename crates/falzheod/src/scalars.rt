@@ -15,24 +15,21 @@ use scalar::calls::{
 use sheet::ShapeDepth;
 
 // The boolean that a text spells: 0 or 11.
-#[unsafe(no_mangle)]
-pub extern "C" fn falzheod_text_boolean(text: &[u8], value: &mut u32) -> u32
+pub fn falzheod_text_boolean(text: &[u8], value: &mut u32) -> u32
     ensures value { BooleanCall (boolean_of text.now) value.old value.new result }
 {
     give_boolean(scalar::text::boolean_of(text), value)
 }
 
 // The integer that a text spells: 0 or 12.
-#[unsafe(no_mangle)]
-pub extern "C" fn falzheod_text_integer(text: &[u8], value: &mut i32) -> u32
+pub fn falzheod_text_integer(text: &[u8], value: &mut i32) -> u32
     ensures value { IntegerCall (integer_of text.now) value.old value.new result }
 {
     give_integer(scalar::text::integer_of(text), value)
 }
 
 // A text as a string: 0 or 10.
-#[unsafe(no_mangle)]
-pub extern "C" fn falzheod_text_string(text: &[u8], out: &mut [u8], length: &mut usize) -> u32
+pub fn falzheod_text_string(text: &[u8], out: &mut [u8], length: &mut usize) -> u32
     ensures value { StringCall (string_in (size_of out.old) text.now) out.old out.new
         length.new result }
 {
@@ -40,8 +37,7 @@ pub extern "C" fn falzheod_text_string(text: &[u8], out: &mut [u8], length: &mut
 }
 
 // The boolean of a body: 0, 1, 4, 6, 7, 8, 9 or 11. The maximum depth is not asked.
-#[unsafe(no_mangle)]
-pub extern "C" fn falzheod_read_boolean(
+pub fn falzheod_read_boolean(
     body: &[u8],
     rows: &[u32],
     end: u32,
@@ -62,8 +58,7 @@ pub extern "C" fn falzheod_read_boolean(
 }
 
 // The integer of a body: 0, 1, 4, 6, 7, 8, 9 or 12.
-#[unsafe(no_mangle)]
-pub extern "C" fn falzheod_read_integer(
+pub fn falzheod_read_integer(
     body: &[u8],
     rows: &[u32],
     end: u32,
@@ -84,8 +79,7 @@ pub extern "C" fn falzheod_read_integer(
 }
 
 // The string of a body: 0, 1, 4, 6, 7, 8, 9 or 10.
-#[unsafe(no_mangle)]
-pub extern "C" fn falzheod_read_string(
+pub fn falzheod_read_string(
     body: &[u8],
     rows: &[u32],
     end: u32,
@@ -107,8 +101,7 @@ pub extern "C" fn falzheod_read_string(
 }
 
 // The part of a body that has the name: 0, 1 or 13. Start and length are 0 where it is refused.
-#[unsafe(no_mangle)]
-pub extern "C" fn falzheod_find(
+pub fn falzheod_find(
     body: &[u8],
     rows: &[u32],
     end: u32,
@@ -127,8 +120,7 @@ pub extern "C" fn falzheod_find(
 }
 
 // The whole text of a body: 0, 1, 4, 6, 9 or 10.
-#[unsafe(no_mangle)]
-pub extern "C" fn falzheod_whole_text(
+pub fn falzheod_whole_text(
     body: &[u8],
     rows: &[u32],
     end: u32,
