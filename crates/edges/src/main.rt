@@ -4,15 +4,18 @@
 // paper's order; then readings, with their entries and texts, and integers. `stdout` has what the paper expects, written by hand from the
 // paper and from change request 1, and the check compares. It rests on `unescape` and `falzheod`.
 #![tactic(auto)]
+
 mod bodies;
 mod show;
 
 use bodies::readings;
 use falzheod::falzheod_drain;
-use libc::STDOUT_FILENO;
 use reference::{Unescaped, Validated};
 use show::integer_edge;
 use unescape::{unescape, validate_references};
+
+// Standard output, as the system numbers it.
+const STDOUT_FILENO: i32 = 1;
 
 fn wide(b: u8) -> u64 {
     b as u64

@@ -1,8 +1,8 @@
 // Readings of a body at the edges, each a line: the body, the operation, the flags and the depth where they are not 0, the number, the
 // place beside a 7, and each entry as its six numbers, with the texts behind them.
+use crate::STDOUT_FILENO;
 use falzheod::aggregates::{falzheod_read_list, falzheod_read_map, falzheod_read_struct};
 use falzheod::scalars::falzheod_text_integer;
-use libc::STDOUT_FILENO;
 
 // Entries and texts as they were lent, and what came of it.
 #[derive(Clone, Copy)]

@@ -34,19 +34,19 @@ use Rattle.import.proofs.Rows.{few_rows_lem, row_is, piece_table, copied}
 -- ---- one piece
 module _ {t : List ℕ} {place : ℕ} {old new : List ℕ} {n : ℕ} (o : OwnRows t place old new n) {body : List ℕ} {end : ℕ}
     (passed : Passes (uploaded body t end)) where
-  rules : TableRules body t end
-  rules = ((drained_document_is body t end).0 passed.is).0
+  table_rules : TableRules body t end
+  table_rules = ((drained_document_is body t end).0 passed.is).0
 
   module _ (wide : 65536 ≤ length old) where
     room : closing 0 (rows_from t o.row (length t / 8 - o.row)) ≤ length old / 8
     room =
         let low = closing_low 0 (rows_from t o.row (length t / 8 - o.row)) in
-        omega (arith, low, length_rows t o.row (length t / 8 - o.row), few_rows_lem rules)
+        omega (arith, low, length_rows t o.row (length t / 8 - o.row), few_rows_lem table_rules)
 
     own_small : n ≤ 8192
     own_small =
         let low = closing_low 0 (rows_from t o.row (length t / 8 - o.row)) in
-        omega (arith, (o.fit room).0, low, length_rows t o.row (length t / 8 - o.row), few_rows_lem rules)
+        omega (arith, (o.fit room).0, low, length_rows t o.row (length t / 8 - o.row), few_rows_lem table_rules)
 
     pub own_product : n * 8 < 2 ^ 64
     own_product = omega (arith, own_small)
@@ -59,11 +59,11 @@ module _ {t : List ℕ} {place : ℕ} {old new : List ℕ} {n : ℕ} (o : OwnRow
     -- the table that is lent is that of the element's rows
     own_table : {row len : ℕ} → PieceAt body t row place len → part new 0 (n * 8) ≡ table_of (piece_rows body (element_rows (rows_of t) row))
     own_table {row} p =
-        let z : o.row ≡ row = row_is rules p.element o.first in
+        let z : o.row ≡ row = row_is table_rules p.element o.first in
         let y : n * 8 - 0 ≡ n * 8 = omega arith in
         let c = copied old t place o.row n (omega (arith, (o.fit room).0, room)) in
         let front : part new 0 (n * 8) ≡ moved_table place (rows_from t o.row n) = rw (y, (o.fit room).1) c in
-        front ∙ (rw ((o.fit room).0, z) (piece_table rules p.element))
+        front ∙ (rw ((o.fit room).0, z) (piece_table table_rules p.element))
 
     module _ {len from size : ℕ} (x : ElementPiece body t place len) (a : from ≡ place) (b : size ≡ len) where
       bytes : part body from (from + size) ≡ cut body place len

@@ -3,11 +3,14 @@
 // each core read as a structure, and then the same upload cut after its first core, of which nothing is handed on. It rests on
 // `falzheod`, `deserializer` and `element`.
 #![tactic(auto)]
+
 mod pieces;
 
-use libc::STDOUT_FILENO;
 use pieces::import;
 use scalar::find::find;
+
+// Standard output, as the system numbers it.
+const STDOUT_FILENO: i32 = 1;
 
 // The rows of <cores><core><id>7</id></core><core/></cores>, eight numbers each.
 const ROWS: [u32; 96] = [

@@ -5,12 +5,17 @@
 // cannot read, so its output is the expected one only where all agree. It rests on `unescape` and `falzheod`, and on the recording being
 // the Rust's; that the input is read as it stands rests on the system's calls.
 #![tactic(auto)]
+
 mod answer;
 mod field;
 mod reading;
 
 use answer::Outcome;
-use libc::{STDIN_FILENO, STDOUT_FILENO};
+
+// Standard input and output, as the system numbers them.
+const STDIN_FILENO: i32 = 0;
+
+const STDOUT_FILENO: i32 = 1;
 
 // How far the replay is: the lines of each kind, the bytes held of the line that is being read, and whether there may be more to read.
 #[derive(Clone, Copy)]
@@ -115,8 +120,7 @@ fn take_bytes(line: &mut [u8], p: Progress, bytes: &[u8]) -> Progress {
 // Reads once. A read that fails ends the input, and the counts then show that answers are missing.
 fn take_some(line: &mut [u8], p: Progress) -> Progress {
     let mut chunk = io::large_buffer();
-    let got = libc::read(STDIN_FILENO, &mut chunk);
-    let n = io::count(got, &chunk);
+    let n = io::read_full(STDIN_FILENO, &mut chunk);
     let mut next = take_bytes(line, p, &chunk[..n]);
     next.is_open = n > 0;
     next
