@@ -1,4 +1,3 @@
-use mathlib.Core.Logic.{⊎_elim}
 use Rattle.utf8.proofs.Scan.{block_laws}
 use Rattle.utf8.proofs.ascii_block.Goals as goal
 
