@@ -12,7 +12,7 @@ use lib.ListN.{length}
 use Rattle.lists.specs.Tests.{pick}
 use Rattle.lists.proofs.Tests.{false_true, flags}
 use Rattle.lists.specs.Bytes.{ascii, sameb}
-use Rattle.sheet.specs.Front.{front, broken, then, where_holds, bit_map, bit, name_if, all}
+use Rattle.sheet.specs.Front.{front, then, where_holds, bit_map, bit, name_if, all}
 use Rattle.sheet.specs.Sheet.{item_if, only_with, list_of, value_if, map_of}
 use Rattle.sheet.specs.Sheet as sheet
 use Rattle.sheet.specs.Names.{or_else, named_item, value_name_of, aggregate_of}

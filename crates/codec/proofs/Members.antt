@@ -19,7 +19,6 @@ use Rattle.sheet.specs.Sheet as defined
 use Rattle.codec.specs.declared.field.Span.{Span}
 use Rattle.codec.specs.declared.field.MarkedPair.{MarkedPair}
 use Rattle.codec.specs.declared.structure.Count.{Count}
-use Rattle.codec.specs.declared.structure.Member.{Member}
 use Rattle.codec.specs.Field.{OrElse, Named, named_by, fields_of, FieldsRead}
 use Rattle.codec.specs.Structure.{nameless, member_in, MemberAt, MembersAt, count_of}
 use Rattle.codec.specs.Structure.{CountRead, Storable, MembersRead}

@@ -10,7 +10,7 @@ use lib.Dec.{ltb}
 use lib.ListN.{length, get_or, length-append}
 use Rattle.refusal.specs.declared.Refusal.{Refusal}
 use Rattle.table.specs.Row.{Row, tok_as, toks_of, rows_of}
-use Rattle.table.specs.Rules.{row, TableRules}
+use Rattle.table.specs.Rules.{TableRules}
 use Rattle.table.specs.Flat.{rows_from}
 use Rattle.table.proofs.Flat.{length_rows, rows_whole}
 use Rattle.xml.specs.declared.Cause.{Cause}

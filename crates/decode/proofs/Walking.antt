@@ -20,7 +20,7 @@ use Rattle.reference.specs.Text.{validated}
 use Rattle.reference.specs.declared.Validated.{Validated}
 use Rattle.table.specs.Row.{Row, Name, Tok, references_in, bad, toks_of, rows_of}
 use Rattle.table.proofs.Classes.{Kind, of_start, of_attr, of_gt, of_close, of_slash, of_matter, of_error, kind_of_lem}
-use Rattle.table.specs.Rules.{closes_element, ends_tag, in_tag_only, may_be_in_tag, open_count, Place, at_first, after, RowRules, EachRow, row}
+use Rattle.table.specs.Rules.{closes_element, ends_tag, in_tag_only, may_be_in_tag, open_count, Place, at_first, after, RowRules, EachRow}
 use Rattle.table.specs.Rules.{TableRules}
 use Rattle.table.specs.Test.{dec_table}
 use Rattle.table.proofs.OrderLaws.{count_within}

@@ -7,7 +7,7 @@ use Rattle.table.specs.Row.{Tok}
 use Rattle.table.specs.Rules.{last_position}
 use Rattle.table.specs.Piece.{piece_start}
 use Rattle.document.specs.View.{View}
-use Rattle.document.specs.Reader.{Reader, reader, fresh, depth, Scope, document, element, Past, skip, StartEl, blank, Next, found}
+use Rattle.document.specs.Reader.{Reader, fresh, Scope, document, element, Past, skip, StartEl, blank, Next, found}
 use Rattle.document.specs.Reader.{gone, next}
 
 -- an element whose start tag was read, and the reader at its content

@@ -7,7 +7,7 @@ use native.Mathlib.Omega.{arith}
 use borrow.Author.Tests.{leb-true, leb-false, ltb-true, ltb-false, eqb-true, eqb-false, ne_eqb, lt-leb}
 use lib.Dec.{ltb, leb, eqb}
 use lib.ListN.{length, get_or, drop, take, length-drop, length-take}
-use Rattle.lists.specs.Tests.{pick, within}
+use Rattle.lists.specs.Tests.{pick}
 use Rattle.lists.proofs.Tests.{pick_same, false_true}
 use Rattle.lists.specs.Bytes.{ascii, sameb}
 use Rattle.lists.proofs.Bytes.{same_is}

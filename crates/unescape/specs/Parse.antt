@@ -4,7 +4,7 @@ use Rattle.lists.specs.Characters.{quote, ampersand, apostrophe, semicolon, less
 use Rattle.lists.specs.Tests.{pick}
 use Rattle.lists.specs.Bytes.{ascii}
 use Rattle.reference.specs.Number.{digits}
-use Rattle.reference.specs.Entity.{first, reader}
+use Rattle.reference.specs.Entity.{reader}
 use Rattle.reference.specs.Text.{span, sized}
 use Rattle.reference.specs.declared.Number.{Number}
 use Rattle.reference.specs.declared.Reference.{Reference}

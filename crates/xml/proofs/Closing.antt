@@ -10,7 +10,7 @@ use lib.ListN.{take, drop}
 use lib.Seq.{take-add, take_at}
 use Rattle.lists.specs.Tests.{pick, less}
 use Rattle.lists.proofs.Tests.{false_true, less_is}
-use Rattle.table.specs.Row.{Row, Name, Tok, start, Move, enters, leaves, stays, move_of, name_of, value_of, tok_of, toks_of}
+use Rattle.table.specs.Row.{Row, Name, Tok, Move, enters, leaves, stays, move_of, name_of, value_of, tok_of, toks_of}
 use Rattle.table.specs.Rules.{open_count, last_position}
 use Rattle.table.specs.Piece.{closing, is_closed, element_rows, piece_start, ElementAt}
 use Rattle.table.proofs.Classes.{Kind, of_start, of_attr, of_gt, of_close, of_slash, of_matter, of_error, kind_of_lem}

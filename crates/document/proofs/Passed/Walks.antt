@@ -9,10 +9,9 @@ use lib.ListN.{length}
 use Rattle.lists.specs.Tests.{pick}
 use Rattle.reference.specs.Xml.{EachReference}
 use Rattle.reference.specs.Text.{bytes, unescaped, meaning}
-use Rattle.reference.specs.Text as text
 use Rattle.reference.proofs.Lenient.{valid_unescapes}
 use Rattle.reference.proofs.Grammar.{validate_complete}
-use Rattle.table.specs.Row.{Name, Tok, start, close}
+use Rattle.table.specs.Row.{Name, Tok, close}
 use Rattle.xml.specs.Grammar.{Attributes, no_attribute, attribute, Element, empty_element, full_element, Content, no_content, between_tags}
 use Rattle.xml.specs.Grammar.{child}
 use Rattle.xml.proofs.Tests.{name_same}

@@ -1,5 +1,4 @@
 use Rattle.map.proofs.Entries.{entries_laws}
-use Rattle.codec.specs.Collection.{map_said}
 use Rattle.map.proofs.entries_from.Goals as goal
 
 pub loop-start-init : goal.loop-start-init

@@ -1,5 +1,4 @@
 use Rattle.map.proofs.Reading.{fields_laws}
-use Rattle.codec.specs.Collection.{map_said}
 use Rattle.map.proofs.entry.fields_from.Goals as goal
 
 pub loop-past-init : goal.loop-past-init

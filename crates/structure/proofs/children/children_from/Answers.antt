@@ -14,7 +14,7 @@ pub drop_element-past-requires : goal.drop_element-past-requires
 drop_element-past-requires c = search children_laws
 
 pub read_child-requires : goal.read_child-requires
-read_child-requires c = 
+read_child-requires c =
     let inv = c.loop-start.invariant in record {
       given = search (children_laws, c.requires, inv);
       start_in = search children_laws;

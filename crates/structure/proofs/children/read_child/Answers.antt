@@ -15,6 +15,6 @@ pub returns-in-Nothing : goal.returns-in-Nothing
 returns-in-Nothing c = search child_laws
 
 pub returns-in-At : goal.returns-in-At
-returns-in-At c = 
+returns-in-At c =
     child_member _ _ _ _ _ c.member_of.ensures (search child_laws) (search (child_laws, c.requires)) c.member_at-member.ensures
     c.read_member.ensures

@@ -22,6 +22,6 @@ pub returns-in-Refused : goal.returns-in-Refused
 returns-in-Refused c = search content_laws
 
 pub returns-else-view : goal.returns-else-view
-returns-else-view c = 
+returns-else-view c =
     content_groups _ _ c.read_children.ensures c.in-Done.is (search content_laws) (search (content_laws, c.requires))
     c.write_groups.ensures
