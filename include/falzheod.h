@@ -1,6 +1,6 @@
 /* falzheod.h: the open operations of Falzheod, an XML decoding core.
  *
- * Link libfalzheod.a, which `rt staticlib falzheod` writes to target/staticlib.
+ * Link libfalzheod.a, which `tools/archive` writes to target/staticlib.
  *
  * Platform: x86-64 Linux, with the System V calling convention. The archive links into
  * C and C++, also into static and into freestanding programs, and calls nothing from

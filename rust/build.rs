@@ -1,8 +1,8 @@
 //! Finds libfalzheod.a and has it linked.
 //!
 //! FALZHEOD_LIB_DIR is the absolute path of its directory. Without it the archive is the
-//! repository's own, target/staticlib, which `rt staticlib falzheod` writes: it is made
-//! where it is missing, and again where a file under crates/ is newer.
+//! repository's own, target/staticlib, which `tools/archive` writes: it is made where it
+//! is missing, and again where a source under crates/ is newer.
 
 use std::io;
 use std::path::{Path, PathBuf};
@@ -58,16 +58,32 @@ fn own() -> PathBuf {
         .parent()
         .expect("the package stands in the repository");
     let crates = root.join("crates");
-    println!("cargo:rerun-if-changed={}", crates.display());
+    for folder in sources(&crates).unwrap_or_default() {
+        println!("cargo:rerun-if-changed={}", folder.display());
+    }
     let directory = root.join("target").join("staticlib");
     let archive = directory.join(ARCHIVE);
     if let Some(why) = is_to_be_made(&archive, &crates) {
         make(root, why);
     }
     if !archive.is_file() {
-        stop(&format!("rt wrote no {}", archive.display()));
+        stop(&format!("tools/archive wrote no {}", archive.display()));
     }
     directory
+}
+
+/// The folders of the crates, but for those that rt writes to.
+fn sources(crates: &Path) -> io::Result<Vec<PathBuf>> {
+    let mut folders = Vec::new();
+    for of_crate in crates.read_dir()? {
+        for entry in of_crate?.path().read_dir()? {
+            let entry = entry?;
+            if entry.file_type()?.is_dir() && entry.file_name() != "out" {
+                folders.push(entry.path());
+            }
+        }
+    }
+    Ok(folders)
 }
 
 /// Why the archive has to be made, if it has to.
@@ -75,7 +91,14 @@ fn is_to_be_made(archive: &Path, crates: &Path) -> Option<&'static str> {
     let Ok(made) = archive.metadata().and_then(|about| about.modified()) else {
         return Some("is not in target/staticlib");
     };
-    match newest(crates) {
+    let changed = sources(crates).and_then(|folders| {
+        let mut newest = SystemTime::UNIX_EPOCH;
+        for folder in &folders {
+            newest = newest.max(self::newest(folder)?);
+        }
+        Ok(newest)
+    });
+    match changed {
         Ok(changed) if changed <= made => None,
         Ok(_) => Some("is older than crates/"),
         Err(error) => stop(&format!("{} is not read: {error}", crates.display())),
@@ -98,17 +121,13 @@ fn newest(directory: &Path) -> io::Result<SystemTime> {
 }
 
 fn make(root: &Path, why: &str) {
-    match Command::new("rt")
-        .args(["staticlib", "falzheod"])
-        .current_dir(root)
-        .output()
-    {
+    match Command::new(root.join("tools/archive")).output() {
         Err(error) => stop(&format!(
-            "{ARCHIVE} {why} and rt could not be run ({error}): \
-             run `rt staticlib falzheod` in the repository, or set {DIRECTORY}"
+            "{ARCHIVE} {why} and tools/archive could not be run ({error}): \
+             run `tools/archive` in the repository, or set {DIRECTORY}"
         )),
         Ok(done) if !done.status.success() => stop(&format!(
-            "{ARCHIVE} {why}, and `rt staticlib falzheod` failed:\n{}{}",
+            "{ARCHIVE} {why}, and `tools/archive` failed:\n{}{}",
             String::from_utf8_lossy(&done.stdout),
             String::from_utf8_lossy(&done.stderr)
         )),

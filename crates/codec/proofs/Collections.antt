@@ -45,7 +45,8 @@ third_is false false false = refl
 -- what a sheet's bytes say, that is made of its fields where two of its bits stand only with a third
 sheet_is : {A : Type 0} (values v w third a b : ℕ) (make : Named → A) {sheet : List ℕ} {f : MarkedPair} {ok : Bool}
     → FieldsRead sheet 0 values v w f → ok ≡ is_whole sheet f third a b
-    → all (then (bit_map values sheet) (λ n s1. where_holds (pick (only_with (bit third n) (bit a n)) (only_with (bit third n) (bit b n)) false)
+    → all (then (bit_map values sheet) (λ n s1. where_holds (pick (only_with (bit third n) (bit a n)) (only_with (bit third n) (bit b n))
+    false)
     (then (name_if (bit v n) s1) (λ x s2. then (name_if (bit w n) s2) (λ y s3. front (make (record { bits = n; names = two x y })) s3)))))
     ≡ pick ok (some (make (named_by sheet f))) none
 sheet_is values v w third a b make {sheet} {f} x e =

@@ -35,7 +35,8 @@ root_of_lem {xml} {original} {member} {shape} {r = r} x y z =
       inside = λ n h i j k. z.inside n (y.inside n h (x.inside n i j)) k;
     }
   where
-    last : (sheet : List ℕ) (o : Option (List ℕ)) → Option.get_or (or_else o (span_name sheet shape)) [] ≡ Option.get_or o (bytes_at sheet shape)
+    last : (sheet : List ℕ) (o : Option (List ℕ))
+        → Option.get_or (or_else o (span_name sheet shape)) [] ≡ Option.get_or o (bytes_at sheet shape)
     last sheet none = sym (bytes_name sheet shape)
     last sheet (some n) = refl
 

@@ -38,7 +38,8 @@ member_of f =
 
 member_is : (s : List ℕ) → member s ≡ then (fields_of 32 1 2 s) (λ f e. front (member_of f) e)
 unfolding member_of
-member_is s = fields_then 1 2 (λ b x m e. front (member_of (record { bits = b; names = record { first = x; second = m } })) e) 32 (λ b. true)
+member_is s =
+    fields_then 1 2 (λ b x m e. front (member_of (record { bits = b; names = record { first = x; second = m } })) e) 32 (λ b. true)
     s
 
 -- ---- a run of stores

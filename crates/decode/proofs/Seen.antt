@@ -84,7 +84,8 @@ module _ (body t : List ℕ) where
 
   pub rules_at : {p : Place} (m s k : ℕ) → EachRow body p (rows_from t s m) → s ≤ k → k < s + m → RulesAt body t k
   rules_at {p = p} zero s k e l u = absurd (omega arith)
-  rules_at {p = p} (suc m) s k e l u = go (leb (suc s) k) refl (λ h. rules_at {p = after p (row_at t s)} m (suc s) k (first e).1 h (omega arith))
+  rules_at {p = p} (suc m) s k e l u =
+      go (leb (suc s) k) refl (λ h. rules_at {p = after p (row_at t s)} m (suc s) k (first e).1 h (omega arith))
     where
       here : RulesAt body t s
       here = record { place = p; rest = rows_from t (suc s) m; rules = (first e).0 }

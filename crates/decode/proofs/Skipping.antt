@@ -59,7 +59,8 @@ module _ {body t : List ℕ} {n : ℕ} {s : ScopeRow} {d₀ k₀ d k : ℕ} (w :
     -- what one row does
     turned : (u : Tok) → tok_at body t k ≡ u
         → pick (ends_at (scope_at body t s) (depth_after u (depth d)) u)
-        (shut (reader (depth_after u (depth d)) (suc k) (toks_from body t n (suc k)))) (skipped body t n s (depth_after u (depth d)) (suc k))
+        (shut (reader (depth_after u (depth d)) (suc k) (toks_from body t n (suc k))))
+        (skipped body t n s (depth_after u (depth d)) (suc k))
         ≡ skipped body t n s (depth d₀) k₀
     turned u e =
         sym (skip_token (scope_at body t s) (depth d) k u (toks_from body t n (suc k)))

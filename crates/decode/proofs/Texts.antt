@@ -78,7 +78,8 @@ module _ {body t : List ℕ} {n : ℕ} {f : Failure} {s : ScopeRow} {d₀ k₀ d
         let rows = rows_from t 0 n in
         let x = first_text_token rows (failure_at f) (scope_at body t s) (depth d) k u (toks_from body t n (suc k)) in
         sym (rw begins at x)
-        ∙ (ap (first_text rows (failure_at f) (scope_at body t s) (depth d) k) (sym (rw (e, add-one k) at (toks_next body t n k h))) ∙ w.rest)
+        ∙ (ap (first_text rows (failure_at f) (scope_at body t s) (depth d) k) (sym (rw (e, add-one k) at (toks_next body t n k h)))
+        ∙ w.rest)
 
     pub text_element : kind ≡ 1 → TextIs body t (Text.Refused Refusal.ElementInText) answer
     unfolding tok_as

@@ -28,7 +28,8 @@ use Rattle.table.proofs.Test.{first}
 use Rattle.table.proofs.Pass.{obeyed}
 use Rattle.table.specs.Flat.{row_at, rows_from}
 use Rattle.table.proofs.Flat.{length_rows, rows_same, rows_whole, unroll, rolled_out, spans_in}
-use Rattle.xml.specs.Drain.{same_name, has_name, drained_by, drained, State, going, failed, with_value, with_attribute, closed, popped, step}
+use Rattle.xml.specs.Drain.{same_name, has_name, drained_by, drained, State, going}
+use Rattle.xml.specs.Drain.{failed, with_value, with_attribute, closed, popped, step}
 use Rattle.xml.specs.Drain.{walk, verdict}
 use Rattle.xml.specs.Drain.{walked}
 use Rattle.xml.specs.Passed.{names_after}
@@ -111,7 +112,8 @@ record TagAt (body t : List ℕ) (top k : ℕ) (names : List Name) : Type 0 wher
 tag_first : (body t : List ℕ) (k : ℕ) → TagAt body t k (k + 1) []
 tag_first body t k = record { before = omega arith; are = let z : k + 1 - (k + 1) ≡ 0 = omega arith in rw z }
 
-tag_more : {body t : List ℕ} {top k : ℕ} {names : List Name} → TagAt body t top k names → TagAt body t top (k + 1) (name_at body t k ∷ names)
+tag_more : {body t : List ℕ} {top k : ℕ} {names : List Name} → TagAt body t top k names
+    → TagAt body t top (k + 1) (name_at body t k ∷ names)
 tag_more {body} {t} {top} {k} at =
     let z : k + 1 - 1 ≡ k = omega arith in
     let y = names_first body t top (k + 1) (omega (arith, at.before)) in
@@ -246,7 +248,8 @@ module _ {body t : List ℕ} {n : ℕ} {starts : List ℕ} {depth k low high : �
   kind_here = kind_of_lem (get_or t (k * 8 + 0) 0) (name_at body t k) (value_at body t k)
 
   -- one step of the walk
-  stepped : walk (k + 1) (step k (stack_of body t starts depth) w.names (tok_at body t k)) (toks_of body (rows_from t (k + 1) (n - (k + 1))))
+  stepped : walk (k + 1) (step k (stack_of body t starts depth) w.names (tok_at body t k))
+      (toks_of body (rows_from t (k + 1) (n - (k + 1))))
       ≡ walk 0 (going [] []) (toks_of body (rows_of t))
   unfolding walk
   stepped =

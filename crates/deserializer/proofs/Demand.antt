@@ -23,7 +23,8 @@ use Rattle.deserializer.specs.Call.{ShapeCall, SheetCall}
 use Rattle.deserializer.specs.Demand.{MayAnswer, finished, refused, PieceEntry, defined_as, Demanded}
 
 -- ---- the numbers of the k-th entry stand at k * 6
-first_piece_lem : {u : Upload} {sheet texts : List ℕ} (y : Entry) (s : List ℕ) → Handed u sheet texts y → PieceEntry u (six_numbers y ++ s) 0
+first_piece_lem : {u : Upload} {sheet texts : List ℕ} (y : Entry) (s : List ℕ) → Handed u sheet texts y
+    → PieceEntry u (six_numbers y ++ s) 0
 first_piece_lem y s p = record { is = p.piece }
 
 later_piece : {u : Upload} (y : Entry) (s : List ℕ) (i : ℕ) → PieceEntry u s i

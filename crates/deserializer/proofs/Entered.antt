@@ -21,7 +21,8 @@ use Rattle.codec.specs.Collection.{list_said, ListSaid, ListRead, map_said, MapS
 use Rattle.readings.specs.Call.{Upload, Call, uploaded, calling}
 use Rattle.readings.specs.Output.{Room, nothing, Reading}
 use Rattle.readings.specs.Plan.{Plan, perform}
-use Rattle.readings.specs.Collection.{items_plan, list_plan, list_reading, strings_plan, string_list_plan, string_list_reading, map_plan, map_reading}
+use Rattle.readings.specs.Collection.{items_plan, list_plan, list_reading, strings_plan}
+use Rattle.readings.specs.Collection.{string_list_plan, string_list_reading, map_plan, map_reading}
 use Rattle.decode.specs.declared.reader.StartRow.{StartRow}
 use Rattle.decode.specs.declared.reader.Cursor.{Cursor}
 use Rattle.decode.specs.declared.view.View.{View}
@@ -180,7 +181,8 @@ module _ (body t : List ℕ) (final : ℕ) (sheet : List ℕ) {parsed : Structur
 pub ruleset struct_laws = (rules, asked_root, struct_said, struct_refused, struct_read)
 
 -- ---- maps
-pub map_said_lem : {body t : List ℕ} {final : ℕ} {sheet : List ℕ} {said : MapSheet} {deep strict : Bool} {r : Opening} {v : View} {s : StartRow}
+pub map_said_lem : {body t : List ℕ} {final : ℕ} {sheet : List ℕ} {said : MapSheet} {deep strict : Bool} {r : Opening} {v : View}
+    {s : StartRow}
     {c : Cursor} → MapRead sheet said
     → AskedIs body t final said.ok deep strict r → r ≡ Opening.Found v s c → MapSaid sheet said
 map_said_lem p a q = p.there (asked_ok a q)
@@ -282,22 +284,26 @@ module _ {body table : List ℕ} {final : ℕ} {sheet : List ℕ} {flags max : �
   module _ (kind : ℕ) where
     pub told_struct : kind ≡ 1 → EnteredRead Shape.Struct (uploaded body table final)
         (calling sheet (settings_of s) depth) entered e t e' t' step
-        → EnteredCall (shape_of kind) (uploaded body table final) (calling sheet (settings_by flags max) depth) entered e t e' t' lent lent' r
+        → EnteredCall (shape_of kind) (uploaded body table final) (calling sheet (settings_by flags max) depth) entered e t e' t' lent
+        lent' r
     told_struct q y = rw (eq-eqb kind 1 q) (told_call y)
 
     pub told_list : (kind ≡ 1 → ⊥) → kind ≡ 2
         → EnteredRead Shape.List (uploaded body table final) (calling sheet (settings_of s) depth) entered e t e' t' step
-        → EnteredCall (shape_of kind) (uploaded body table final) (calling sheet (settings_by flags max) depth) entered e t e' t' lent lent' r
+        → EnteredCall (shape_of kind) (uploaded body table final) (calling sheet (settings_by flags max) depth) entered e t e' t' lent
+        lent' r
     told_list o q y = rw (ne_eqb kind 1 o, eq-eqb kind 2 q) (told_call y)
 
     pub told_map : (kind ≡ 1 → ⊥) → (kind ≡ 2 → ⊥) → kind ≡ 3
         → EnteredRead Shape.Map (uploaded body table final) (calling sheet (settings_of s) depth) entered e t e' t' step
-        → EnteredCall (shape_of kind) (uploaded body table final) (calling sheet (settings_by flags max) depth) entered e t e' t' lent lent' r
+        → EnteredCall (shape_of kind) (uploaded body table final) (calling sheet (settings_by flags max) depth) entered e t e' t' lent
+        lent' r
     told_map o p q y = rw (ne_eqb kind 1 o, ne_eqb kind 2 p, eq-eqb kind 3 q) (told_call y)
 
     pub told_strings : (kind ≡ 1 → ⊥) → (kind ≡ 2 → ⊥) → (kind ≡ 3 → ⊥)
         → EnteredRead Shape.StringList (uploaded body table final) (calling sheet (settings_of s) depth) entered e t e' t' step
-        → EnteredCall (shape_of kind) (uploaded body table final) (calling sheet (settings_by flags max) depth) entered e t e' t' lent lent' r
+        → EnteredCall (shape_of kind) (uploaded body table final) (calling sheet (settings_by flags max) depth) entered e t e' t' lent
+        lent' r
     told_strings o p q y = rw (ne_eqb kind 1 o, ne_eqb kind 2 p, ne_eqb kind 3 q) (told_call y)
 
 pub ruleset told_laws = (rules, told_struct, told_list, told_map, told_strings)
@@ -306,7 +312,8 @@ pub ruleset told_laws = (rules, told_struct, told_list, told_map, told_strings)
 module _ {shape : Shape} {body table : List ℕ} {final : ℕ} {sheet : List ℕ} {settings : Settings} {depth : ShapeDepth}
     {e t e' t' lent lent' : List ℕ} {r : ℕ}
     (x : ToldCall shape (uploaded body table final) (calling sheet settings depth) e t e' t' lent lent' r) (h : 3 ≤ length lent) where
-  pub call_lent : SheetCall shape (uploaded body table final) (calling sheet settings depth) e t e' t' (get_or lent' 0 0) (get_or lent' 1 0) r
+  pub call_lent : SheetCall shape (uploaded body table final) (calling sheet settings depth) e t e' t' (get_or lent' 0 0)
+      (get_or lent' 1 0) r
   call_lent = x.reads h
 
   pub place_lent : SheetPlace shape (uploaded body table final) (calling sheet settings depth) e t (get_or lent' 2 0)

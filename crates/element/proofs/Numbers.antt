@@ -104,7 +104,8 @@ pub storing_done : {old new : List ℕ} {at : ℕ} {l : List ℕ} {j : ℕ} → 
 storing_done {l = l} s e = rw e at s.is ∙ rw (all_taken l)
 
 -- the eight of a row
-pub row_done : {old new : List ℕ} {at j : ℕ} {r : Row} → Storing old new at (eight_numbers r) j → 8 ≤ j → new ≡ sets old at (eight_numbers r)
+pub row_done : {old new : List ℕ} {at j : ℕ} {r : Row} → Storing old new at (eight_numbers r) j → 8 ≤ j
+    → new ≡ sets old at (eight_numbers r)
 row_done s a = storing_done s (omega (arith, s.few))
 
 -- ---- row after row: i of the rows from row k on
@@ -128,7 +129,8 @@ unfolding table_of
 moved_snoc place [] r = refl
 moved_snoc place (x ∷ l) r =
     let m = moved place x in
-    ap {B = List ℕ} (λ q. m.kind ∷ m.prefix_start ∷ m.prefix_len ∷ m.local_start ∷ m.local_len ∷ m.value_start ∷ m.value_len ∷ m.position ∷ q)
+    ap {B = List ℕ}
+    (λ q. m.kind ∷ m.prefix_start ∷ m.prefix_len ∷ m.local_start ∷ m.local_len ∷ m.value_start ∷ m.value_len ∷ m.position ∷ q)
     (moved_snoc place l r)
 
 pub moved_length : (place : ℕ) (t : List ℕ) (k i : ℕ) → length (moved_table place (rows_from t k i)) ≡ i * 8

@@ -136,7 +136,8 @@ module _ {t : List ℕ} {w k n : ℕ} (f : FirstAfter t w k) (c : n ≡ closing 
     pub own_none : (old : List ℕ) → length old / 8 < n → OwnRows t place old old 0
     own_none old h = record { row = k; first = rw q at f; fit = λ g. absurd (omega (arith, c)); short = λ g. (refl, refl) }
 
-    pub own_all : {old new : List ℕ} → new ≡ sets old 0 (moved_table place (rows_from t k n)) → n ≤ length old / 8 → OwnRows t place old new n
+    pub own_all : {old new : List ℕ} → new ≡ sets old 0 (moved_table place (rows_from t k n)) → n ≤ length old / 8
+        → OwnRows t place old new n
     own_all e h = record { row = k; first = rw q at f; fit = λ g. (c, e); short = λ g. absurd (omega (arith, c)) }
 
 pub own_high : {t : List ℕ} {place k : ℕ} → FirstAfter t place k → k ≤ length t / 8

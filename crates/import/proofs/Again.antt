@@ -57,7 +57,8 @@ module _ {t : List ℕ} {place : ℕ} {old new : List ℕ} {n : ℕ} (o : OwnRow
         omega (arith, l, (o.fit room).0, room)
 
     -- the table that is lent is that of the element's rows
-    own_table : {row len : ℕ} → PieceAt body t row place len → part new 0 (n * 8) ≡ table_of (piece_rows body (element_rows (rows_of t) row))
+    own_table : {row len : ℕ} → PieceAt body t row place len
+        → part new 0 (n * 8) ≡ table_of (piece_rows body (element_rows (rows_of t) row))
     own_table {row} p =
         let z : o.row ≡ row = row_is table_rules p.element o.first in
         let y : n * 8 - 0 ≡ n * 8 = omega arith in
@@ -176,7 +177,8 @@ module _ {shape : Shape} {u : Upload} {entries : List ℕ} {call : Call} {room t
           let earlier = a.done.each j (omega (arith, f)) in
           record { is = λ x y w. rw (o.others j f) (earlier.is x (rw o.long at y) w) }
 
-      rest : (j : ℕ) → (j < k + 1 → get_or entries (j * 6) 0 ≡ piece_kind → ⊥) → (b : Bool) → eqb j k ≡ b → get_or numbers' j 0 ≡ get_or before j 0
+      rest : (j : ℕ) → (j < k + 1 → get_or entries (j * 6) 0 ≡ piece_kind → ⊥) → (b : Bool) → eqb j k ≡ b
+          → get_or numbers' j 0 ≡ get_or before j 0
       rest j h true e =
           let z = eqb-true j k e in
           let f : get_or entries (k * 6) 0 ≡ piece_kind → ⊥ = rw z at (h (omega (arith, z))) in

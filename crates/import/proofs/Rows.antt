@@ -37,7 +37,8 @@ module _ (body t : List ℕ) where
 
   -- the local name of an earlier start row stands before it
   pub record Early (k i : ℕ) : Type 0 where
-    pub is : i < k → get_or t (i * 8 + 0) 0 ≡ 1 → get_or t (k * 8 + 0) 0 ≡ 1 → get_or t (i * 8 + 3) 0 ≤ last_lt body (get_or t (k * 8 + 3) 0)
+    pub is : i < k → get_or t (i * 8 + 0) 0 ≡ 1 → get_or t (k * 8 + 0) 0 ≡ 1
+        → get_or t (i * 8 + 3) 0 ≤ last_lt body (get_or t (k * 8 + 3) 0)
 
   early : (m s i k : ℕ) {p : Place} → EachRow body p (rows_from t s m) → s ≤ i → k < s + m → Early k i
   early zero s i k e l u = record { is = λ h. absurd (omega arith) }

@@ -63,7 +63,8 @@ module _ {S : Type 0} (body table : List ℕ) (final : ℕ) (settings : Settings
       go (no x) b a = refl
 
   module _ {s : S} {sheet : Option S} (e : sheet ≡ some s) where
-    pub asked_refused : {why : Refusal} → opening_of body table final true (too_deep settings depth) (is_strict settings depth) ≡ refuses why
+    pub asked_refused : {why : Refusal} → opening_of body table final true (too_deep settings depth) (is_strict settings depth)
+        ≡ refuses why
         → asked (uploaded body table final) sheet settings depth ≡ refuses why
     asked_refused q = rw e (rw q at (asked_some s))
 

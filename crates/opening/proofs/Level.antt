@@ -38,7 +38,8 @@ dropped_after y = record { same = ap (λ q. q.reader) y.is; stands = y.stands; l
 module _ (past : Child → Reader) (short : Shortens past) {body t : List ℕ} {n : ℕ} {s : ScopeRow} {c : Cursor} {r : Next}
     (x : NextIs body t n s c.depth.0 c.row r) where
   turn : level_at past body t n s c ≡ on_next past (level_from past (scope_at body t s)) (next_at body t n r)
-  turn = level_step past short (scope_at body t s) (reader_at body t n c) ∙ ap (on_next past (level_from past (scope_at body t s))) (sym x.is)
+  turn = level_step past short (scope_at body t s) (reader_at body t n c)
+      ∙ ap (on_next past (level_from past (scope_at body t s))) (sym x.is)
 
   pub level_gone : {p : Past} → r ≡ Next.Gone p → level_at past body t n s c ≡ done (past_at body t n p)
   level_gone e = rw e at turn

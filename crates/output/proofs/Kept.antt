@@ -184,7 +184,8 @@ module _ {body l : List ℕ} {i : ℕ} {t t' : List ℕ} {from at k : ℕ} (c : 
     pub copied_other : (get_or l (k * 3) 0 ≡ i → ⊥) → CopiedAt body l i t t' from at (k + 1)
     copied_other q = record { front = _; pieces = kept_other c.pieces h q; next = c.next; is = c.is; same = c.same }
 
-    module _ (q : get_or l (k * 3) 0 ≡ i) {start len : ℕ} (a : Wide (get_or l (k * 3 + 1) 0) start) (b : Wide (get_or l (k * 3 + 2) 0) len) where
+    module _ (q : get_or l (k * 3) 0 ≡ i) {start len : ℕ} (a : Wide (get_or l (k * 3 + 1) 0) start)
+        (b : Wide (get_or l (k * 3 + 2) 0) len) where
       part : List ℕ
       part = take (start + len - start) (drop start body)
 
@@ -227,7 +228,8 @@ module _ {body l : List ℕ} {i : ℕ} {t t' : List ℕ} {from at k : ℕ} (c : 
   -- the store first: it says which start and which length
   pub copied_mine : {start len : ℕ} {t'' : List ℕ} {r : ℕ} → Stored t' t'' at (take (start + len - start) (drop start body)) r
       → k < length l / 3
-      → get_or l (k * 3) 0 ≡ i → Wide (get_or l (k * 3 + 1) 0) start → Wide (get_or l (k * 3 + 2) 0) len → CopiedAt body l i t t'' from r (k + 1)
+      → get_or l (k * 3) 0 ≡ i → Wide (get_or l (k * 3 + 1) 0) start → Wide (get_or l (k * 3 + 2) 0) len
+      → CopiedAt body l i t t'' from r (k + 1)
   copied_mine s h q a b = turned h q a b s
 
 module _ {body l : List ℕ} (q : Inside body l) {k : ℕ} (h : k < length l / 3) {start len : ℕ} (a : Wide (get_or l (k * 3 + 1) 0) start)

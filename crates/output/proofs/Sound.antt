@@ -52,7 +52,8 @@ entries_count l zero = refl
 entries_count l (suc n) = ap suc (entries_count (drop 6 l) n)
 
 six_front : (l : List ℕ) (n : ℕ) (m : List ℕ) → 6 ≤ length l → m ≡ take n (drop 6 l)
-    → (get_or l 0 0 ∷ get_or l 1 0 ∷ get_or l 2 0 ∷ get_or l 3 0 ∷ get_or l 4 0 ∷ get_or l 5 0 ∷ m) ≡ take (suc (suc (suc (suc (suc (suc n)))))) l
+    → (get_or l 0 0 ∷ get_or l 1 0 ∷ get_or l 2 0 ∷ get_or l 3 0 ∷ get_or l 4 0 ∷ get_or l 5 0 ∷ m)
+    ≡ take (suc (suc (suc (suc (suc (suc n)))))) l
 six_front (a ∷ b ∷ c ∷ d ∷ e ∷ f ∷ l) n m h q = rw q
 six_front [] n m h q = absurd (omega arith)
 six_front (a ∷ []) n m h q = absurd (omega arith)
@@ -143,7 +144,9 @@ scalar_adds member from txt = record { most = go (unescaped txt) refl }
 
 pub piece_adds : (member start len : ℕ) → Adds (piece member start len) 0
 unfolding piece
-piece_adds member start len = record { most = λ room out. write_adds room (piece_entry member (record { start = start; len = len })) [] out }
+piece_adds member start len = record {
+  most = λ room out. write_adds room (piece_entry member (record { start = start; len = len })) [] out;
+}
 
 module _ {key : List ℕ} {n : ℕ} (c : Comes key n) where
   pub key_text_adds : {value : List ℕ} {m : ℕ} → Comes value m → Adds (key_text key value) (n + m)

@@ -115,7 +115,8 @@ below_next kept i = rw (add-one i)
 pub record GroupsAt (body kept : List ℕ) (n : ℕ) (e x : List ℕ) (w : Written) (e₁ x₁ : List ℕ) (w₁ : Written) (i : ℕ) : Type 0 where
   pub inside : KeptIn body kept
   pub low : i ≤ n
-  pub one : OneByOne (flat_plan body kept) (kept_from kept 0 n) (kept_from kept i (n - i)) (after_children + (below kept i + i * 17)) e x w e₁
+  pub one : OneByOne (flat_plan body kept) (kept_from kept 0 n) (kept_from kept i (n - i)) (after_children + (below kept i + i * 17)) e x
+      w e₁
       x₁ w₁
 
 pub groups_start : {body kept : List ℕ} (n : ℕ) {e x : List ℕ} {w : Written} → KeptIn body kept → Begins after_children e x w

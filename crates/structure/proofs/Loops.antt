@@ -86,7 +86,12 @@ pub record OneByOne {A : Type 0} (f : A → Plan) (all l : List A) (limit : ℕ)
 
 pub one_start : {A : Type 0} (f : A → Plan) (all : List A) {limit : ℕ} {e x : List ℕ} {w : Written} → Begins limit e x w
     → OneByOne f all all limit e x w e x w
-one_start f all {e = e} {x} {w} b = record { mid = midway_start (one_by_one f all) e x w; begins = b; same_entries = refl; same_texts = refl }
+one_start f all {e = e} {x} {w} b = record {
+  mid = midway_start (one_by_one f all) e x w;
+  begins = b;
+  same_entries = refl;
+  same_texts = refl;
+}
 
 module _ {A : Type 0} {f : A → Plan} {all : List A} {limit : ℕ} {e x : List ℕ} {w : Written} {e₁ x₁ : List ℕ}
     {w₁ : Written} where

@@ -99,7 +99,8 @@ module _ (body t : List ℕ) (k : ℕ) {low at i : ℕ} (e : at ≡ get_or t (k 
     pub begins_bare : {n : ℕ} → n ≡ get_or t (k * 8 + 2) 0 → n ≡ 0 → Says (Begins body low t k) true
     begins_bare f z = says_yes (begins (λ h. absurd (omega arith)))
 
-    pub begins_before : {n m : ℕ} → n ≡ get_or t (k * 8 + 2) 0 → (n ≡ 0 → ⊥) → m ≡ get_or t (k * 8 + 1) 0 → Says (Begins body low t k) (ltb i m)
+    pub begins_before : {n m : ℕ} → n ≡ get_or t (k * 8 + 2) 0 → (n ≡ 0 → ⊥) → m ≡ get_or t (k * 8 + 1) 0
+        → Says (Begins body low t k) (ltb i m)
     begins_before {n} {m} f z g =
         let h : 0 < get_or t (k * 8 + 2) 0 = omega (arith, filled n z) in
         says_same (λ q. begins (λ o. omega arith)) (λ b. rw (place, g) (b.prefix h)) (says_ltb i m)

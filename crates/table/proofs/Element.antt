@@ -197,6 +197,7 @@ module _ {body : List ℕ} {rows : List Row} {final k place : ℕ} (g : Rules bo
       some = omega (arith, ap length a.cut_at, length_dropped k rows)
 
   -- its rows, counted from its first byte, stand for the same tokens over the piece
-  pub piece_toks : toks_of (piece_bytes body (element_rows rows k)) (piece_rows body (element_rows rows k)) ≡ toks_of body (element_rows rows k)
+  pub piece_toks : toks_of (piece_bytes body (element_rows rows k)) (piece_rows body (element_rows rows k))
+      ≡ toks_of body (element_rows rows k)
   piece_toks = rw (element_is rows k a.cut_at a.starts)
       (element_toks body (end - begin) (closing 1 a.rest) each.1 a.starts (omega (arith, bytes.rises)))

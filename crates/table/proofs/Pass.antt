@@ -232,7 +232,10 @@ module _ (body t : List ℕ) (final : ℕ) where
 
       pub obeys_empty : length t / 8 ≡ 0 → true ≡ is_yes (dec_table body t final)
       obeys_empty z =
-          says_is (dec_table body t final) (says_yes (whole (λ h. absurd (omega arith)) (rw z (record { each = none; ends = omega arith }))))
+          says_is (dec_table body t final) (says_yes (whole (λ h. absurd (omega arith)) (rw z (record {
+            each = none;
+            ends = omega arith;
+          }))))
 
       pub obeys_other : {u : Bool} → (length t / 8 ≡ 0 → ⊥) → u ≡ is_utf8 body → u ≡ false → false ≡ is_yes (dec_table body t final)
       obeys_other f g n =

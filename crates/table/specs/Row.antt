@@ -24,7 +24,16 @@ rows_of (a ∷ b ∷ c ∷ d ∷ e ∷ []) = []
 rows_of (a ∷ b ∷ c ∷ d ∷ e ∷ f ∷ []) = []
 rows_of (a ∷ b ∷ c ∷ d ∷ e ∷ f ∷ g ∷ []) = []
 rows_of (a ∷ b ∷ c ∷ d ∷ e ∷ f ∷ g ∷ h ∷ l) =
-    record { kind = a; prefix_start = b; prefix_len = c; local_start = d; local_len = e; value_start = f; value_len = g; position = h } ∷ rows_of l
+    record {
+      kind = a;
+      prefix_start = b;
+      prefix_len = c;
+      local_start = d;
+      local_len = e;
+      value_start = f;
+      value_len = g;
+      position = h;
+    } ∷ rows_of l
 
 -- the flat table of some rows: eight numbers a row
 unfoldable pub table_of : List Row → List ℕ

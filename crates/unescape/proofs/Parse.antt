@@ -435,7 +435,8 @@ named_spelt s =
             pass false p = h
 
 -- ---- names by their bytes: a character c and a length n as one number, or 0
-pub three_is : (t : List ℕ) (from : ℕ) {a b c : ℕ} → Byte (get_or t from 0) a → Byte (get_or t (from + 1) 0) b → Byte (get_or t (from + 2) 0) c
+pub three_is : (t : List ℕ) (from : ℕ) {a b c : ℕ} → Byte (get_or t from 0) a → Byte (get_or t (from + 1) 0) b
+    → Byte (get_or t (from + 2) 0) c
     → Three t from (a + 256 * (b + 256 * c))
 three_is t from x y z = record { first = _; second = _; third = _; one = x; two = y; three = z; is = refl }
 

@@ -74,7 +74,8 @@ mutual
 
   pub append_element : {l r : List Tok} (e : Element l r) (p q : List Tok) → again_element e (p ++ q) ≡ again_element e p ++ q
   append_element (empty_element n a) p q = rw (append_attributes a (slash ∷ p) q)
-  append_element (full_element n a c) p q = rw (append_content c (close n ∷ p) q, append_attributes a (gt ∷ again_content c (close n ∷ p)) q)
+  append_element (full_element n a c) p q =
+      rw (append_content c (close n ∷ p) q, append_attributes a (gt ∷ again_content c (close n ∷ p)) q)
 
   pub append_content : {l r : List Tok} (c : Content l r) (p q : List Tok) → again_content c (p ++ q) ≡ again_content c p ++ q
   append_content no_content p q = refl

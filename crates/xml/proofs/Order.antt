@@ -11,7 +11,8 @@ use Rattle.lists.proofs.Tests.{false_true}
 use Rattle.table.specs.Row.{Row, rows_of, Name, Tok, start, attr, gt, close, slash, Matter, matter, bad, name_of, value_of, toks_of}
 use Rattle.table.proofs.Classes.{needs_open, Loose, OfError, Kind, of_start, of_attr, of_gt, of_close, of_slash, of_matter, of_error}
 use Rattle.table.proofs.Classes.{kind_of_lem}
-use Rattle.table.specs.Rules.{most_kind, ends_tag, in_tag_only, may_be_in_tag, may_follow_root, needs_element, open_count, Place, RowRules, EachRow}
+use Rattle.table.specs.Rules.{most_kind, ends_tag, in_tag_only, may_be_in_tag, may_follow_root}
+use Rattle.table.specs.Rules.{needs_element, open_count, Place, RowRules, EachRow}
 use Rattle.table.specs.Rules.{none, row, TableRules}
 
 -- where a token stands: before the root; in a start tag, or in content, with d elements open around the innermost; after the root;

@@ -286,7 +286,8 @@ ruled_document_is toks = (λ h. ruled_document toks h.0 h.1, λ d. (document_rul
 
 -- THEOREM 1, of a table that obeys the rules: the walk passes exactly the documents, and the lists with no element
 pub walk_document_is : {body table : List ℕ} {final : ℕ} → TableRules body table final
-    → walked (toks_of body (rows_of table)) ≡ Drained.Passes ↔ (Document (toks_of body (rows_of table)) ⊎ Miscs (toks_of body (rows_of table)) [])
+    → walked (toks_of body (rows_of table)) ≡ Drained.Passes
+    ↔ (Document (toks_of body (rows_of table)) ⊎ Miscs (toks_of body (rows_of table)) [])
 walk_document_is r = (ruled_document _ (table_ruled r), document_passes)
 
 -- THEOREM 1: the drain, by any decision of the rules, passes exactly where the rules hold and the tokens are a document or have no element

@@ -35,7 +35,8 @@ pub at_next {ℓ} : {A : Type ℓ} (all : List A) (k : ℕ) {x : A} {l : List A}
 at_next all k h = rw (← add-one k, ← drop-drop 1 k all, h)
 
 module _ (all : List Tok) where
-  pub past_attributes_lem : {s : List Name} {l r : List Tok} (a : Attributes s l r) (k : ℕ) → drop k all ≡ l → drop (past_attributes a k) all ≡ r
+  pub past_attributes_lem : {s : List Name} {l r : List Tok} (a : Attributes s l r) (k : ℕ) → drop k all ≡ l
+      → drop (past_attributes a k) all ≡ r
   unfolding past_attributes
   past_attributes_lem no_attribute k h = h
   past_attributes_lem (attribute f v a) k h = past_attributes_lem a (suc k) (at_next all k h)
@@ -51,7 +52,8 @@ module _ (all : List Tok) where
     pub past_element_lem : {l r : List Tok} (e : Element l r) (k : ℕ) → drop k all ≡ l → drop (past_element e k) all ≡ r
     past_element_lem (empty_element n a) k h = at_next all (past_attributes a (suc k)) (past_attributes_lem a (suc k) (at_next all k h))
     past_element_lem (full_element n a c) k h =
-        at_next all (past_content c (suc (past_attributes a (suc k)))) (past_content_lem c (suc (past_attributes a (suc k))) (in_content a k h))
+        at_next all (past_content c (suc (past_attributes a (suc k))))
+        (past_content_lem c (suc (past_attributes a (suc k))) (in_content a k h))
 
     pub past_content_lem : {l r : List Tok} (c : Content l r) (k : ℕ) → drop k all ≡ l → drop (past_content c k) all ≡ r
     past_content_lem no_content k h = h

@@ -23,6 +23,7 @@ impl Tree {
         for folder in [
             "bin",
             "crates/xml",
+            "crates/falzheod_c",
             "rust/src",
             "samples",
             "tools",
@@ -43,10 +44,12 @@ impl Tree {
             file(&tree.root, name, "");
         }
         file(&tree.root, "tools/setup.sh", SETUP);
-        fs::copy(root().join("run"), tree.root.join("run")).unwrap();
+        for name in ["run", "tools/archive"] {
+            fs::copy(root().join(name), tree.root.join(name)).unwrap();
+        }
         tree.script(
             "rt",
-            "mkdir -p target/staticlib && : >target/staticlib/libfalzheod.a",
+            "mkdir -p out && : >out/libfalzheod_c.a",
         );
         let built = tree.root.join("rust/target/release");
         let built = built.display();
@@ -103,7 +106,7 @@ fn builds_once_and_again_where_something_changed() {
         .err
         .contains("proving and building the library, some 7 minutes"));
     assert!(ran.err.contains("building the command, some ten seconds"));
-    assert_eq!(tree.built(), ["rt staticlib", "cargo build"]);
+    assert_eq!(tree.built(), ["rt lib", "cargo build"]);
 
     let ran = tree.run(&run, &["../samples/cores-cut.xml"]);
     assert_eq!((ran.status, ran.err.as_str()), (1, ""));
@@ -116,7 +119,7 @@ fn builds_once_and_again_where_something_changed() {
     }
     tree.change("crates/xml/lib.rt");
     assert_eq!(tree.run(&run, &["--help"]).status, 0);
-    assert_eq!(tree.built(), ["rt staticlib", "cargo build"]);
+    assert_eq!(tree.built(), ["rt lib", "cargo build"]);
     assert_eq!(tree.run(&run, &["--help"]).err, "");
     assert_eq!(tree.built(), [""; 0]);
 }

@@ -25,7 +25,8 @@ use Rattle.document.specs.View.{strict_view, view}
 use Rattle.document.specs.Text.{value_start_at}
 
 -- ---- the value of a row
-pub value_start_lem : (rows : List Row) (k : ℕ) {r : Row} {later : List Row} → drop k rows ≡ r ∷ later → value_start_at rows k ≡ r.value_start
+pub value_start_lem : (rows : List Row) (k : ℕ) {r : Row} {later : List Row} → drop k rows ≡ r ∷ later
+    → value_start_at rows k ≡ r.value_start
 unfolding value_start_at
 value_start_lem [] zero e = absurd (cons≢nil (sym e))
 value_start_lem [] (suc k) e = absurd (cons≢nil (sym e))

@@ -18,7 +18,8 @@ unfolding skip
 skip_end s d k = refl
 
 pub skip_token : (s : Scope) (d : Depth) (k : ℕ) (t : Tok) (l : List Tok)
-    → skip s d k (t ∷ l) ≡ pick (ends_at s (depth_after t d) t) (shut (reader (depth_after t d) (suc k) l)) (skip s (depth_after t d) (suc k) l)
+    → skip s d k (t ∷ l) ≡ pick (ends_at s (depth_after t d) t) (shut (reader (depth_after t d) (suc k) l))
+    (skip s (depth_after t d) (suc k) l)
 unfolding skip
 skip_token s d k t l = refl
 

@@ -131,7 +131,8 @@ module _ (all : List Tok) (from : ℕ) where
       go (is_end s (shallower d) n) (next_ends s o (shallower d) (suc k) l (omega (arith, low)) (at_next all k h) g (λ e. more (f e)))
     where
       go : (ends : Bool) → Ends all from (next s o (shallower d) (suc k) l)
-          → Ends all from (take_turn (on_close o ends) (reader (shallower d) (suc k) l) (λ (o' : StartEl). next s o' (shallower d) (suc k) l))
+          → Ends all from (take_turn (on_close o ends) (reader (shallower d) (suc k) l)
+          (λ (o' : StartEl). next s o' (shallower d) (suc k) l))
       go true ih = at_none g (λ e. not_inside b m)
       go false ih = ih
   next_ends s o d k (slash ∷ l) low h (token m g) f = at_start (more_closed (f m)) g

@@ -121,7 +121,8 @@ next_element s (empty_element n a) d k = rw (next_attributes s a)
 next_element s (full_element n a c) d k = rw (next_attributes s a)
 
 -- an element that is dropped has been read to its end
-pub dropped_element : {l r : List Tok} (e : Element l r) (d : Depth) (k : ℕ) → dropped (as_child e d k) ≡ shut (reader d (past_element e k) r)
+pub dropped_element : {l r : List Tok} (e : Element l r) (d : Depth) (k : ℕ)
+    → dropped (as_child e d k) ≡ shut (reader d (past_element e k) r)
 unfolding as_child past_element
 dropped_element (empty_element n a) d k = refl
 dropped_element (full_element n a c) d k =

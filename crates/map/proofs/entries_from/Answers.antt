@@ -11,7 +11,12 @@ pub returns-in-Gone : goal.returns-in-Gone
 returns-in-Gone c = search entries_laws
 
 pub entry_of-requires : goal.entry_of-requires
-entry_of-requires c = record { viewed = search entries_laws; map_said = search entries_laws; start_in = search entries_laws; outside = search entries_laws }
+entry_of-requires c = record {
+  viewed = search entries_laws;
+  map_said = search entries_laws;
+  start_in = search entries_laws;
+  outside = search entries_laws;
+}
 
 pub returns-in-Refused : goal.returns-in-Refused
 returns-in-Refused c = search entries_laws

@@ -6,7 +6,12 @@ pub returns-then-root : goal.returns-then-root
 returns-then-root c = search element_laws
 
 pub entries_from-requires : goal.entries_from-requires
-entries_from-requires c = record { viewed = search element_laws; map_said = search element_laws; has_row = search element_laws; outside = search element_laws }
+entries_from-requires c = record {
+  viewed = search element_laws;
+  map_said = search element_laws;
+  has_row = search element_laws;
+  outside = search element_laws;
+}
 
 pub returns : goal.returns
 returns c = search element_laws

@@ -69,7 +69,8 @@ module _ (u : Upload) (settings : Settings) (depth : ShapeDepth) where
     where
       is : Is Anything (Unread Wrong) (onward (scalar_text u settings depth) of)
       is =
-          onward_is of (itself (scalar_text u settings depth)) (λ t e. also (itself (of t)) (λ a q. tt {0}) (λ q w. wrong e ((law t q).0 w)))
+          onward_is of (itself (scalar_text u settings depth))
+          (λ t e. also (itself (of t)) (λ a q. tt {0}) (λ q w. wrong e ((law t q).0 w)))
           (λ q e. not_read ((scalar_refusal q).0 e))
 
       back : {q : Refusal} → Unread Wrong q → onward (scalar_text u settings depth) of ≡ refuses q

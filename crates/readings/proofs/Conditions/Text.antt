@@ -105,7 +105,8 @@ module _ (Stop : Refusal → Type 0) (rows : List Row) (failure : Option Refusal
   refused_first_text (bad_reference e) = rw e
   refused_first_text (rows_end {r = r} e) = rw ((stops r).1 e)
   refused_first_text {s = s} (passed {d = d} {k = k} {t = t} {l = l} p n) =
-      passes_on (value_start_at rows k) s (depth_after t d) t (first_text rows failure s (depth_after t d) (suc k) l) p ∙ refused_first_text n
+      passes_on (value_start_at rows k) s (depth_after t d) t (first_text rows failure s (depth_after t d) (suc k) l) p
+      ∙ refused_first_text n
 
 -- of an element in a view
 text_refusal : (Stop : Refusal → Type 0) (v : View) → ((r : Refusal) → (v.failure ≡ some r) ↔ Stop r) → (c : Child) (r : Refusal)

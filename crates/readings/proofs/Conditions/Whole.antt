@@ -22,7 +22,8 @@ use Rattle.xml.specs.Drain.{drained}
 use Rattle.xml.proofs.First.{drained_table_is}
 use Rattle.xml.proofs.Means.{drained_passes_is}
 use Rattle.document.specs.declared.Depth.{Depth}
-use Rattle.document.specs.Reader.{Reader, reader, fresh, depth_after, Scope, document, is_end, ends_at, StartEl, blank, Turn, goes, complete}
+use Rattle.document.specs.Reader.{Reader, reader, fresh, depth_after, Scope, document}
+use Rattle.document.specs.Reader.{is_end, ends_at, StartEl, blank, Turn, goes, complete}
 use Rattle.document.specs.Reader.{over, turn, Next, found, gone, take_turn, next}
 use Rattle.document.specs.Scope.{Child, scope_of, root_of, on_root, next_from}
 use Rattle.document.specs.Text.{value_start_at, unescaped_from, text_turn, take_each, joined, whole_of}
@@ -48,7 +49,8 @@ unfolding next
 next_rest s o d k [] e i = false_true (ap is_found e)
 next_rest s o d k (x ∷ l) {el} {r} e {t} i = go (turn s o d k x) e (λ (o' : StartEl) q. next_rest s o' (depth_after x d) (suc k) l q i)
   where
-    go : (u : Turn) → take_turn u (reader (depth_after x d) (suc k) l) (λ (o' : StartEl). next s o' (depth_after x d) (suc k) l) ≡ found el r →
+    go : (u : Turn) → take_turn u (reader (depth_after x d) (suc k) l) (λ (o' : StartEl). next s o' (depth_after x d) (suc k) l)
+        ≡ found el r →
         ((o' : StartEl) → next s o' (depth_after x d) (suc k) l ≡ found el r → Memᴰ t l) → Memᴰ t (x ∷ l)
     go (goes o') e ih = Memᴰ.tail (ih o' e)
     go (complete o') e ih = Memᴰ.tail (subst⁻¹ (Memᴰ t) (ap (rest_in []) e) i)

@@ -89,7 +89,8 @@ module _ (u : Upload) (passes : drained u.body u.rows u.end ≡ Drained.Passes) 
 
   entries_met : (name : Option (List ℕ)) (root : Child) → Met toks root → (c : Child) → Memᴰ c (entries_of name root) → Met toks c
   unfolding entries_of
-  entries_met name root (met e d k h) c i = inside_met toks e d k h c (rw (level_in_lem (after_entry name) (after_entry_past name) e d k) at i)
+  entries_met name root (met e d k h) c i =
+      inside_met toks e d k h c (rw (level_in_lem (after_entry name) (after_entry_past name) e d k) at i)
 
   -- a text that is refused is refused with 6
   only_six : (v : View) (c : Child) → Met toks c → (r : Refusal) → text_of v c ≡ refuses r → r ≡ Refusal.ElementInText

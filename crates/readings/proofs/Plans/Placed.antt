@@ -13,7 +13,8 @@ use Rattle.document.specs.Reader.{Reader}
 use Rattle.document.specs.Scope.{Child, dropping, after_children, Piece, piece_of}
 use Rattle.document.specs.Text.{text_of}
 use Rattle.document.proofs.Laws.Tags.{rows_tags}
-use Rattle.document.proofs.Laws.Placed.{Outside, Placed, Outward, level_in_placed, dropping_outward, after_children_outward, children_placed}
+use Rattle.document.proofs.Laws.Placed.{Outside, Placed, Outward}
+use Rattle.document.proofs.Laws.Placed.{level_in_placed, dropping_outward, after_children_outward, children_placed}
 use Rattle.document.proofs.Laws.Placed.{root_placed}
 use Rattle.document.proofs.Laws.Inside.{ViewIn, view_in}
 use Rattle.readings.specs.Call.{Upload}

@@ -22,11 +22,13 @@ use Rattle.readings.specs.Call.{Upload, Call}
 use Rattle.readings.specs.Output.{Room, Output, nothing, Reading, output}
 use Rattle.readings.specs.Plan.{Plan, stop, perform, one_by_one, end_test}
 use Rattle.readings.specs.Opening.{Opened, Asked, asked, asking}
-use Rattle.readings.specs.Structure.{attribute_of, found_plan, attribute_plan, scalar_plan, member_plan, child_plan, group_plan, members_plan}
+use Rattle.readings.specs.Structure.{attribute_of, found_plan, attribute_plan, scalar_plan}
+use Rattle.readings.specs.Structure.{member_plan, child_plan, group_plan, members_plan}
 use Rattle.readings.specs.Structure.{has_group, root_piece, root_plan, unwrapped_plan, with_root_name, opened_plan, structure_plan}
 use Rattle.readings.specs.Structure.{structure_reading}
 use Rattle.readings.specs.Collection.{is_wanted, item_plan, items_plan, list_plan, list_reading, text_plan, string_plan, strings_plan}
-use Rattle.readings.specs.Collection.{string_list_plan, string_list_reading, MapValue, Fields, no_fields, fields_plan, read_plan, entry_plan}
+use Rattle.readings.specs.Collection.{string_list_plan, string_list_reading, MapValue, Fields}
+use Rattle.readings.specs.Collection.{no_fields, fields_plan, read_plan, entry_plan}
 use Rattle.readings.specs.Collection.{entries_of, entries_plan, map_plan, map_reading}
 use Rattle.readings.specs.Shape.{Shape, structure, list, map, strings, SheetOf, sheet_of, plan_of, read}
 use Rattle.readings.specs.Demand.{RootDiffers, differs, TextWanted, of_item, of_field}
@@ -187,7 +189,8 @@ module _ {Here : Child → Type 0} {M : ℕ → Type 0} {T : List ℕ → Type 0
       → Sources Here T F P body a.opened → ShapeSources M T G P body shape a
       → MayStop settings depth Here S shape a
       → Made (Source M T F G P) S (most_entries settings shape a) (asked_plan shape body settings depth a)
-  unfolding items_plan item_plan strings_plan string_plan entries_plan entry_plan opened_plan members_plan attribute_plan child_plan group_plan
+  unfolding items_plan item_plan strings_plan string_plan entries_plan entry_plan opened_plan members_plan attribute_plan child_plan
+      group_plan
       unwrapped_plan
   plan_made settings depth list a x y st =
       let kids = children_of a.opened.root in

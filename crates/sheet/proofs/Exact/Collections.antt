@@ -20,7 +20,8 @@ use Rattle.sheet.proofs.Exact.Fields.{name_if_end, all_is}
 -- "2 and 3 only with 0": the fields of a bit map that keeps to that, as a sheet has them
 list_fields : (t f : Bool) (x m : Option (List ℕ)) → pick (only_with t (is_there x)) (only_with t (is_there m)) false ≡ true → NameIfThere x
     → NameIfThere m
-    → ItemIfThere (item_if t x m) × (list_with (item_if t x m) f ≡ four_bits t f (is_there x) (is_there m) ∷ (name_if_written x ++ name_if_written m))
+    → ItemIfThere (item_if t x m) × (list_with (item_if t x m) f ≡ four_bits t f (is_there x) (is_there m) ∷
+    (name_if_written x ++ name_if_written m))
 list_fields true f x m e g h = (record { xml_name = g; member_name = h }, refl)
 list_fields false f none none e g h = (tt, refl)
 list_fields false f none (some n) e g h = false_true e
@@ -53,7 +54,8 @@ list_read_written l h = go l.item l.flattened h.item
             )
 
 -- bytes that are read as a list's sheet are what is written of it, and it is in the limits
-pub list_written_read : (bytes : List ℕ) (l : ListSheet) → AllBytes bytes → list_of bytes ≡ some l → ListInLimits l × (bytes ≡ list_written l)
+pub list_written_read : (bytes : List ℕ) (l : ListSheet) → AllBytes bytes → list_of bytes ≡ some l
+    → ListInLimits l × (bytes ≡ list_written l)
 unfolding list_of list_written
 list_written_read bytes l h e =
     first_then (bit_map_exact 16) _ bytes l [] h (all_is _ l e)
@@ -93,7 +95,8 @@ map_read_written m h = go m.flattened m.key_xml_name m.value h.key_xml_name h.va
         (five_read f (is_there k) true (is_there v.xml_name) v.aggregate)
       where
         whole : (b : ℕ) → Bits 32 b f (is_there k) true (is_there v.xml_name) v.aggregate
-            → map_of (b ∷ (name_if_written k ++ name_if_written v.xml_name)) ≡ some (record { flattened = f; key_xml_name = k; value = some v })
+            → map_of (b ∷ (name_if_written k ++ name_if_written v.xml_name))
+            ≡ some (record { flattened = f; key_xml_name = k; value = some v })
         whole b bits =
             rw (
               lt-ltb b 32 bits.small,

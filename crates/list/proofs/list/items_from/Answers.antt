@@ -14,7 +14,12 @@ pub drop_element-past-requires : goal.drop_element-past-requires
 drop_element-past-requires c = search enters_laws
 
 pub read_item-requires : goal.read_item-requires
-read_item-requires c = record { viewed = search enters_laws; colon_value = search enters_laws; start_in = search enters_laws; dropped_is = search enters_laws }
+read_item-requires c = record {
+  viewed = search enters_laws;
+  colon_value = search enters_laws;
+  start_in = search enters_laws;
+  dropped_is = search enters_laws;
+}
 
 pub loop-start-smaller : goal.loop-start-smaller
 loop-start-smaller c = search enters_laws

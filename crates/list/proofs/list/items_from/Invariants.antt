@@ -11,7 +11,8 @@ use Rattle.list.proofs.list.items_from.Given as goal
 abbrev pub invariant-loop-start : goal.invariant-loop-start
 invariant-loop-start l =
     (l.colon ≡ before_colon l.name)
-    × EntersAt l.body l.rows l.view (item_plan l.body (view_at l.rows l.view) (name_if l.named l.name)) l.scope l.initial.c l.initial.entries l.entries l.held l.c
+    × EntersAt l.body l.rows l.view (item_plan l.body (view_at l.rows l.view) (name_if l.named l.name)) l.scope l.initial.c
+    l.initial.entries l.entries l.held l.c
 
 abbrev pub decreases-loop-start : goal.decreases-loop-start
 decreases-loop-start l = l.view.count - l.c.row

@@ -14,7 +14,12 @@ pub drop_element-past-requires : goal.drop_element-past-requires
 drop_element-past-requires c = search strings_laws
 
 pub read_string-requires : goal.read_string-requires
-read_string-requires c = record { viewed = search strings_laws; colon_value = search strings_laws; start_in = search strings_laws; text_place = search strings_laws }
+read_string-requires c = record {
+  viewed = search strings_laws;
+  colon_value = search strings_laws;
+  start_in = search strings_laws;
+  text_place = search strings_laws;
+}
 
 pub loop-start-smaller : goal.loop-start-smaller
 loop-start-smaller c = search strings_laws

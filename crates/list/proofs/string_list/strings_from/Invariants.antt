@@ -12,7 +12,8 @@ use Rattle.list.proofs.string_list.strings_from.Given as goal
 abbrev pub invariant-loop-start : goal.invariant-loop-start
 invariant-loop-start l =
     (l.colon ≡ before_colon l.name)
-    × ChildrenAt l.body l.rows l.view (string_plan (view_at l.rows l.view) (name_if l.named l.name)) 65536 dropping l.scope l.initial.c l.initial.entries l.initial.texts l.entries l.texts
+    × ChildrenAt l.body l.rows l.view (string_plan (view_at l.rows l.view) (name_if l.named l.name)) 65536 dropping l.scope l.initial.c
+    l.initial.entries l.initial.texts l.entries l.texts
     l.held l.c
 
 abbrev pub decreases-loop-start : goal.decreases-loop-start

@@ -17,7 +17,13 @@ pub drop_element-past-requires : goal.drop_element-past-requires
 drop_element-past-requires c = search fields_laws
 
 pub read_field-requires : goal.read_field-requires
-read_field-requires c = record { viewed = search fields_laws; start_in = search fields_laws; dropped_is = search fields_laws; map_said = search fields_laws; fields_in = search fields_laws }
+read_field-requires c = record {
+  viewed = search fields_laws;
+  start_in = search fields_laws;
+  dropped_is = search fields_laws;
+  map_said = search fields_laws;
+  fields_in = search fields_laws;
+}
 
 pub returns-in-Refused : goal.returns-in-Refused
 returns-in-Refused c = search fields_laws

@@ -5,7 +5,12 @@ pub loop-i-init : goal.loop-i-init
 loop-i-init c = search attributes_laws
 
 pub attribute_of-requires : goal.attribute_of-requires
-attribute_of-requires c = record { given = search attributes_laws; start_in = search attributes_laws; space = search attributes_laws; i_in_bounds = search attributes_laws }
+attribute_of-requires c = record {
+  given = search attributes_laws;
+  start_in = search attributes_laws;
+  space = search attributes_laws;
+  i_in_bounds = search attributes_laws;
+}
 
 pub overflow_add-i : goal.overflow_add-i
 overflow_add-i c = search attributes_laws

@@ -6,7 +6,13 @@ pub returns-then-root : goal.returns-then-root
 returns-then-root c = search inside_laws
 
 pub children_from-requires : goal.children_from-requires
-children_from-requires c = record { given = search inside_laws; has_row = search inside_laws; outside = search inside_laws; count_in_bounds = search inside_laws; begins = search inside_laws }
+children_from-requires c = record {
+  given = search inside_laws;
+  has_row = search inside_laws;
+  outside = search inside_laws;
+  count_in_bounds = search inside_laws;
+  begins = search inside_laws;
+}
 
 pub returns : goal.returns
 returns c = search inside_laws

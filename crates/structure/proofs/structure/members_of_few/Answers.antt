@@ -3,4 +3,9 @@ use Rattle.structure.proofs.Whole.{room_laws}
 use Rattle.structure.proofs.structure.members_of_few.Goals as goal
 
 pub read_members-requires : goal.read_members-requires
-read_members-requires c = record { given = search room_laws; start_in = search room_laws; outside = search room_laws; count_in_bounds = search room_laws }
+read_members-requires c = record {
+  given = search room_laws;
+  start_in = search room_laws;
+  outside = search room_laws;
+  count_in_bounds = search room_laws;
+}

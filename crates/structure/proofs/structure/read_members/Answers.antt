@@ -6,7 +6,13 @@ pub read_attributes-requires : goal.read_attributes-requires
 read_attributes-requires c = search members_laws
 
 pub read_content-requires : goal.read_content-requires
-read_content-requires c = record { given = search members_laws; start_in = search members_laws; outside = search members_laws; count_in_bounds = search members_laws; begins = search members_laws }
+read_content-requires c = record {
+  given = search members_laws;
+  start_in = search members_laws;
+  outside = search members_laws;
+  count_in_bounds = search members_laws;
+  begins = search members_laws;
+}
 
 pub returns-in-Refused : goal.returns-in-Refused
 returns-in-Refused c = search members_laws
