@@ -122,7 +122,7 @@ class Expected:
 
     def of(self, case):
         """(the word of Ask.antt, the numbers)"""
-        word = "ask-" + case.kind
+        word = "ask_" + case.kind
         if case.kind.startswith("text"):
             number, given = self.rust(case)
             return word, self.plain(case, number, 0, given)
@@ -231,13 +231,13 @@ def written(numbers):
 
 
 HEAD = """use Prim.Native.Nat.{ℕ}
-use mathlib.Core.Path.{_≡_, refl}
-use mathlib.Core.List.{List, [], _∷_, map}
-use Rattle·readings.specs.Call.{Upload}
-use Rattle·readings.proofs.All.{computed}
-use Rattle·faith·specs.specs.Ask.{
-  Case, at, answer, ask-struct, ask-list, ask-map, ask-strings, ask-bool, ask-int, ask-string, ask-find, ask-whole, ask-drain,
-  ask-textbool, ask-textint, ask-textstring,
+use mathlib.Core.Path.{◌≡◌, refl}
+use mathlib.Core.List.{List, [], ◌∷◌, map}
+use Rattle.readings.specs.Call.{Upload}
+use Rattle.readings.proofs.All.{computed}
+use Rattle.faith.specs.Ask.{
+  Case, at, answer, ask_struct, ask_list, ask_map, ask_strings, ask_bool, ask_int, ask_string, ask_find, ask_whole, ask_drain,
+  ask_textbool, ask_textint, ask_textstring,
 }
 """
 
