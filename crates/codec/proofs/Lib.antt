@@ -1,5 +1,5 @@
 -- Laws: of fields one after another, of names, of bit maps, of a structure sheet's head, members and whole, of members that were read, of
--- list and map sheets, of depths; and of a guard in a local, for proofs by hand here and in the crates above.
+-- list and map sheets, and of depths.
 pub mod Fronts
 pub mod Names
 pub mod Bits

@@ -1,4 +1,4 @@
-// The depth guard: `enter_aggregate` and `leave_aggregate`, proved by hand over three small functions on numbers.
+// The depth guard: `enter_aggregate` and `leave_aggregate`, over three small functions on numbers.
 ghost use Rattle.std.specs.Prelude.{◌≡◌, not, ◌+◌, ◌-◌, leb};
 ghost use Rattle.lists.specs.Tests.{pick};
 ghost use Rattle.codec.specs.Guard.{at_maximum, entered, left};
@@ -55,7 +55,7 @@ pub fn leave_aggregate(g: &mut Guard)
     g.depth = shallower(depth);
 }
 
-// Whether an aggregate at this depth is entered: by a guard of its own. Its parameters are plain, so that a caller needs no proof by hand.
+// Whether an aggregate at this depth is entered: by a guard of its own.
 pub fn enters(depth: u32, max: u32) -> bool
     ensures { result ≡ not (leb max depth) }
 {

@@ -28,8 +28,8 @@ pub struct Cursor {
     pub depth: Depth,
 }
 
-// The rows of a view, which are lent, and the number of the next row. The functions over it are few and thin, since each is proved by hand:
-// they take it apart, and leave the loops to functions of a slice and numbers.
+// The rows of a view, which are lent, and the number of the next row. The functions over it are few and thin: they take it
+// apart, and leave the loops to functions of a slice and numbers.
 #[derive(Clone, Copy)]
 pub struct Reader<'a> {
     pub rows: &'a [u32],
@@ -177,7 +177,7 @@ pub fn skip_on<'b, 'a>(
     skip_from(body, reader.rows, n, scope, depth, reader.next)
 }
 
-// The same from a place. Its parameters are plain, so that whoever calls it needs no proof by hand.
+// The same from a place, with plain parameters.
 pub fn skip(body: &[u8], rows: &[u32], n: usize, scope: ScopeRow, at: Cursor) -> Past
     requires sees { Sees body.now rows.now n }
     requires has_row { HasRow rows.now scope }

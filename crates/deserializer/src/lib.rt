@@ -253,7 +253,7 @@ fn read_sheet(
 }
 
 // A reading by its shape's number, with how many entries and text bytes are written, and the place of the failing `&` where the number is
-// 7. A caller of this needs no proof by hand.
+// 7.
 pub fn read_with_place(
     kind: u32,
     body: &[u8],
