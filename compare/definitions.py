@@ -1,7 +1,7 @@
 #!/usr/bin/env python3
 """The definitions of the readings, computed, beside the answers of the Rust.
 
-Makes cases (definitions/cases.py), asks the oracle, and writes a crate `faith` beside links to ours, in a
+Makes cases (definitions/cases.py), asks the oracle, and writes a crate `faith` beside copies of ours, in a
 folder of its own; its specs say by `refl` that the definitions compute the answers of the Rust, and the places of
 bad references, which the Rust does not tell, as definitions/model.py has them. `rt` checks them. Of a file that
 does not pass, each case is stated alone, and what the definitions compute is printed. The last line is `N passed, M failed`."""
@@ -319,9 +319,9 @@ class World:
         wanted = needs["readings"] + ["readings"]
         os.makedirs(os.path.join(folder, "crates"), exist_ok=True)
         for crate in wanted:
-            link = os.path.join(folder, "crates", crate)
-            if not os.path.islink(link):
-                os.symlink(os.path.relpath(os.path.join(ROOT, "crates", crate), os.path.dirname(link)), link)
+            copy = os.path.join(folder, "crates", crate)
+            shutil.rmtree(copy, ignore_errors=True)
+            shutil.copytree(os.path.join(ROOT, "crates", crate), copy, ignore=shutil.ignore_patterns("out", "must-fail"))
         shutil.rmtree(os.path.join(folder, "crates", "faith"), ignore_errors=True)
         os.makedirs(self.specs)
         os.makedirs(os.path.join(folder, "crates", "faith", "src"))
@@ -341,7 +341,7 @@ class World:
         for name, text in texts.items():
             with open(os.path.join(self.specs, name + ".antt"), "w") as out:
                 out.write(text)
-        done = subprocess.run(["rt", "check", "faith"], cwd=self.folder, stdout=subprocess.PIPE, stderr=subprocess.STDOUT,
+        done = subprocess.run(["rt", "check"], cwd=os.path.dirname(self.specs), stdout=subprocess.PIPE, stderr=subprocess.STDOUT,
                               universal_newlines=True, env=dict(os.environ, RT_CUT="0"))
         return done.stdout.split("\n"), done.returncode == 0
 

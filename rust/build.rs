@@ -58,8 +58,18 @@ fn own() -> PathBuf {
         .parent()
         .expect("the package stands in the repository");
     let crates = root.join("crates");
-    for folder in sources(&crates).unwrap_or_default() {
-        println!("cargo:rerun-if-changed={}", folder.display());
+    // a new crate has its line there
+    println!(
+        "cargo:rerun-if-changed={}",
+        root.join("crates.txt").display()
+    );
+    match sources(&crates) {
+        Ok(folders) => {
+            for folder in folders {
+                println!("cargo:rerun-if-changed={}", folder.display());
+            }
+        }
+        Err(error) => stop(&format!("{} is not read: {error}", crates.display())),
     }
     let directory = root.join("target").join("staticlib");
     let archive = directory.join(ARCHIVE);
@@ -75,12 +85,22 @@ fn own() -> PathBuf {
 /// The folders of the crates, but for those that rt writes to.
 fn sources(crates: &Path) -> io::Result<Vec<PathBuf>> {
     let mut folders = Vec::new();
-    for of_crate in crates.read_dir()? {
-        for entry in of_crate?.path().read_dir()? {
-            let entry = entry?;
-            if entry.file_type()?.is_dir() && entry.file_name() != "out" {
-                folders.push(entry.path());
+    for of_crate in folders_of(crates)? {
+        for folder in folders_of(&of_crate)? {
+            if !folder.ends_with("out") {
+                folders.push(folder);
             }
+        }
+    }
+    Ok(folders)
+}
+
+fn folders_of(directory: &Path) -> io::Result<Vec<PathBuf>> {
+    let mut folders = Vec::new();
+    for entry in directory.read_dir()? {
+        let entry = entry?;
+        if entry.file_type()?.is_dir() {
+            folders.push(entry.path());
         }
     }
     Ok(folders)

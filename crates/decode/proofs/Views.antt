@@ -16,7 +16,7 @@ use Rattle.table.proofs.Flat.{length_rows, rows_whole}
 use Rattle.xml.specs.declared.Cause.{Cause}
 use Rattle.xml.specs.declared.Drained.{Drained}
 use Rattle.xml.specs.Drain.{walked, cause_place}
-use Rattle.xml.specs.Passed.{FirstFault, at_row, at_end_lem}
+use Rattle.xml.specs.Passed.{FirstFault, at_row, at_the_end}
 use Rattle.xml.proofs.First.{walk_ill_formed_is}
 use Rattle.document.specs.View.{position_at, failure_of, is_error, error_at, view}
 use Rattle.document.specs.View as doc
@@ -88,7 +88,7 @@ module _ {body t : List ℕ} {final : ℕ} (o : TableRules body t final) where
 
         go : FirstFault (toks_of body (rows_of t)) k c → k ≤ length t / 8
         go (at_row a x b s l f g) = omega (arith, size, ap length s, length-append a (x ∷ b))
-        go (at_end_lem l d f g) = omega (arith, size)
+        go (at_the_end l d f g) = omega (arith, size)
 
     pub view_ill : {k : ℕ} {c : Cause} {x : ℕ} {f : Refusal} {p : ℕ} → r ≡ Drained.IllFormed k c → x ≡ cause_place body (rows_of t) k c
         → f ≡ failure_of x c

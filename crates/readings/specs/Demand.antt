@@ -42,7 +42,7 @@ pub data RootDiffers (settings : Settings) (depth : ShapeDepth) : (shape : Shape
 -- "where text is wanted": of a field that is a key ("a child named as both .. is a key"), or a value that is not aggregate
 pub data TextField (m : MapSheet) (c : Child) : Type 0 where
   is_key : sameb c.start.name.local (key_name m) ≡ true → TextField m c
-  is_value_lem : sameb c.start.name.local (key_name m) ≡ false → sameb c.start.name.local (value_name m) ≡ true
+  is_plain_value : sameb c.start.name.local (key_name m) ≡ false → sameb c.start.name.local (value_name m) ≡ true
       → value_aggregate m ≡ false → TextField m c
 
 -- of a string list's item, and of such a field of a map entry; a structure's scalar that fails is an entry of kind 4, and no refusal
@@ -69,7 +69,7 @@ pub data MayRefuse (u : Upload) (call : Call) (room : Room) (shape : Shape) (out
   broken_sheet : sheet_of shape call.sheet ≡ none → MayRefuse u call room shape out Refusal.Sheet
   depth_limit : call.settings.max_depth ≤ call.depth.0 → MayRefuse u call room shape out Refusal.Depth
   no_root : root_of (toks_of u.body (rows_of u.rows)) ≡ none → MayRefuse u call room shape out Refusal.NoRoot
-  root_name_lem : (a : Asked (SheetOf shape)) → ReadOf u call.sheet shape a → RootDiffers call.settings call.depth shape a
+  other_root_name : (a : Asked (SheetOf shape)) → ReadOf u call.sheet shape a → RootDiffers call.settings call.depth shape a
       → MayRefuse u call room shape out Refusal.RootName
   element_in_text : (a : Asked (SheetOf shape)) (c : Child) → ReadOf u call.sheet shape a → TextWanted call.settings shape a c
       → text_of a.opened.seen c ≡ answer.refuses Refusal.ElementInText → MayRefuse u call room shape out Refusal.ElementInText
@@ -80,7 +80,7 @@ pub data MayRefuse (u : Upload) (call : Call) (room : Room) (shape : Shape) (out
 -- element's rows, counted from the piece's first byte, obey the table rules and pass the drain again": `ElementPiece`. In a group are the
 -- pieces, so said, of the children that its member is resolved from.
 pub data Siblings (u : Upload) (s : Structure) (i : ℕ) : List Child → List ℕ → Type 0 where
-  no_child_lem : Siblings u s i [] []
+  no_more_children : Siblings u s i [] []
   sibling : {c : Child} {l : List Child} {from len : ℕ} {more : List ℕ} → PieceAt u.body u.rows c.start.row from len
       → in_group s i c ≡ true → Siblings u s i l more → Siblings u s i (c ∷ l) (cut u.body from len ++ more)
   stranger : {c : Child} {l : List Child} {more : List ℕ} → in_group s i c ≡ false → Siblings u s i l more → Siblings u s i (c ∷ l) more

@@ -117,7 +117,8 @@ fn take_bytes(line: &mut [u8], p: Progress, bytes: &[u8]) -> Progress {
     next
 }
 
-// Reads once. A read that fails ends the input, and the counts then show that answers are missing.
+// Reads until the space is full, the input ends or a read fails. Where that gives nothing the input is over; after a read that failed the
+// counts show that answers are missing.
 fn take_some(line: &mut [u8], p: Progress) -> Progress {
     let mut chunk = io::large_buffer();
     let n = io::read_full(STDIN_FILENO, &mut chunk);

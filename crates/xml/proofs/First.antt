@@ -9,7 +9,7 @@ use Rattle.table.specs.Row.{Name, Tok, rows_of, toks_of}
 use Rattle.table.specs.Rules.{TableRules}
 use Rattle.xml.specs.declared.Cause.{Cause}
 use Rattle.xml.specs.declared.Drained.{Drained}
-use Rattle.xml.specs.Passed.{opens, open_after, attributes, names_after, Fault, Faultless, FirstFault, at_row, at_end_lem}
+use Rattle.xml.specs.Passed.{opens, open_after, attributes, names_after, Fault, Faultless, FirstFault, at_row, at_the_end}
 use Rattle.table.specs.Test.{dec_table}
 use Rattle.xml.specs.Drain.{State, going, failed, step, walk, verdict, walked, drained_by, drained}
 use Rattle.xml.proofs.Fault.{Cuts, same_cut, earlier, later, cuts, faultless_none, faultless_more, one_fault, Stepped, goes_on}
@@ -63,9 +63,9 @@ one_first {toks} {i} {j} {c} {d} (at_row a t x p n h f) (at_row b s y q m g e) =
     go (same_cut u w) = (n ∙ ap length u ∙ sym m, one_fault f (rw (u, w) e))
     go (earlier r u) = absurd (g.none a t r c u f)
     go (later r u) = absurd (h.none b s r d u e)
-one_first {c = c} (at_row a t x p n h f) (at_end_lem m q g e) = absurd (g.none a t x c p f)
-one_first {d = d} (at_end_lem n p h f) (at_row b s y q m g e) = absurd (h.none b s y d q e)
-one_first (at_end_lem n p h f) (at_end_lem m q g e) = (n ∙ sym m, p ∙ sym q)
+one_first {c = c} (at_row a t x p n h f) (at_the_end m q g e) = absurd (g.none a t x c p f)
+one_first {d = d} (at_the_end n p h f) (at_row b s y q m g e) = absurd (h.none b s y d q e)
+one_first (at_the_end n p h f) (at_the_end m q g e) = (n ∙ sym m, p ∙ sym q)
 
 -- ---- answers are told apart
 pub not_ill {ℓ} : {A : Type ℓ} {i : ℕ} {c : Cause} → Drained.Passes ≡ Drained.IllFormed i c → A
@@ -91,7 +91,7 @@ answer toks = go (walk zero (going [] []) toks) (said toks)
   where
     go : (st : State) → Said toks st → Answer toks (verdict (length toks) st)
     go st (through {s = []} p h) = clean h p
-    go st (through {s = n ∷ s} p h) = faulty (at_end_lem refl refl h (λ q. cons≢nil (sym p ∙ q)))
+    go st (through {s = n ∷ s} p h) = faulty (at_the_end refl refl h (λ q. cons≢nil (sym p ∙ q)))
     go st (stopped a t b e n h f) = faulty (at_row a t b e n h f)
 
 -- ---- THEOREM 3
@@ -108,7 +108,7 @@ walk_ill_formed_is toks row cause = (λ e. there (walked toks) (answer toks) e, 
 
     back : (x : Drained) → Answer toks x → FirstFault toks row cause → x ≡ Drained.IllFormed row cause
     back x (clean h p) (at_row a t b e n g f) = absurd (h.none a t b cause e f)
-    back x (clean h p) (at_end_lem n q g f) = absurd (f p)
+    back x (clean h p) (at_the_end n q g f) = absurd (f p)
     back x (faulty {i = i} {c = c} g) f = let u = one_first g f in let p : i ≡ row = u.0 in let q : c ≡ cause = u.1 in cc
 
 -- the walk itself never says 1

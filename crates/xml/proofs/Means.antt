@@ -11,7 +11,7 @@ use Rattle.table.specs.Rules.{TableRules}
 use Rattle.xml.specs.declared.Cause.{Cause}
 use Rattle.xml.specs.declared.Drained.{Drained}
 use Rattle.xml.specs.Passed.{opens, attributes, WellFormed, Passed, Fault, token_error, mismatched_end, repeated_attribute}
-use Rattle.xml.specs.Passed.{bad_attribute, bad_text, Faultless, at_row, at_end_lem}
+use Rattle.xml.specs.Passed.{bad_attribute, bad_text, Faultless, at_row, at_the_end}
 use Rattle.table.specs.Test.{dec_table}
 use Rattle.xml.specs.Drain.{same_name, has_name, walked, drained_by, drained}
 use Rattle.xml.proofs.Tests.{same_name_lem, seen_member, not_member, not_named, not_both}
@@ -80,7 +80,7 @@ walk_passes_is toks = (there (walked toks) (answer toks), back (walked toks) (an
     back : (x : Drained) → Answer toks x → WellFormed toks → x ≡ Drained.Passes
     back x (clean h p) w = refl
     back x (faulty {c = c} (at_row a t b e n h f)) w = absurd ((well_formed_faultless w).none a t b c e f)
-    back x (faulty (at_end_lem n q h f)) w = absurd (f w.none_open)
+    back x (faulty (at_the_end n q h f)) w = absurd (f w.none_open)
 
 -- THEOREM 2: the drain, by any decision of the rules, passes exactly where the rules hold and the tokens are well-formed
 pub drain_passes_is : (body table : List ℕ) (final : ℕ) (d : Dec (TableRules body table final))

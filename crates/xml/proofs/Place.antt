@@ -18,7 +18,7 @@ use Rattle.table.specs.Row.{rows_of, toks_of}
 use Rattle.table.proofs.Moved.{get_cut}
 use Rattle.xml.specs.declared.Cause.{Cause}
 use Rattle.xml.specs.declared.Drained.{Drained}
-use Rattle.xml.specs.Passed.{Fault, bad_attribute, bad_text, FirstFault, at_row, at_end_lem}
+use Rattle.xml.specs.Passed.{Fault, bad_attribute, bad_text, FirstFault, at_row, at_the_end}
 use Rattle.xml.specs.Drain.{walked, drained, reference_place, drain_place}
 use Rattle.xml.proofs.First.{walk_ill_formed_is, drained_ill_formed_is}
 
@@ -147,7 +147,7 @@ module _ (body : List ℕ) (rows : List Row) where
   first_place {k} (at_row a t b p n h f) =
       let e : drop k (toks_of body rows) ≡ t ∷ b = rw (p, n) (drop-append_seam a (t ∷ b)) in
       fault_place (row_of body rows k e) f
-  first_place (at_end_lem n q h f) = not_unclosed q
+  first_place (at_the_end n q h f) = not_unclosed q
 
   -- where the walk stops at a reference, the value of that row fails validation, at the place of the cause
   pub walk_place : {k : ℕ} → walked (toks_of body rows) ≡ Drained.IllFormed k Cause.BadReference

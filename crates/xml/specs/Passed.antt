@@ -66,4 +66,4 @@ pub record Faultless (toks : List Tok) : Type 0 where
 pub data FirstFault (toks : List Tok) (row : ℕ) (cause : Cause) : Type 0 where
   at_row : (a : List Tok) (t : Tok) (b : List Tok) → toks ≡ a ++ (t ∷ b) → row ≡ length a → Faultless a → Fault a t cause
       → FirstFault toks row cause
-  at_end_lem : row ≡ length toks → cause ≡ Cause.UnclosedElement → Faultless toks → (opens [] toks ≡ [] → ⊥) → FirstFault toks row cause
+  at_the_end : row ≡ length toks → cause ≡ Cause.UnclosedElement → Faultless toks → (opens [] toks ≡ [] → ⊥) → FirstFault toks row cause

@@ -16,7 +16,7 @@ use Rattle.table.specs.Row.{Row, Tok, text, matter, value_of, toks_of}
 use Rattle.xml.specs.declared.Cause.{Cause}
 use Rattle.xml.specs.declared.Drained.{Drained}
 use Rattle.xml.specs.Drain.{walked, reference_place}
-use Rattle.xml.specs.Passed.{Faultless, at_row, at_end_lem}
+use Rattle.xml.specs.Passed.{Faultless, at_row, at_the_end}
 use Rattle.xml.proofs.First.{Answer, clean, faulty, answer}
 use Rattle.xml.proofs.Means.{text_value}
 use Rattle.xml.proofs.Closing.{toks_take}
@@ -92,7 +92,7 @@ strict_valid body rows final k {v} {l} e = go (walked (toks_of body rows)) (answ
     go x (faulty {i = i} (at_row a t b q n h f)) e =
         let front : toks_of body (take i rows) ≡ a = toks_take body i rows ∙ ap (take i) q ∙ take_at a (t ∷ b) i (sym n) in
         faultless_valid h k (rw front at e)
-    go x (faulty {i = i} (at_end_lem n q h f)) e =
+    go x (faulty {i = i} (at_the_end n q h f)) e =
         let front : toks_of body (take i rows) ≡ toks_of body rows =
         toks_take body i rows ∙ ap (λ (m : ℕ). take m (toks_of body rows)) n ∙ take-length (toks_of body rows) in
         faultless_valid h k (rw front at e)

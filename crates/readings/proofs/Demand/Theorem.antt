@@ -36,7 +36,7 @@ use Rattle.readings.specs.Opening.{Asked}
 use Rattle.readings.specs.Structure.{in_group, siblings, group_of, root_piece}
 use Rattle.readings.specs.Collection.{is_wanted, after_entry, entries_of}
 use Rattle.readings.specs.Shape.{Shape, structure, list, map, strings, SheetOf, sheet_of, read}
-use Rattle.readings.specs.Demand.{Siblings, no_child_lem, sibling, stranger, GroupBytes, Handed, TextWanted, of_item, of_field, ReadOf}
+use Rattle.readings.specs.Demand.{Siblings, no_more_children, sibling, stranger, GroupBytes, Handed, TextWanted, of_item, of_field, ReadOf}
 use Rattle.readings.specs.Demand.{MayRefuse, broken_sheet, depth_limit, element_in_text, Promised, finishes, Demand3}
 use Rattle.readings.specs.Demand as promise
 use Rattle.readings.proofs.Conditions.Answers.{given_refused, refuses_same}
@@ -71,7 +71,7 @@ module _ (u : Upload) (passes : drained u.body u.rows u.end ≡ Drained.Passes) 
   siblings_are : (s : Structure) (i : ℕ) (l : List Child) → ((c : Child) → Memᴰ c l → Met toks c)
       → Siblings u s i l (siblings u.body seen s i l)
   unfolding siblings
-  siblings_are s i [] f = no_child_lem
+  siblings_are s i [] f = no_more_children
   siblings_are s i (c ∷ l) f = go (in_group s i c) refl (siblings_are s i l (λ x m. f x (Memᴰ.tail m)))
     where
       bytes : List ℕ
@@ -198,7 +198,7 @@ module _ (u : Upload) (passes : drained u.body u.rows u.end ≡ Drained.Passes) 
     stopped : (shape : Shape) (a : Asked (SheetOf shape)) → ReadOf u call.sheet shape a → {r : Refusal} {out : Output}
         → Stops call.settings call.depth shape a r
         → MayRefuse u call room shape out r
-    stopped shape a w (root_differs d) = promise.root_name_lem a w d
+    stopped shape a w (root_differs d) = promise.other_root_name a w d
     stopped shape a w (ill_formed_lem e) = not_ill_formed w e
     stopped shape a w (no_text c t e) = six shape a w c t (wanted_met shape a w c t) e
 

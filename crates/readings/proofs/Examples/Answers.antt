@@ -14,7 +14,7 @@ use Rattle.sheet.specs.Sheet.{Structure, structure_of}
 use Rattle.readings.specs.Structure.{in_group}
 use Rattle.readings.specs.Shape.{structure}
 use Rattle.readings.proofs.Examples.Asking.{reading, ask, answer, case, Answered, plain, settings, lenient, strict, root_names, room}
-use Rattle.readings.proofs.Examples.Asking.{enough, named, scalar_a, scalars_aB, unwrapped_a}
+use Rattle.readings.proofs.Examples.Asking.{enough, named, scalar_a, scalars_ab, unwrapped_a}
 use Rattle.readings.proofs.Examples.Tables.{empty, bare, one, two, four, five_empty, nested, nested_text, nested_empty, two_unclosed}
 use Rattle.readings.proofs.Examples.Tables.{behind_comment, comment, prefixed, prefixed_one, prefixed_end, attribute}
 use Rattle.readings.proofs.Examples.Tables.{attribute_empty, attribute_child, attributes_two, attributes_prefixed, attribute_second}
@@ -136,16 +136,16 @@ children = refl
 -- "A scalar that fails is an entry of kind 4"; "In a text under strict reading a mismatched or unclosed tag gives 9"
 pub failed_texts : Answered ask (
     -- 6
-    case (reading structure "<r><a>1</a><b><c/></b></r>" nested_empty 26 scalars_aB lenient 0 enough)
+    case (reading structure "<r><a>1</a><b><c/></b></r>" nested_empty 26 scalars_ab lenient 0 enough)
     (answer 0 2 (1 ∷ 0 ∷ 0 ∷ 0 ∷ 0 ∷ 1 ∷ 4 ∷ 1 ∷ 0 ∷ 0 ∷ 6 ∷ 0 ∷ []) "1")
     -- 7, with its place as length, and the next child is read; strict it is the last that is met, and the refusal keeps it
-    ∷ case (reading structure "<r><a>&</a><b>2</b></r>" two 23 scalars_aB lenient 0 enough)
+    ∷ case (reading structure "<r><a>&</a><b>2</b></r>" two 23 scalars_ab lenient 0 enough)
     (answer 0 2 (4 ∷ 0 ∷ 0 ∷ 0 ∷ 7 ∷ 6 ∷ 1 ∷ 1 ∷ 0 ∷ 0 ∷ 0 ∷ 1 ∷ []) "2")
-    ∷ case (reading structure "<r><a>&</a><b>2</b></r>" two 23 scalars_aB strict 0 enough) (answer 9 1 (4 ∷ 0 ∷ 0 ∷ 0 ∷ 7 ∷ 6 ∷ []) "")
+    ∷ case (reading structure "<r><a>&</a><b>2</b></r>" two 23 scalars_ab strict 0 enough) (answer 9 1 (4 ∷ 0 ∷ 0 ∷ 0 ∷ 7 ∷ 6 ∷ []) "")
     -- 8, lenient and strict
-    ∷ case (reading structure "<r><a>1</a><b><" second_error 15 scalars_aB lenient 0 enough)
+    ∷ case (reading structure "<r><a>1</a><b><" second_error 15 scalars_ab lenient 0 enough)
     (answer 0 2 (1 ∷ 0 ∷ 0 ∷ 0 ∷ 0 ∷ 1 ∷ 4 ∷ 1 ∷ 0 ∷ 0 ∷ 8 ∷ 0 ∷ []) "1")
-    ∷ case (reading structure "<r><a>1</a><b><" second_error 15 scalars_aB strict 0 enough)
+    ∷ case (reading structure "<r><a>1</a><b><" second_error 15 scalars_ab strict 0 enough)
     (answer 9 2 (1 ∷ 0 ∷ 0 ∷ 0 ∷ 0 ∷ 1 ∷ 4 ∷ 1 ∷ 0 ∷ 0 ∷ 8 ∷ 0 ∷ []) "1")
     -- 9 at a mismatched tag, strict; lenient there is an empty text
     ∷ case (reading structure "<r><a></b></r>" one 14 scalar_a strict 0 enough) (answer 9 1 (4 ∷ 0 ∷ 0 ∷ 0 ∷ 9 ∷ 0 ∷ []) "")
@@ -180,7 +180,7 @@ nine_after_the_children = refl
 -- the ends of levels and scopes in lenient readings
 pub levels : Answered ask (
     -- "Lenient `<r><a x=\"&zz;\">1</a><b>2</b></r>`: no entry at all": a bad attribute ends the level
-    case (reading structure "<r><a>1</a><b x=\"&lt\"/></r>" attribute_second 27 scalars_aB lenient 0 enough)
+    case (reading structure "<r><a>1</a><b x=\"&lt\"/></r>" attribute_second 27 scalars_ab lenient 0 enough)
     (answer 0 1 (1 ∷ 0 ∷ 0 ∷ 0 ∷ 0 ∷ 1 ∷ []) "1")
     -- an end tag of another name does not end a scope, so `b` is not met; the tag of its own name and depth ends it
     ∷ case (reading structure "<r><a>1</x><b>2</b></r>" two 23 (plain (2 ∷ 18 ∷ named "a" ++ (2 ∷ named "b"))) lenient 0 enough)
@@ -260,11 +260,11 @@ groups = refl
 -- byte
 pub room_for_entries : Answered ask (
     -- children
-    case (reading structure "<r><a>1</a><b>2</b></r>" two 23 scalars_aB lenient 0 (room 2 2))
+    case (reading structure "<r><a>1</a><b>2</b></r>" two 23 scalars_ab lenient 0 (room 2 2))
     (answer 0 2 (1 ∷ 0 ∷ 0 ∷ 0 ∷ 0 ∷ 1 ∷ 1 ∷ 1 ∷ 0 ∷ 0 ∷ 1 ∷ 1 ∷ []) "12")
-    ∷ case (reading structure "<r><a>1</a><b>2</b></r>" two 23 scalars_aB lenient 0 (room 1 2))
+    ∷ case (reading structure "<r><a>1</a><b>2</b></r>" two 23 scalars_ab lenient 0 (room 1 2))
     (answer 10 1 (1 ∷ 0 ∷ 0 ∷ 0 ∷ 0 ∷ 1 ∷ []) "1")
-    ∷ case (reading structure "<r><a>1</a><b>2</b></r>" two 23 scalars_aB lenient 0 (room 2 1))
+    ∷ case (reading structure "<r><a>1</a><b>2</b></r>" two 23 scalars_ab lenient 0 (room 2 1))
     (answer 10 1 (1 ∷ 0 ∷ 0 ∷ 0 ∷ 0 ∷ 1 ∷ []) "1")
     -- attributes
     ∷ case (reading structure "<r a=\"1\" b=\"2\"/>" attributes_two 16 (plain (2 ∷ 6 ∷ named "a" ++ (6 ∷ named "b"))) lenient 0

@@ -54,8 +54,8 @@ plain members = 0 ∷ named "s" ++ members
 abbrev pub scalar_a : List ℕ
 scalar_a = plain (1 ∷ 2 ∷ named "a")
 
-abbrev pub scalars_aB : List ℕ
-scalars_aB = plain (2 ∷ 2 ∷ named "a" ++ (2 ∷ named "b"))
+abbrev pub scalars_ab : List ℕ
+scalars_ab = plain (2 ∷ 2 ∷ named "a" ++ (2 ∷ named "b"))
 
 abbrev pub unwrapped_a : List ℕ
 unwrapped_a = 8 ∷ named "s" ++ (1 ∷ 18 ∷ named "a")

@@ -18,7 +18,7 @@ use Rattle.xml.specs.Drain.{drained}
 use Rattle.readings.specs.Output.{Told}
 use Rattle.readings.specs.Shape.{Shape, structure}
 use Rattle.readings.specs.Scalar.{integer_of}
-use Rattle.readings.proofs.Examples.Asking.{reading, ask, answer, case, Answered, plain, lenient, strict, enough, named, scalars_aB}
+use Rattle.readings.proofs.Examples.Asking.{reading, ask, answer, case, Answered, plain, lenient, strict, enough, named, scalars_ab}
 use Rattle.readings.proofs.Examples.Tables.{empty, one, one_text, two, unclosed, attributes_two, attribute_first}
 use Rattle.readings.proofs.All.{computed}
 
@@ -85,7 +85,7 @@ pub edges : Answered ask (
     -- "Strict `<r x=\"1\" x=\"2\"/>`: 4 from a structure reading, 9 from the drain."
     ∷ case (reading structure "<r x=\"1\" x=\"2\"/>" attributes_two 16 (plain (0 ∷ [])) strict 0 enough) (answer 4 0 [] "")
     -- "Lenient `<r><a x=\"&zz;\">1</a><b>2</b></r>`: no entry at all, success."
-    ∷ case (reading structure "<r><a x=\"&zz;\">1</a><b>2</b></r>" attribute_first 32 scalars_aB lenient 0 enough) (answer 0 0 [] "")
+    ∷ case (reading structure "<r><a x=\"&zz;\">1</a><b>2</b></r>" attribute_first 32 scalars_ab lenient 0 enough) (answer 0 0 [] "")
     -- "Lenient `<r><a>1</b><c>2</c></r>`, a and c scalar: one text `1`; c is never seen."
     ∷ case (reading structure "<r><a>1</b><c>2</c></r>" two 23 (plain (2 ∷ 2 ∷ named "a" ++ (2 ∷ named "c"))) lenient 0 enough)
     (answer 0 1 (1 ∷ 0 ∷ 0 ∷ 0 ∷ 0 ∷ 1 ∷ []) "1")

@@ -17,7 +17,7 @@ use Rattle.readings.specs.Call.{uploaded}
 use Rattle.readings.specs.Scalar.{string_reading}
 use Rattle.readings.specs.Shape.{structure, map, strings}
 use Rattle.readings.proofs.Examples.Asking.{reading, ask, answer, answer_at, case, Answered, lenient, strict, shape, enough, scalar_a}
-use Rattle.readings.proofs.Examples.Asking.{scalars_aB, keyed}
+use Rattle.readings.proofs.Examples.Asking.{scalars_ab, keyed}
 use Rattle.readings.proofs.Examples.Tables.{one_text5, one_text10, two, nested_text, nested_empty, unclosed, attribute, text10}
 use Rattle.readings.proofs.All.{computed}
 
@@ -32,10 +32,10 @@ pub places : Answered ask (
     -- of a map, in a value
     ∷ case (reading map "<m><e><v>&</v></e></m>" nested_text 22 keyed lenient 0 enough) (answer_at 7 9 0 [] "")
     -- an entry of kind 4: 7 has its place as length, 6 keeps 0
-    ∷ case (reading structure "<r><a>&</a><b><c/></b></r>" nested_empty 26 scalars_aB lenient 0 enough)
+    ∷ case (reading structure "<r><a>&</a><b><c/></b></r>" nested_empty 26 scalars_ab lenient 0 enough)
     (answer 0 2 (4 ∷ 0 ∷ 0 ∷ 0 ∷ 7 ∷ 6 ∷ 4 ∷ 1 ∷ 0 ∷ 0 ∷ 6 ∷ 0 ∷ []) "")
     -- two of them: each its own
-    ∷ case (reading structure "<r><a>&</a><b>&</b></r>" two 23 scalars_aB lenient 0 enough)
+    ∷ case (reading structure "<r><a>&</a><b>&</b></r>" two 23 scalars_ab lenient 0 enough)
     (answer 0 2 (4 ∷ 0 ∷ 0 ∷ 0 ∷ 7 ∷ 6 ∷ 4 ∷ 1 ∷ 0 ∷ 0 ∷ 7 ∷ 14 ∷ []) "")
     -- strict: the place of validation; the reading's own number is 9 then, with no place
     ∷ case (reading structure "<r><a>&#+65;&zz;</a></r>" one_text10 24 scalar_a lenient 0 enough)

@@ -14,7 +14,7 @@ use Rattle.document.specs.Text.{text_of}
 use Rattle.sheet.specs.Sheet.{MapSheet}
 use Rattle.sheet.specs.Names.{key_name, value_name, value_aggregate}
 use Rattle.readings.specs.Collection.{MapValue, text, piece, Fields, value_in, read_field, read_fields}
-use Rattle.readings.specs.Demand.{TextField, is_key, is_value_lem}
+use Rattle.readings.specs.Demand.{TextField, is_key, is_plain_value}
 
 module _ (body : List ℕ) (v : View) (m : MapSheet) (all : List Child) where
   pub data KeyFrom : Option (List ℕ) → Type 0 where
@@ -52,7 +52,7 @@ module _ (body : List ℕ) (v : View) (m : MapSheet) (all : List Child) where
   field_from f k x c i =
       pick_cases FieldsFrom (sameb c.start.name.local (key_name m)) _ _ (λ e. key_from f x c i (is_key e) (text_of v c) refl)
       (λ e. pick_cases FieldsFrom (sameb c.start.name.local (value_name m)) _ _
-      (λ h. value_from f k c i (value_aggregate m) (is_value_lem e h)) (λ h. fields {f = f} k x))
+      (λ h. value_from f k c i (value_aggregate m) (is_plain_value e h)) (λ h. fields {f = f} k x))
 
   pub fields_from : (l : List Child) → ((c : Child) → Memᴰ c l → Memᴰ c all) → (f : Fields) → KeyFrom f.key
       → ValueFrom f.value → FieldsFrom (read_fields body v m l f)
