@@ -4,7 +4,8 @@
 A file of crates/*/specs fails where it has a `ruleset`, an axiom or a law. A law is a declaration with a body that is neither
 `abbrev` nor `unfoldable`, so that only its type says anything; or one that is, and whose type ends in an equation, an order, `⊥`, or
 a type of specs/ that speaks of values, as `Passed body table final` does. A file of specs/ or src/ fails where it takes a name from
-a proofs/, so that all that a contract says is said in specs/. A file of the three fails where a line is longer than 140 characters.
+a proofs/ of ours, so that all that a contract says is said in specs/ (the library has options and the like in modules `proofs`).
+A file of the three fails where a line is longer than 140 characters.
 Files are read as `rt fmt` writes them: a declaration begins at column 0, and its continuation does not.
 Each file counts once; the last line is `N passed, M failed`. Before it: how many lines each crate asks a reader to believe."""
 

@@ -1,4 +1,4 @@
-// The open operations as a static library for C and Rust (include/falzheod.h, rust/): each answers 01's number, 0 where it finished.
+// The open operations: each answers 01's number, 0 where it finished. `falzheod_c` exports them for C and Rust (include/falzheod.h, rust/).
 // It only turns the answers of the crates below into numbers; specs/ sets out the number and the values of each case.
 #![tactic(auto)]
 

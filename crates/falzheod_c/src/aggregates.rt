@@ -4,7 +4,6 @@ ghost use Rattle.deserializer.specs.Demand.{Demanded};
 ghost use Rattle.deserializer.specs.declared.Shape.{Shape};
 ghost use Rattle.readings.specs.Call.{uploaded, calling};
 
-// The structure reading: 0, 1, 2, 3, 4, 5, 9 or 10.
 #[unsafe(no_mangle)]
 pub extern "C" fn falzheod_read_struct(
     body: &[u8],
@@ -31,7 +30,6 @@ pub extern "C" fn falzheod_read_struct(
     )
 }
 
-// The list reading: 0, 1, 2, 3, 4, 9 or 10. No text is written.
 #[unsafe(no_mangle)]
 pub extern "C" fn falzheod_read_list(
     body: &[u8],
@@ -58,7 +56,6 @@ pub extern "C" fn falzheod_read_list(
     )
 }
 
-// The map reading: 0, 1, 2, 3, 4, 6, 7, 8, 9 or 10.
 #[unsafe(no_mangle)]
 pub extern "C" fn falzheod_read_map(
     body: &[u8],
@@ -89,7 +86,6 @@ pub extern "C" fn falzheod_read_map(
     )
 }
 
-// The string list reading: 0, 1, 2, 3, 4, 6, 7, 8, 9 or 10.
 #[unsafe(no_mangle)]
 pub extern "C" fn falzheod_read_string_list(
     body: &[u8],

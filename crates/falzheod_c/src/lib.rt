@@ -1,5 +1,6 @@
-// The exports for C and Rust (include/falzheod.h, rust/): each calls the function of `falzheod` that has its name, and promises the same.
-// A crate is a library or a static library, so this one stands above `falzheod`, on which alone it rests, and nothing is decided here.
+// The exports for C and Rust (include/falzheod.h, rust/): each calls the operation of `falzheod` that has its name, and promises the same,
+// word for word, to which tools/exports.py holds it. A crate is a library or a static library, so this one stands above `falzheod`, on
+// which alone it rests; what an operation is, is said there.
 #![tactic(auto)]
 
 ghost use Rattle.std.specs.Prelude.{◌≡◌};
@@ -13,7 +14,6 @@ ghost use Rattle.falzheod.specs.Numbers.{ValidateCall, UnescapeCall, DrainCall};
 pub mod aggregates;
 pub mod scalars;
 
-// 0 where each reference of the text is right, else 7; `place` is then where the first failing `&` stands in the text, else 0.
 #[unsafe(no_mangle)]
 pub extern "C" fn falzheod_validate_references(text: &[u8], place: &mut usize) -> u32
     ensures validated { ValidateCall (validated text.now) place.new result }
@@ -21,8 +21,6 @@ pub extern "C" fn falzheod_validate_references(text: &[u8], place: &mut usize) -
     falzheod::falzheod_validate_references(text, place)
 }
 
-// Replaces each reference of the text by its character, into out: 0, 7 or 10. `length` is how many bytes of out were written, and `place`
-// where the first failing `&` stands in the text, 0 where the number is not 7.
 #[unsafe(no_mangle)]
 pub extern "C" fn falzheod_unescape(
     text: &[u8],
@@ -36,7 +34,6 @@ pub extern "C" fn falzheod_unescape(
     falzheod::falzheod_unescape(text, out, length, place)
 }
 
-// 1 where the text is well-formed UTF-8, else 0.
 #[unsafe(no_mangle)]
 pub extern "C" fn falzheod_is_utf8(text: &[u8]) -> u32
     ensures well_formed { result ≡ yes_no (is_utf8 text.now) }
@@ -44,8 +41,6 @@ pub extern "C" fn falzheod_is_utf8(text: &[u8]) -> u32
     falzheod::falzheod_is_utf8(text)
 }
 
-// The strict drain of a body by its table: 0, 1 or 9. `row` and `cause` are the first failing row and its cause where it is 9, else 0;
-// `place` is where the failing `&` stands in the body where the cause is a reference, else 0.
 #[unsafe(no_mangle)]
 pub extern "C" fn falzheod_drain(
     body: &[u8],

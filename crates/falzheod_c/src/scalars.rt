@@ -6,7 +6,6 @@ ghost use Rattle.deserializer.specs.Call.{settings_by, shape_depth};
 ghost use Rattle.scalar.specs.Calls.{BooleanCall, IntegerCall, StringCall, FindCall, BooleanRead, IntegerRead, StringRead};
 ghost use Rattle.falzheod.specs.Numbers.{size_of};
 
-// The boolean that a text spells: 0 or 11.
 #[unsafe(no_mangle)]
 pub extern "C" fn falzheod_text_boolean(text: &[u8], value: &mut u32) -> u32
     ensures value { BooleanCall (boolean_of text.now) value.old value.new result }
@@ -14,7 +13,6 @@ pub extern "C" fn falzheod_text_boolean(text: &[u8], value: &mut u32) -> u32
     falzheod::scalars::falzheod_text_boolean(text, value)
 }
 
-// The integer that a text spells: 0 or 12.
 #[unsafe(no_mangle)]
 pub extern "C" fn falzheod_text_integer(text: &[u8], value: &mut i32) -> u32
     ensures value { IntegerCall (integer_of text.now) value.old value.new result }
@@ -22,7 +20,6 @@ pub extern "C" fn falzheod_text_integer(text: &[u8], value: &mut i32) -> u32
     falzheod::scalars::falzheod_text_integer(text, value)
 }
 
-// A text as a string: 0 or 10.
 #[unsafe(no_mangle)]
 pub extern "C" fn falzheod_text_string(text: &[u8], out: &mut [u8], length: &mut usize) -> u32
     ensures value { StringCall (string_in (size_of out.old) text.now) out.old out.new
@@ -31,7 +28,6 @@ pub extern "C" fn falzheod_text_string(text: &[u8], out: &mut [u8], length: &mut
     falzheod::scalars::falzheod_text_string(text, out, length)
 }
 
-// The boolean of a body: 0, 1, 4, 6, 7, 8, 9 or 11. The maximum depth is not asked.
 #[unsafe(no_mangle)]
 pub extern "C" fn falzheod_read_boolean(
     body: &[u8],
@@ -48,7 +44,6 @@ pub extern "C" fn falzheod_read_boolean(
     falzheod::scalars::falzheod_read_boolean(body, rows, end, flags, depth, value, place)
 }
 
-// The integer of a body: 0, 1, 4, 6, 7, 8, 9 or 12.
 #[unsafe(no_mangle)]
 pub extern "C" fn falzheod_read_integer(
     body: &[u8],
@@ -65,7 +60,6 @@ pub extern "C" fn falzheod_read_integer(
     falzheod::scalars::falzheod_read_integer(body, rows, end, flags, depth, value, place)
 }
 
-// The string of a body: 0, 1, 4, 6, 7, 8, 9 or 10.
 #[unsafe(no_mangle)]
 pub extern "C" fn falzheod_read_string(
     body: &[u8],
@@ -83,7 +77,6 @@ pub extern "C" fn falzheod_read_string(
     falzheod::scalars::falzheod_read_string(body, rows, end, flags, depth, out, length, place)
 }
 
-// The part of a body that has the name: 0, 1 or 13. Start and length are 0 where it is refused.
 #[unsafe(no_mangle)]
 pub extern "C" fn falzheod_find(
     body: &[u8],
@@ -99,7 +92,6 @@ pub extern "C" fn falzheod_find(
     falzheod::scalars::falzheod_find(body, rows, end, name, start, length)
 }
 
-// The whole text of a body: 0, 1, 4, 6, 9 or 10.
 #[unsafe(no_mangle)]
 pub extern "C" fn falzheod_whole_text(
     body: &[u8],

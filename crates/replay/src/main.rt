@@ -12,9 +12,10 @@ mod reading;
 
 use answer::Outcome;
 
-// Standard input and output, as the system numbers them.
+// Standard input, as the system numbers it.
 const STDIN_FILENO: i32 = 0;
 
+// Standard output.
 const STDOUT_FILENO: i32 = 1;
 
 // How far the replay is: the lines of each kind, the bytes held of the line that is being read, and whether there may be more to read.

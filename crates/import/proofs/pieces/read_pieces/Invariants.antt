@@ -13,5 +13,4 @@ invariant-loop-k l =
     (length l.initial.piece_texts) l.count l.initial.numbers l.piece_entries l.piece_texts l.numbers l.k
 
 abbrev pub decreases-loop-k : goal.decreases-loop-k
-decreases-loop-k l =
-    l.count - l.k
+decreases-loop-k l = l.count - l.k
