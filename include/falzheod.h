@@ -6,7 +6,7 @@
  * C and C++, also into static and into freestanding programs, and calls nothing from
  * outside but what is named here, which every C library has:
  *
- *     needs: memcpy memset
+ *     needs: memcpy memmove memset
  *
  * Threads: there is no state, so calls may run at the same time, as long as nothing
  * that one of them writes is lent to another.
@@ -255,7 +255,7 @@ uint32_t falzheod_drain(const uint8_t *body, size_t body_len, const uint32_t *ro
  * and one with a colon by prefix and local name, split at its first colon; children of a
  * structure, keys and values have exactly the local name that is asked for.
  *
- * A call keeps some 50 KB on the stack at most. */
+ * A call keeps some 56 KB on the stack at most. */
 
 /* A structure. Sheet: bits 0 XML name, 1 original name, 2 member name, 3 unwrapped; then
  * the shape name, always; a count 0 to 64; and members: bits 0 XML name, 1 member name,
@@ -344,7 +344,8 @@ uint32_t falzheod_read_boolean(const uint8_t *body, size_t body_len,
                                size_t *place);
 
 /* The same as an integer: an optional sign and one or more digits, in the range of 32
- * bits; FALZHEOD_NOT_INTEGER else. `*place` is as in falzheod_read_boolean.
+ * bits; FALZHEOD_NOT_INTEGER else. `*place` is as in falzheod_read_boolean. A call keeps
+ * some 66 KB on the stack at most.
  *
  * Not in place: `*value` and `*place` must not overlap `body`, `rows` or each other. */
 uint32_t falzheod_read_integer(const uint8_t *body, size_t body_len,

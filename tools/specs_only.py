@@ -4,7 +4,8 @@
 A file of crates/*/specs fails where it has a `ruleset`, an axiom or a law. A law is a declaration with a body that is neither
 `abbrev` nor `unfoldable`, so that only its type says anything; or one that is, and whose type ends in an equation, an order, `⊥`, or
 a type of specs/ that speaks of values, as `Passed body table final` does. A file of specs/ or src/ fails where it takes a name from
-a proofs/ of ours, so that all that a contract says is said in specs/ (the library has options and the like in modules `proofs`).
+a proofs/ of ours, so that all that a contract says is said in specs/ (the library has options and the like in modules `proofs`). In src/
+an `impl` may: where it proves a law of its trait, below its last function, what no clause can cite.
 A file of the three fails where a line is longer than 140 characters.
 Files are read as `rt fmt` writes them: a declaration begins at column 0, and its continuation does not.
 Each file counts once; the last line is `N passed, M failed`. Before it: how many lines each crate asks a reader to believe."""
@@ -20,6 +21,7 @@ SECTION = re.compile(r"(unfoldable |abbrev )*(module|mutual)\b")
 PLAIN = re.compile(r"((pub )?(record|data|use|mod) |infix[lr]? |unfolding )")
 SIGNATURE = re.compile(r"((?:unfoldable |abbrev |pub )*)([^\s(){};,@\".]+)(?: \{[^}]*\})? :(?:\s|$)(.*)", re.S)
 PROOFS = re.compile(r"^(?!\s*(?:--|//)).*Rattle\.(?!std\.)\w+\.proofs\b")
+LAW = re.compile(r"^    ghost \w+ = \{")
 PROPOSITION = re.compile(r"(^| )(≡|≢|≤|<|≥|>|↔|⊥)( |$)")
 TYPE = re.compile(r"^ *(?:pub )?(?:record|data) (\S+)([^\n]*(?:\n {4,}[^\n]*)*?) where$", re.M)
 NAMED = re.compile(r"^ *(?:unfoldable |abbrev |pub )+(\S+)( : [^\n]*(?:\n {4,}→[^\n]*)*) → Type \d+$", re.M)
@@ -60,6 +62,18 @@ def laws(lines, first, about, marks=""):
                 yield first + k, "a law, though it unfolds: " + signature.group(2)
 
 
+def of_laws(lines, k):
+    """whether line k takes names from proofs/ that stand in the proofs of laws alone"""
+    names = re.search(r"\{(.*)\}", lines[k])
+    uses = [i for name in names.group(1).split(", ") for i, line in enumerate(lines)
+            if i != k and re.search(r"(?<![\w-])%s(?![\w-])" % re.escape(name), line)] if names else []
+    for i in uses:
+        end = next((j for j in range(i, len(lines)) if lines[j] == "}"), len(lines))
+        if not LAW.match(lines[i]) or any(re.search(r"\bfn ", line) for line in lines[i:end]):
+            return False
+    return bool(uses)
+
+
 def main():
     files, about = {}, set()
     for folder, _, names in sorted(os.walk(os.path.join(ROOT, "crates"))):
@@ -76,7 +90,8 @@ def main():
         lines = text.split("\n")
         found = [(k, "%d characters" % len(line)) for k, line in enumerate(lines, 1) if len(line) > WIDE]
         if kind != "proofs":
-            found += [(k, "it rests on proofs/: " + line) for k, line in enumerate(lines, 1) if PROOFS.search(line)]
+            found += [(k, "it rests on proofs/: " + line) for k, line in enumerate(lines, 1)
+                      if PROOFS.search(line) and not (kind == "src" and of_laws(lines, k - 1))]
         if kind == "specs":
             found += laws(lines, 1, about)
             believe[crate] = believe.get(crate, 0) + len(lines) - 1

@@ -1,11 +1,5 @@
--- Laws: of fields one after another, of names, of bit maps, of a structure sheet's head, members and whole, of members that were read, of
--- list and map sheets, and of depths.
-pub mod Fronts
-pub mod Names
-pub mod Bits
-pub mod Heads
-pub mod Members
-pub mod Structures
+-- Laws: bytes that are left, members gathered by their places, and members in sheet order, by name.
+pub mod Onward
+pub mod Gathering
+pub mod Fronting
 pub mod Resolving
-pub mod Collections
-pub mod Depths

@@ -1,5 +1,4 @@
-pub mod Settings
+pub mod Told
 pub mod Guard
-pub mod Field
-pub mod Structure
+pub mod Members
 pub mod Collection

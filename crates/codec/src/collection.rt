@@ -1,134 +1,184 @@
-// List and map sheets: a bit map and two names each, and the names that their items, entries, keys and values have.
-ghost use Rattle.std.specs.Prelude.{◌≡◌, ◌<◌};
-ghost use Rattle.lists.specs.Bytes.{ascii, sameb};
-ghost use Rattle.sheet.specs.Names.{key_name, value_name};
-ghost use Rattle.codec.specs.Collection.{with_third, is_whole, ListSaid, ListRead, map_said, MapSaid, MapRead};
-ghost use Rattle.codec.specs.Collection.{ItemNamed, ItemsNamed, EntriesNamed};
+// List and map sheets that were read, and the names that their items, entries, keys and values have.
+ghost use Rattle.std.specs.Prelude.{◌≡◌};
+ghost use Rattle.lists.specs.Bytes.{sameb};
+ghost use Rattle.sheet.specs.Sheet.{list_of, map_of};
+ghost use Rattle.sheet.specs.Names.{entry_name, item_name, key_name, value_aggregate, value_name};
+ghost use Rattle.codec.specs.Told.{told, told_name};
 
-use crate::field::{MarkedPair, Span, both, fields_at, has_bit, name_or, or_else};
-use crate::settings::Settings;
+use crate::reader::{Reader, has_bit};
+use sheet::Settings;
+use std::marker::Model;
 
-// A list sheet that was read. The name is the XML name, else the member name.
+// The names of a list's member.
 #[derive(Clone, Copy)]
-pub struct ListSheet {
-    pub ok: bool,
-    pub member: bool,
-    pub flattened: bool,
-    pub name: Span,
+struct Item<'a> {
+    xml_name: Option<&'a [u8]>,
+    member_name: Option<&'a [u8]>,
 }
 
-// A map sheet that was read.
+// A list sheet that was read. A clause sees what it says.
+#[derive(Drop)]
+pub struct ListSheet<'a> {
+    item: Option<Item<'a>>,
+    flattened: bool,
+}
+
+impl<'a> Model for ListSheet<'a> {
+    ghost use Rattle.sheet.specs.Sheet.{ListSheet as Said};
+
+    ghost Value = { Said };
+
+    ghost use Rattle.codec.specs.Collection.{list_said};
+
+    ghost view = { list_said };
+}
+
+impl<'a> ListSheet<'a> {
+    // Reads a list sheet; None where it is broken (2).
+    #[tactic(auto, unfolding(sheet::specs::Sheet::list_of))]
+    pub fn parse(bytes: &'a [u8]) -> Option<Self>
+        ensures { list_of bytes.now ≡ told result }
+    {
+        let mut reader = Reader::new(bytes);
+        let bits = reader.bit_map(16)?;
+        let has_member = has_bit(bits, 1);
+        if !has_member && (has_bit(bits, 4) || has_bit(bits, 8)) {
+            return None;
+        }
+        let xml_name = reader.name_if(has_bit(bits, 4))?;
+        let member_name = reader.name_if(has_bit(bits, 8))?;
+        if !reader.rest().is_empty() {
+            return None;
+        }
+        let item = if has_member {
+            Some(Item {
+                xml_name,
+                member_name,
+            })
+        } else {
+            None
+        };
+        Some(ListSheet {
+            item,
+            flattened: has_bit(bits, 2),
+        })
+    }
+
+    // The name that items must match, `list_item_name`: the XML name, the member name, or `member`; None where every child is an item.
+    pub fn item_name(&self, settings: Settings) -> Option<&'a [u8]>
+        ensures { item_name settings self.now ≡ told_name result }
+    {
+        if !settings.strict_collection_element_names || self.flattened {
+            return None;
+        }
+        let item = self.item?;
+        Some(item.xml_name.or(item.member_name).unwrap_or(b"member"))
+    }
+}
+
+// What a map's sheet says of its values.
 #[derive(Clone, Copy)]
-pub struct MapSheet {
-    pub ok: bool,
-    pub flattened: bool,
-    pub aggregate: bool,
-    pub key: Span,
-    pub value: Span,
+struct Value<'a> {
+    xml_name: Option<&'a [u8]>,
+    aggregate: bool,
 }
 
-// Whether two bits of a bit map stand only with a third.
-fn with_third(bits: usize, third: usize, a: usize, b: usize) -> bool
-    requires { (0 < third) × (0 < a) × (0 < b) }
-    ensures { result ≡ with_third bits third a b }
-{
-    if has_bit(bits, third) {
-        return true;
+// A map sheet that was read. A clause sees what it says.
+#[derive(Drop)]
+pub struct MapSheet<'a> {
+    flattened: bool,
+    key_xml_name: Option<&'a [u8]>,
+    value: Option<Value<'a>>,
+}
+
+impl<'a> Model for MapSheet<'a> {
+    ghost use Rattle.sheet.specs.Sheet.{MapSheet as Said};
+
+    ghost Value = { Said };
+
+    ghost use Rattle.codec.specs.Collection.{map_said};
+
+    ghost view = { map_said };
+}
+
+impl<'a> MapSheet<'a> {
+    // Reads a map sheet; None where it is broken (2).
+    #[tactic(auto, unfolding(sheet::specs::Sheet::map_of))]
+    pub fn parse(bytes: &'a [u8]) -> Option<Self>
+        ensures { map_of bytes.now ≡ told result }
+    {
+        let mut reader = Reader::new(bytes);
+        let bits = reader.bit_map(32)?;
+        let has_value = has_bit(bits, 4);
+        if !has_value && (has_bit(bits, 8) || has_bit(bits, 16)) {
+            return None;
+        }
+        let key_xml_name = reader.name_if(has_bit(bits, 2))?;
+        let xml_name = reader.name_if(has_bit(bits, 8))?;
+        if !reader.rest().is_empty() {
+            return None;
+        }
+        let value = if has_value {
+            Some(Value {
+                xml_name,
+                aggregate: has_bit(bits, 16),
+            })
+        } else {
+            None
+        };
+        Some(MapSheet {
+            flattened: has_bit(bits, 1),
+            key_xml_name,
+            value,
+        })
     }
-    if has_bit(bits, a) {
-        return false;
+
+    // The name that map entries must match, `is_map_entry`: `entry`; None where every child is an entry.
+    pub fn entry_name(&self, settings: Settings) -> Option<&'a [u8]>
+        ensures { entry_name settings self.now ≡ told_name result }
+    {
+        if !settings.strict_collection_element_names || self.flattened {
+            return None;
+        }
+        Some(b"entry")
     }
-    !has_bit(bits, b)
-}
 
-// Whether the fields that were read are a sheet: it ends with its last field, and two of its bits stand only with a third.
-fn is_whole(sheet: &[u8], f: MarkedPair, third: usize, a: usize, b: usize) -> bool
-    requires { (0 < third) × (0 < a) × (0 < b) }
-    ensures { result ≡ is_whole sheet.now f third a b }
-{
-    let fits = both(f.ok, with_third(f.bits, third, a, b));
-    both(fits, sheet.len() <= f.next)
-}
-
-// Reads a list sheet.
-pub fn parse_list(sheet: &[u8]) -> ListSheet
-    ensures { ListRead sheet.now result }
-{
-    let f = fields_at(sheet, 0, 16, 4, 8);
-    let first = f.first;
-    let second = f.second;
-    let name = or_else(first, second);
-    ListSheet {
-        ok: is_whole(sheet, f, 1, 4, 8),
-        member: has_bit(f.bits, 1),
-        flattened: has_bit(f.bits, 2),
-        name,
+    pub fn key_name(&self) -> &'a [u8]
+        ensures { result.now ≡ key_name self.now }
+    {
+        self.key_xml_name.unwrap_or(b"key")
     }
-}
 
-// Reads a map sheet.
-pub fn parse_map(sheet: &[u8]) -> MapSheet
-    ensures { MapRead sheet.now result }
-{
-    let f = fields_at(sheet, 0, 32, 2, 8);
-    let key = f.first;
-    let value = f.second;
-    MapSheet {
-        ok: is_whole(sheet, f, 4, 8, 16),
-        flattened: has_bit(f.bits, 1),
-        aggregate: has_bit(f.bits, 16),
-        key,
-        value,
+    pub fn value_name(&self) -> &'a [u8]
+        ensures { result.now ≡ value_name self.now }
+    {
+        match self.value {
+            Some(value) => value.xml_name.unwrap_or(b"value"),
+            None => b"value",
+        }
     }
-}
 
-// The name of a list's items, if it has a member; `otherwise` is b"member".
-pub fn item_name<'a>(sheet: &'a [u8], list: ListSheet, otherwise: &'a [u8]) -> &'a [u8]
-    requires list_said { ListSaid sheet.now list }
-    requires otherwise_value { otherwise.now ≡ ascii "member" }
-    ensures { ItemNamed sheet.now list result.now }
-{
-    let name = list.name;
-    name_or(sheet, name, otherwise)
-}
-
-// Whether items must have that name: `list_item_name`.
-pub fn names_items(settings: Settings, list: ListSheet) -> bool
-    ensures { ItemsNamed settings list result }
-{
-    if !settings.strict_collection_element_names {
-        return false;
+    // Whether values are aggregates.
+    pub fn value_aggregate(&self) -> bool
+        ensures { result ≡ value_aggregate self.now }
+    {
+        match self.value {
+            Some(value) => value.aggregate,
+            None => false,
+        }
     }
-    if list.flattened {
-        return false;
+
+    // Whether a child of a map entry is its key.
+    pub fn is_key(&self, local: &[u8]) -> bool
+        ensures { result ≡ sameb local.now (key_name self.now) }
+    {
+        slices::same(local, self.key_name())
     }
-    list.member
-}
 
-// Whether map entries must be named `entry`: `is_map_entry`.
-pub fn names_entries(settings: Settings, map: MapSheet) -> bool
-    ensures { EntriesNamed settings map result }
-{
-    if !settings.strict_collection_element_names {
-        return false;
+    // Whether it is its value.
+    pub fn is_value(&self, local: &[u8]) -> bool
+        ensures { result ≡ sameb local.now (value_name self.now) }
+    {
+        slices::same(local, self.value_name())
     }
-    !map.flattened
-}
-
-// Whether a child of a map entry is its key.
-pub fn is_key(sheet: &[u8], map: MapSheet, local: &[u8]) -> bool
-    requires { MapSaid sheet.now map }
-    ensures { result ≡ sameb local.now (key_name (map_said sheet.now)) }
-{
-    let name = map.key;
-    slices::same(local, name_or(sheet, name, b"key"))
-}
-
-// Whether it is its value.
-pub fn is_value(sheet: &[u8], map: MapSheet, local: &[u8]) -> bool
-    requires { MapSaid sheet.now map }
-    ensures { result ≡ sameb local.now (value_name (map_said sheet.now)) }
-{
-    let name = map.value;
-    slices::same(local, name_or(sheet, name, b"value"))
 }

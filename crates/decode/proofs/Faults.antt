@@ -2,77 +2,105 @@
 use Prim.Native.Nat.{ℕ, zero, suc, ◌+◌, ◌-◌, ◌*◌, ◌≤◌, ◌<◌}
 use mathlib.Core.Path.{◌≡◌, refl, sym, ◌∙◌, ap}
 use mathlib.Core.Bool.{Bool, true, false}
-use mathlib.Core.List.{List, ◌∷◌}
+use mathlib.Core.List.{List}
 use native.Mathlib.Omega.{arith}
-use borrow.Author.Rules.{rules}
-use lib.ListN.{length, get_or, drop, length-take}
+use borrow.Author.Tests.{leb-true, leb-false}
+use lib.Dec.{leb}
+use lib.ListN.{length, get_or, drop, length-drop, length-take}
 use lib.Seq.{get_or-take, get_or-drop}
+use Rattle.std.specs.Prelude.{Ok, Err}
 use Rattle.lists.proofs.Parts.{get_d_in}
-use Rattle.lists.specs.Find.{Clear, NextAt}
+use Rattle.lists.specs.Decide.{Says}
+use Rattle.lists.specs.Find.{Clear}
 use Rattle.lists.specs.Tests.{pick}
-use Rattle.lists.proofs.Tests.{false_true}
 use Rattle.reference.specs.Text.{validated}
+use Rattle.reference.specs.declared.BadReference.{BadReference}
 use Rattle.reference.proofs.Result.{plain_valid}
 use Rattle.reference.proofs.Grammar.{validated_none}
-use Rattle.reference.specs.declared.Validated.{Validated}
-use Rattle.table.specs.Row.{Name, Matter, text, misc, references_in, Tok, cut, tok_as}
-use Rattle.table.specs.Rules.{most_kind}
-use Rattle.table.proofs.Classes.{OfMatter, Kind, of_start, of_attr, of_gt, of_close, of_slash, of_matter, of_error, kind_of_lem}
+use Rattle.table.specs.Row.{Name, cut, tok_as}
+use Rattle.table.specs.Rows.{InTable, Obeys, name_at, value_at}
+use Rattle.table.specs.Kinds.{kind_number}
+use Rattle.table.specs.declared.kinds.Kind.{Kind}
+use Rattle.table.proofs.Valid.{spans_within}
 use Rattle.xml.specs.Drain.{same_name, has_name}
 use Rattle.xml.specs.declared.Cause.{Cause}
-use Rattle.decode.specs.declared.drain.Fault.{Fault}
-use Rattle.decode.specs.Rows.{InTable, Readable, name_at, value_at}
-use Rattle.decode.specs.Drain.{names_back, as_fault, value_fault, is_valid, value_passes, fault_if, LiesIn, fault_of, FaultIs, WellPlaced}
-use Rattle.decode.specs.Drain.{top_of}
-use Rattle.decode.proofs.Names.{value_span}
+use Rattle.xml.proofs.Tests.{same_name_lem, name_same}
+use Rattle.decode.specs.Drain.{back, names_back, Fault, value_fault, LiesIn, FaultIs, top_of}
+
+-- ---- whether names are the same, as a flag
+yes_same : {m n : Name} → Says (m ≡ n) true → true ≡ same_name m n
+yes_same {m} {n} s = sym (rw (s.sound refl) (name_same n))
+
+no_same : {m n : Name} → Says (m ≡ n) false → false ≡ same_name m n
+no_same {m} {n} s = go (same_name m n) refl
+  where
+    go : (u : Bool) → same_name m n ≡ u → false ≡ u
+    go true e = s.complete (same_name_lem m n e)
+    go false e = refl
+
+pub same_is : {m n : Name} {r : Bool} → Says (m ≡ n) r → r ≡ same_name m n
+same_is {r = true} s = yes_same s
+same_is {r = false} s = no_same s
 
 -- ---- a name that repeats
-pub names_first : (body t : List ℕ) (tag j : ℕ) → tag + 1 < j
-    → names_back body t tag j ≡ name_at body t (j - 1) ∷ names_back body t tag (j - 1)
-names_first body t tag j h = let e : j - (tag + 1) ≡ suc ((j - 1) - (tag + 1)) = omega arith in rw e
-
--- row k is compared with the rows back to j: those before are to be compared still
-pub record RepeatAt (body t : List ℕ) (tag k j : ℕ) : Type 0 where
-  pub low : tag < j
-  pub high : j ≤ k
-  pub rest : has_name (name_at body t k) (names_back body t tag j) ≡ has_name (name_at body t k) (names_back body t tag k)
-
-pub repeat_start : (body t : List ℕ) (tag k : ℕ) → tag < k → RepeatAt body t tag k k
-repeat_start body t tag k h = record { low = h; high = omega arith; rest = refl }
-
-module _ {body t : List ℕ} {tag k j : ℕ} (at : RepeatAt body t tag k j) (h : tag + 1 < j) where
-  pub repeat_in : InTable t k → InTable t (j - 1)
-  repeat_in i = record { row = omega (arith, i.row, at.high) }
-
-  first_seen : has_name (name_at body t k) (names_back body t tag j)
-      ≡ pick (same_name (name_at body t k) (name_at body t (j - 1))) true (has_name (name_at body t k) (names_back body t tag (j - 1)))
+module _ (body t : List ℕ) (m : Name) where
+  some_back : (k i j : ℕ) → i ≤ k → k ≤ i + j → j < k → same_name m (name_at body t j) ≡ true → has_name m (back body t k i) ≡ true
   unfolding has_name
-  first_seen = ap (has_name (name_at body t k)) (names_first body t tag j h)
+  some_back k zero j a b c e = absurd (omega arith)
+  some_back k (suc i) j a b c e =
+      go (leb k (j + 1)) refl (λ h. some_back (k - 1) i j (omega arith) (omega arith) (omega arith) e)
+    where
+      go : (u : Bool) → leb k (j + 1) ≡ u → (j < k - 1 → has_name m (back body t (k - 1) i) ≡ true)
+          → pick (same_name m (name_at body t (k - 1))) true (has_name m (back body t (k - 1) i)) ≡ true
+      go true q f = let z : k - 1 ≡ j = omega (arith, leb-true k (j + 1) q) in rw (z, e)
+      go false q f = more (same_name m (name_at body t (k - 1))) (f (omega (arith, leb-false k (j + 1) q)))
+        where
+          more : (v : Bool) {w : Bool} → w ≡ true → pick v true w ≡ true
+          more true x = refl
+          more false x = x
 
-  module _ {u : Bool} (e : u ≡ same_name (name_at body t k) (name_at body t (j - 1))) where
-    pub repeat_yes : u ≡ true → true ≡ has_name (name_at body t k) (names_back body t tag k)
-    repeat_yes q = rw (← at.rest, first_seen, ← e, q)
+  none_back : (k i : ℕ) → i ≤ k → ((j : ℕ) → k ≤ i + j → j < k → same_name m (name_at body t j) ≡ false)
+      → has_name m (back body t k i) ≡ false
+  unfolding has_name
+  none_back k zero a f = refl
+  none_back k (suc i) a f =
+      rw (f (k - 1) (omega arith) (omega arith), none_back (k - 1) i (omega arith) (λ j b c. f j (omega arith) (omega arith)))
 
-    pub repeat_no : u ≡ false → RepeatAt body t tag k (j - 1)
-    repeat_no q = record { low = omega arith; high = omega (arith, at.high); rest = sym (rw (← e, q) at first_seen) ∙ at.rest }
+-- none of the rows from one on and before row j has the name of row k
+pub record NoneNamed (body t : List ℕ) (tag k j : ℕ) : Type 0 where
+  pub none : (i : ℕ) → tag < i → i < j → same_name (name_at body t k) (name_at body t i) ≡ false
 
-pub repeat_end : {body t : List ℕ} {tag k j : ℕ} → RepeatAt body t tag k j → j ≤ tag + 1
-    → false ≡ has_name (name_at body t k) (names_back body t tag k)
-unfolding has_name
-repeat_end {body} {t} {tag} {k} {j} at h = let e : j - (tag + 1) ≡ 0 = omega arith in rw (← at.rest, e)
+pub named_start : (body t : List ℕ) (tag k : ℕ) → NoneNamed body t tag k (tag + 1)
+named_start body t tag k = record { none = λ i a b. absurd (omega arith) }
 
-pub ruleset repeat_laws = (rules, repeat_start, repeat_in, repeat_yes, repeat_no, repeat_end)
+module _ (body t : List ℕ) (tag k : ℕ) where
+  pub named_on : {j : ℕ} → NoneNamed body t tag k j → {r : Bool} → Says (name_at body t k ≡ name_at body t j) r → r ≡ false
+      → NoneNamed body t tag k (j + 1)
+  named_on {j} w s q =
+      record {
+        none = λ i a b. here i a b (leb (i + 1) j) refl;
+      }
+    where
+      here : (i : ℕ) → tag < i → i < j + 1 → (u : Bool) → leb (i + 1) j ≡ u → same_name (name_at body t k) (name_at body t i) ≡ false
+      here i a b true e = w.none i a (omega (arith, leb-true (i + 1) j e))
+      here i a b false e = let z : i ≡ j = omega (arith, leb-false (i + 1) j e) in rw z (sym (same_is s) ∙ q)
+
+  pub named_yes : (j : ℕ) → tag < j → j < k → {r : Bool} → Says (name_at body t k ≡ name_at body t j) r → r ≡ true
+      → true ≡ has_name (name_at body t k) (names_back body t tag k)
+  named_yes j a b s q =
+      sym (some_back body t (name_at body t k) k (k - (tag + 1)) j (omega arith) (omega arith) b (sym (same_is s) ∙ q))
+
+  pub named_none : {j : ℕ} → NoneNamed body t tag k j → k ≤ j → false ≡ has_name (name_at body t k) (names_back body t tag k)
+  named_none w h =
+      sym (none_back body t (name_at body t k) k (k - (tag + 1)) (omega arith) (λ j a b. w.none j (omega arith) (omega arith)))
 
 -- ---- a part without `&`
 pub plain_none : (body : List ℕ) → Clear body 38 0 0
 plain_none body = record { low = omega arith; high = omega arith; none = λ k l h e. absurd (omega arith) }
 
-pub plain_next : {body : List ℕ} {from to : ℕ} → NextAt body 38 from to → Clear body 38 from to
-plain_next x = x.clear
-
-module _ {body t : List ℕ} (q : Readable body t) {k : ℕ} (h : InTable t k) where
-  pub value_start_lem : {from : ℕ} → from ≡ get_or t (k * 8 + 5) 0 → from ≤ length body
-  value_start_lem e = omega (arith, (q.each k h.row).value)
+pub value_start_in : {body t : List ℕ} {final k : ℕ} → Obeys body t final → InTable t k → {from : ℕ} → from ≡ get_or t (k * 8 + 5) 0
+    → from ≤ length body
+value_start_in o h e = omega (arith, (spans_within o h).value)
 
 -- a value in it has none
 plain_cut : {body : List ℕ} {low high : ℕ} → Clear body 38 low high → (from len : ℕ) → low ≤ from → from + len ≤ high → (k : ℕ)
@@ -81,48 +109,31 @@ plain_cut {body} x from len l h k e =
     let g : k < len = omega (arith, get_d_in (cut body from len) k 37 e, length-take len (drop from body)) in
     x.none (from + k) (omega arith) (omega arith) (sym (get_or-take len (drop from body) k 0 g ∙ get_or-drop from body k 0) ∙ e)
 
-pub lies_not : (t : List ℕ) (k low high : ℕ) → LiesIn t k low high false
-lies_not t k low high = record { says = λ e. false_true e }
-
-pub lies : (t : List ℕ) (k : ℕ) {low high from len : ℕ} → from ≡ get_or t (k * 8 + 5) 0 → len ≡ get_or t (k * 8 + 6) 0 → low ≤ from
-    → from ≤ high → len ≤ high - from
-    → LiesIn t k low high true
-lies t k e f l m h = record { says = λ q. (omega arith, omega arith) }
-
-pub ruleset plain_laws = (rules, plain_none, plain_next, value_start_lem, lies_not, lies)
+-- the length of a value is that of its span
+value_length : {body t : List ℕ} {final k : ℕ} → Obeys body t final → InTable t k → length (value_at body t k) ≡ get_or t (k * 8 + 6) 0
+value_length {body} {t} {k = k} o i =
+    let m = length-take (get_or t (k * 8 + 6) 0) (drop (get_or t (k * 8 + 5) 0) body) in
+    omega (arith, m, length-drop (get_or t (k * 8 + 5) 0) body, (spans_within o i).value)
 
 -- ---- the fault of a value
-module _ (v : List ℕ) {x : List ℕ} {r : Validated} (p : x ≡ v) (e : r ≡ validated x) where
-  pub value_good : r ≡ Validated.Valid → true ≡ value_passes v
-  value_good q = rw (← p, ← e, q)
+module _ {body t : List ℕ} {final k : ℕ} (o : Obeys body t final) (i : InTable t k) where
+  pub value_plain : {low high : ℕ} → Clear body 38 low high → {from : ℕ} → from ≡ get_or t (k * 8 + 5) 0 → {l : List ℕ}
+      → l ≡ value_at body t k
+      → {r : Bool} → LiesIn from (length l) low high r → r ≡ true
+      → Ok tt ≡ value_fault (value_at body t k)
+  value_plain {low} {high} x {from} f {l} g w q =
+      let h = w.says q in
+      let z : length l ≡ get_or t (k * 8 + 6) 0 = ap length g ∙ value_length o i in
+      let y =
+      plain_valid (value_at body t k)
+      (plain_cut x (get_or t (k * 8 + 5) 0) (get_or t (k * 8 + 6) 0) (omega (arith, f, h.0)) (omega (arith, f, z, h.1))) in
+      rw y
 
-  pub value_bad : {at : ℕ} → r ≡ Validated.BadReference at → false ≡ value_passes v
-  value_bad q = rw (← p, ← e, q)
+pub value_good : {v l : List ℕ} → l ≡ v → Ok tt ≡ validated l → Ok tt ≡ value_fault v
+value_good g e = rw (← g, ← e)
 
-pub ruleset reference_laws = (rules, value_span, value_good, value_bad)
-
-pub passes_none : (u : Bool) → u ≡ true → Fault.Nothing ≡ fault_if u
-passes_none u q = rw q
-
-pub passes_not : (u : Bool) → u ≡ false → Fault.Is Cause.BadReference ≡ fault_if u
-passes_not u q = rw q
-
-pub ruleset passes_laws = (rules, passes_none, passes_not)
-
-module _ (body t : List ℕ) (k : ℕ) where
-  pub value_plain : {low high : ℕ} {r : Bool} → Clear body 38 low high → LiesIn t k low high r → r ≡ true
-      → Fault.Nothing ≡ value_fault (value_at body t k)
-  value_plain x i q =
-      let h = i.says q in
-      let z = plain_valid (value_at body t k) (plain_cut x (get_or t (k * 8 + 5) 0) (get_or t (k * 8 + 6) 0) h.0 h.1) in
-      rw z
-
-  pub value_read : {u : Bool} {f : Fault} → u ≡ value_passes (value_at body t k) → f ≡ fault_if u → f ≡ value_fault (value_at body t k)
-  value_read e p = p ∙ rw e (go (validated (value_at body t k)))
-    where
-      go : (r : Validated) → fault_if (is_valid r) ≡ as_fault r
-      go Validated.Valid = refl
-      go (Validated.BadReference at) = refl
+pub value_bad : {v l : List ℕ} {b : BadReference} → l ≡ v → Err b ≡ validated l → Err Cause.BadReference ≡ value_fault v
+value_bad g e = rw (← g, ← e)
 
 -- ---- the start row of the innermost open element
 pub top_none : (starts : List ℕ) (depth : ℕ) → depth ≡ 0 → 0 ≡ top_of starts depth
@@ -132,79 +143,44 @@ pub top_some : (starts : List ℕ) (depth : ℕ) → (depth ≡ 0 → ⊥) → g
 top_some starts zero h = absurd (h refl)
 top_some starts (suc d) h = let e : suc d - 1 ≡ d = omega arith in rw e
 
-pub ruleset top_laws = (rules, top_none, top_some)
+-- ---- the fault of one row, by its kind
+module _ (body t : List ℕ) (top k : ℕ) where
+  module _ (h : 2 ≡ get_or t (k * 8 + 0) 0) {u : Bool} (q : u ≡ has_name (name_at body t k) (names_back body t top k)) where
+    pub fault_repeated : u ≡ true → FaultIs body t top k (Err Cause.RepeatedAttribute)
+    unfolding tok_as
+    fault_repeated g = record { is = rw (← h, ← q, g) }
 
--- ---- the fault of one row
-module _ (body t : List ℕ) (top k : ℕ) {kind : ℕ} (e : kind ≡ get_or t (k * 8 + 0) 0) where
-  module _ {x : ℕ} (o : x ≡ top) {u : Bool} where
-    module _ (h : kind ≡ 2) (q : u ≡ has_name (name_at body t k) (names_back body t x k)) where
-      pub fault_repeated : u ≡ true → FaultIs body t top k (Fault.Is Cause.RepeatedAttribute)
-      unfolding tok_as
-      fault_repeated g = record { is = rw (← o, ← e, h, ← q, g) }
+    pub fault_value : {f : Fault} → u ≡ false → f ≡ value_fault (value_at body t k) → FaultIs body t top k f
+    unfolding tok_as
+    fault_value g p = record { is = rw (← h, ← q, g) p }
 
-      pub fault_value : {f : Fault} → u ≡ false → f ≡ value_fault (value_at body t k) → FaultIs body t top k f
-      unfolding tok_as
-      fault_value g p = record { is = rw (← o, ← e, h, ← q, g) p }
+  module _ (h : 4 ≡ get_or t (k * 8 + 0) 0) {u : Bool} (s : Says (name_at body t k ≡ name_at body t top) u) where
+    pub fault_matched : u ≡ true → FaultIs body t top k (Ok tt)
+    unfolding tok_as
+    fault_matched g = record { is = rw (← h, ← same_is s, g) }
 
-    module _ (h : kind ≡ 4) (q : u ≡ same_name (name_at body t k) (name_at body t x)) where
-      pub fault_matched : u ≡ true → FaultIs body t top k Fault.Nothing
-      unfolding tok_as
-      fault_matched g = record { is = rw (← o, ← e, h, ← q, g) }
+    pub fault_mismatched : u ≡ false → FaultIs body t top k (Err Cause.MismatchedEnd)
+    unfolding tok_as
+    fault_mismatched g = record { is = rw (← h, ← same_is s, g) }
 
-      pub fault_mismatched : u ≡ false → FaultIs body t top k (Fault.Is Cause.MismatchedEnd)
-      unfolding tok_as
-      fault_mismatched g = record { is = rw (← o, ← e, h, ← q, g) }
-
-  pub fault_text : {f : Fault} → kind ≡ 6 → f ≡ value_fault (value_at body t k) → FaultIs body t top k f
+  pub fault_text : {f : Fault} → 6 ≡ get_or t (k * 8 + 0) 0 → f ≡ value_fault (value_at body t k) → FaultIs body t top k f
   unfolding tok_as
-  fault_text h p = record { is = rw (← e, h) p }
+  fault_text h p = record { is = rw (← h) p }
 
-  pub fault_token : kind ≡ 8 → FaultIs body t top k (Fault.Is Cause.TokenError)
+  pub fault_token : 8 ≡ get_or t (k * 8 + 0) 0 → FaultIs body t top k (Err Cause.TokenError)
   unfolding tok_as
-  fault_token h = record { is = rw (← e, h) }
+  fault_token h = record { is = rw (← h) }
 
-  pub fault_none : WellPlaced t top k → (kind ≡ 2 → ⊥) → (kind ≡ 4 → ⊥) → (kind ≡ 6 → ⊥) → (kind ≡ 8 → ⊥)
-      → FaultIs body t top k Fault.Nothing
+  pub fault_none : (kind : Kind) → kind_number kind ≡ get_or t (k * 8 + 0) 0 → (kind ≡ Kind.Attribute → ⊥) → (kind ≡ Kind.Close → ⊥)
+      → (kind ≡ Kind.Text → ⊥)
+      → (kind ≡ Kind.Error → ⊥)
+      → FaultIs body t top k (Ok tt)
   unfolding tok_as
-  fault_none p a b c d =
-      record {
-        is = rw (← e) (go (kind_of_lem kind (name_at body t k) (value_at body t k)) (omega (arith, p.least))
-            (omega (arith, p.most)) a b c d);
-      }
-    where
-      of : {v : List ℕ} {i : ℕ} (x : Matter) → OfMatter v i x → (i ≡ 6 → ⊥) → Fault.Nothing ≡ value_fault (references_in x)
-      of (text v) w c = absurd (c (w.is_text v refl))
-      of misc w c = rw validated_none
-
-      go : {n : Name} {v : List ℕ} {i : ℕ} {u : Tok} → Kind n v i u → 1 ≤ i → i ≤ most_kind → (i ≡ 2 → ⊥) → (i ≡ 4 → ⊥) → (i ≡ 6 → ⊥)
-          → (i ≡ 8 → ⊥)
-          → Fault.Nothing ≡ fault_of (name_at body t top) (names_back body t top k) u
-      go of_start l m a b c d = refl
-      go of_attr l m a b c d = absurd (a refl)
-      go of_gt l m a b c d = refl
-      go of_close l m a b c d = absurd (b refl)
-      go of_slash l m a b c d = refl
-      go (of_matter {m = x} w) l m a b c d = of x w c
-      go (of_error w) l m a b c d = absurd (d (w.eight l m))
-
-module _ {t : List ℕ} {top k x : ℕ} (p : WellPlaced t top k) (o : x ≡ top) where
-  pub placed_start : InTable t x
-  placed_start = rw o p.start
-
-  pub placed_after : {kind : ℕ} → kind ≡ get_or t (k * 8 + 0) 0 → kind ≡ 2 → x < k
-  placed_after e h = rw o (p.in_tag (sym e ∙ h))
-
-pub ruleset fault_laws = (
-  rules,
-  placed_start,
-  placed_after,
-  value_plain,
-  value_read,
-  fault_repeated,
-  fault_value,
-  fault_matched,
-  fault_mismatched,
-  fault_text,
-  fault_token,
-  fault_none,
-)
+  fault_none Kind.Start f a b c d = record { is = rw (← f) }
+  fault_none Kind.Attribute f a b c d = absurd (a refl)
+  fault_none Kind.Gt f a b c d = record { is = rw (← f) }
+  fault_none Kind.Close f a b c d = absurd (b refl)
+  fault_none Kind.Slash f a b c d = record { is = rw (← f) }
+  fault_none Kind.Text f a b c d = absurd (c refl)
+  fault_none Kind.Misc f a b c d = record { is = rw (← f, validated_none) }
+  fault_none Kind.Error f a b c d = absurd (d refl)

@@ -1,123 +1,97 @@
 -- Laws of pieces: where an element that is dropped ends, and its first byte and length.
-use Prim.Native.Nat.{ℕ, zero, suc, ◌+◌, ◌-◌, ◌*◌, ◌≤◌, ◌<◌}
-use mathlib.Core.Path.{◌≡◌, refl, sym, ◌∙◌}
-use mathlib.Core.Bool.{Bool, true, false}
+use Prim.Native.Nat.{ℕ, zero, suc, ◌+◌, ◌-◌, ◌*◌, ◌^◌, ◌≤◌, ◌<◌}
+use mathlib.Core.Path.{◌≡◌, refl, sym, ◌∙◌, ap}
+use mathlib.Core.Bool.{true, false}
 use mathlib.Core.List.{List, ◌∷◌}
-use mathlib.Core.Logic.{⊎_elim}
-use native.Mathlib.Nat.{eq-or-lt_of_le}
 use native.Mathlib.Omega.{arith}
-use borrow.Author.Rules.{rules}
-use borrow.Author.Tests.{eqb-true, eqb-false}
-use lib.Dec.{eqb}
 use lib.ListN.{length, get_or, take, drop}
-use Rattle.table.specs.Rules.{last_position, last_lt}
+use Rattle.table.specs.Rules.{last_position, begin_of}
 use Rattle.table.specs.Flat.{row_at, rows_from}
-use Rattle.table.specs.Bytes.{LastIn}
 use Rattle.table.specs.Piece.{piece_start}
+use Rattle.table.specs.Rows.{InTable}
 use Rattle.table.proofs.Flat.{drop_from}
-use Rattle.document.specs.Scope.{piece_end, piece_of}
-use Rattle.decode.specs.declared.reader.Cursor.{Cursor}
-use Rattle.decode.specs.declared.reader.Past.{Past}
-use Rattle.decode.specs.declared.reader.StartRow.{StartRow}
-use Rattle.decode.specs.declared.view.View.{View}
-use Rattle.decode.specs.Rows.{InTable}
-use Rattle.decode.specs.Reader.{past_at, RulesAt, Sees, StartIn, DroppedIs}
-use Rattle.decode.specs.View.{view_at, Viewed}
-use Rattle.decode.specs.Piece.{EndIn, PieceIs}
-use Rattle.decode.proofs.Places.{start_scope}
-use Rattle.decode.proofs.Seen.{take_rows}
+use Rattle.document.specs.Scope.{piece_of}
+use Rattle.decode.specs.declared.place.Past.{Past}
+use Rattle.decode.specs.declared.element.Element.{Element}
+use Rattle.decode.specs.View.{view_of}
+use Rattle.decode.specs.Element.{DroppedIs, EndIs, PieceIs}
+use Rattle.decode.proofs.Known.{sees_of, row_seen, take_rows}
 
 -- ---- the end of a piece
 last_row : (t : List ℕ) (s k p : ℕ) → last_position p (rows_from t s (suc k)) ≡ get_or t ((s + k) * 8 + 7) 0
 last_row t s zero p = let z : s + 0 ≡ s = omega arith in rw z
 last_row t s (suc k) p = let z : s + suc k ≡ suc s + k = omega arith in rw z (last_row t (suc s) k (get_or t (s * 8 + 7) 0))
 
-module _ {body t : List ℕ} {v : View} {p : Past} (w : EndIn body t v p) where
-  taken : take p.at.row (rows_from t 0 v.count) ≡ rows_from t 0 p.at.row
-  taken = take_rows t 0 p.at.row v.count w.high
+module _ {e : Element} {p : Past} (w : DroppedIs e p) where
+  abbrev t : List ℕ
+  t = e.view.table.rows.now
 
-  pub end_out : p.ended ≡ false → v.ends ≡ piece_end (view_at t v) (past_at body t v.count p)
-  end_out e = rw e
+  abbrev n : ℕ
+  n = e.view.count
 
-  pub end_first : p.ended ≡ true → p.at.row ≡ 0 → 0 ≡ piece_end (view_at t v) (past_at body t v.count p)
-  end_first e z = rw (e, taken, z)
+  taken : take p.at.row (rows_from t 0 n) ≡ rows_from t 0 p.at.row
+  taken = take_rows t 0 p.at.row n w.stands.at.high
 
-  pub end_row : {x : ℕ} → p.ended ≡ true → (p.at.row ≡ 0 → ⊥) → x ≡ get_or t ((p.at.row - 1) * 8 + 7) 0
-      → x ≡ piece_end (view_at t v) (past_at body t v.count p)
-  end_row {x} e z q = rw (e, taken) (go p.at.row z q)
+  pub end_out : p.ended ≡ false → EndIs e p e.view.ends
+  end_out q = record { is = rw q; within = e.view.within }
+
+  pub end_first : p.ended ≡ true → p.at.row ≡ 0 → EndIs e p 0
+  end_first q z = record { is = rw (q, taken, z); within = omega arith }
+
+  before : (p.at.row ≡ 0 → ⊥) → p.at.row ≡ suc (p.at.row - 1)
+  before z = go p.at.row z
     where
-      go : (k : ℕ) → (k ≡ 0 → ⊥) → x ≡ get_or t ((k - 1) * 8 + 7) 0 → x ≡ last_position 0 (rows_from t 0 k)
-      go zero z q = absurd (z refl)
-      go (suc k) z q =
-          let y : suc k - 1 ≡ k = omega arith in
-          let x : 0 + k ≡ k = omega arith in
-          (rw y at q) ∙ sym (rw x at (last_row t 0 k 0))
+      go : (k : ℕ) → (k ≡ 0 → ⊥) → k ≡ suc (k - 1)
+      go zero z = absurd (z refl)
+      go (suc k) z = omega arith
 
   pub end_in : (p.at.row ≡ 0 → ⊥) → InTable t (p.at.row - 1)
-  end_in z = go p.at.row z w.high
-    where
-      go : (k : ℕ) → (k ≡ 0 → ⊥) → k ≤ v.count → InTable t (k - 1)
-      go zero z h = absurd (z refl)
-      go (suc k) z h = record { row = omega (arith, w.viewed.sees.rows) }
+  end_in z = row_seen (sees_of e.view) (omega (arith, before z, w.stands.at.high))
 
-  -- it ends in the body
-  end_low : piece_end (view_at t v) (past_at body t v.count p) ≤ length body
-  end_low = go p.ended refl (eqb p.at.row 0) refl
-    where
-      go : (a : Bool) → p.ended ≡ a → (b : Bool) → eqb p.at.row 0 ≡ b
-          → piece_end (view_at t v) (past_at body t v.count p) ≤ length body
-      go false e b q = rw (← end_out e) w.viewed.ends
-      go true e true q = rw (← end_first e (eqb-true p.at.row 0 q)) (omega arith)
-      go true e false q =
-          let z = eqb-false p.at.row 0 q in
-          rw (← end_row e z refl) (w.viewed.sees.readable.each (p.at.row - 1) (end_in z).row).position
-
-pub ruleset piece_end_laws = (rules, end_out, end_first, end_row, end_in)
+  pub end_row : {x : ℕ} → p.ended ≡ true → (p.at.row ≡ 0 → ⊥) → x ≡ get_or t ((p.at.row - 1) * 8 + 7) 0 → EndIs e p x
+  end_row {x} q z y =
+      let k = p.at.row - 1 in
+      let o : 0 + k ≡ k = omega arith in
+      let l : rows_from t 0 p.at.row ≡ rows_from t 0 (suc k) = ap (rows_from t 0) (before z) in
+      record {
+        is = rw (q, taken, l) (y ∙ sym (rw o at (last_row t 0 k 0)));
+        within = rw y ((sees_of e.view).readable.each k (end_in z).row).position;
+      }
 
 -- ---- its first byte
-pub drop_rows : (t : List ℕ) (s i m : ℕ) → i < m → drop i (rows_from t s m) ≡ row_at t (s + i) ∷ rows_from t (suc (s + i)) (m - suc i)
+drop_rows : (t : List ℕ) (s i m : ℕ) → i < m → drop i (rows_from t s m) ≡ row_at t (s + i) ∷ rows_from t (suc (s + i)) (m - suc i)
 drop_rows t s i m h = let z : m - i ≡ suc (m - suc i) = omega arith in rw z at (drop_from t s i m)
 
-module _ {body t : List ℕ} {n : ℕ} {s : StartRow} (q : Sees body t n) (w : StartIn body t n s) where
-  pub local_in : {from : ℕ} → from ≡ get_or t (s.row * 8 + 3) 0 → from ≤ length body
-  local_in e = omega (arith, (q.readable.each s.row (start_scope q w).row).local)
+module _ (e : Element) where
+  body : List ℕ
+  body = e.view.table.body.now
 
-  pub begins : {from r : ℕ} → from ≡ get_or t (s.row * 8 + 3) 0 → LastIn body 0 from r → r ≡ piece_start body (drop s.row (rows_from t 0 n))
-  begins {from} {r} e l =
-      let z : 0 + s.row ≡ s.row = omega arith in
-      let y = rw z at (drop_rows t 0 s.row n (omega (arith, w.low, w.high))) in
-      rw y (here (q.each s.row (omega (arith, w.low, w.high))))
-    where
-      lt : RulesAt body t s.row → (get_or body (last_lt body from) 0 ≡ 60) × (last_lt body from < from)
-      lt o = let x = o.rules.tag_begins (rw w.starts) in rw e (x.is, x.before)
+  pub start_row : InTable e.view.table.rows.now e.start.row
+  start_row = row_seen (sees_of e.view) (omega (arith, e.start_in.low, e.start_in.high))
 
-      here : RulesAt body t s.row → r ≡ last_lt body (get_or t (s.row * 8 + 3) 0)
-      here o =
-          rw (← e)
-          (⊎_elim (λ z. absurd (l.none z (last_lt body from) (omega arith) (lt o).1 (lt o).0)) (λ h. l.last h)
-          (eq-or-lt_of_le l.high))
+  pub begins : begin_of e.view.table.body.now (row_at e.view.table.rows.now e.start.row)
+      ≡ piece_start e.view.table.body.now (drop e.start.row (view_of e.view).rows)
+  begins =
+      let z : 0 + e.start.row ≡ e.start.row = omega arith in
+      rw (rw z at (drop_rows e.view.table.rows.now 0 e.start.row e.view.count (omega (arith, e.start_in.low, e.start_in.high))))
 
-  -- it begins in the body
-  pub begins_low : piece_start body (drop s.row (rows_from t 0 n)) ≤ length body
+  pub begins_low : begin_of e.view.table.body.now (row_at e.view.table.rows.now e.start.row) ≤ length e.view.table.body.now
   begins_low =
-      let z : 0 + s.row ≡ s.row = omega arith in
-      let y = rw z at (drop_rows t 0 s.row n (omega (arith, w.low, w.high))) in
-      let x = (q.each s.row (omega (arith, w.low, w.high))).rules.tag_begins (rw w.starts) in
-      rw y (omega (arith, x.before, local_in refl))
+      let q = sees_of e.view in
+      let x = (q.each e.start.row (omega (arith, e.start_in.low, e.start_in.high))).rules.tag_begins (rw e.start_in.starts) in
+      omega (arith, x.before, (q.readable.each e.start.row start_row.row).local)
 
 -- ---- the piece
-module _ {body t : List ℕ} {v : View} {s : StartRow} {c : Cursor} {p : Past} (q : Viewed body t v)
-    (w : DroppedIs body t v.count s c p) where
-  pub piece_end_lem : EndIn body t v p
-  piece_end_lem = record { viewed = q; high = w.stands.high }
+module _ {e : Element} {p : Past} (w : DroppedIs e p) {from end : ℕ}
+    (a : from ≡ begin_of e.view.table.body.now (row_at e.view.table.rows.now e.start.row)) (b : EndIs e p end) where
+  pub piece_from : from < 2 ^ 32
+  piece_from = omega (arith, a, begins_low e, (sees_of e.view).small)
 
-  pub piece_is : {from end len : ℕ} → StartIn body t v.count s → from ≡ piece_start body (drop s.row (rows_from t 0 v.count))
-      → end ≡ piece_end (view_at t v) (past_at body t v.count p) → len ≡ end - from
-      → PieceIs body t v s c (record { start = from; len = len })
+  pub piece_len : end - from < 2 ^ 32
+  piece_len = omega (arith, b.within, (sees_of e.view).small)
+
+  pub piece_is : PieceIs e (record { start = from; len = end - from })
   unfolding piece_of
-  piece_is {from} {end} {len} i e f g =
-      let a : from ≤ length body = rw e (begins_low q.sees i) in
-      let b : end ≤ length body = rw f (end_low piece_end_lem) in
-      record { is = rw (← w.is, ← e, ← f, g); start = a; len = omega arith; inside = omega arith }
-
-pub ruleset piece_laws = (rules, start_scope, local_in, begins, piece_end_lem, piece_is)
+  piece_is =
+      let x : from ≤ length e.view.table.body.now = omega (arith, a, begins_low e) in
+      record { is = rw (← w.is, ← begins e, ← a, ← b.is); inside = omega (arith, b.within) }

@@ -1,50 +1,33 @@
--- Laws of the reading of a start tag.
-use Prim.Native.Nat.{ℕ, zero, suc, ◌+◌, ◌-◌, ◌*◌, ◌^◌, ◌≤◌, ◌<◌}
+-- Laws of the reading of a start tag: its attributes, and its end.
+use Prim.Native.Nat.{ℕ, zero, suc, ◌+◌, ◌-◌, ◌*◌, ◌≤◌, ◌<◌}
 use mathlib.Core.Path.{◌≡◌, refl, sym, ◌∙◌, ap}
 use mathlib.Core.Bool.{Bool, true, false}
 use mathlib.Core.List.{List, [], ◌∷◌, ◌++◌}
 use native.Mathlib.Numerals.{add-one}
 use native.Mathlib.Omega.{arith}
-use borrow.Author.Rules.{rules}
-use borrow.Author.Tests.{eqb-true, eqb-false}
+use borrow.Author.Tests.{eqb-true}
 use lib.Dec.{eqb}
-use lib.ListN.{get_or, length}
+use lib.ListN.{get_or}
+use Rattle.lists.specs.Tests.{pick}
 use Rattle.lists.proofs.Tests.{false_true}
 use Rattle.reference.specs.Text.{Out, bytes, unescaped, meaning}
 use Rattle.reference.specs.Text as ref
-use Rattle.reference.specs.declared.Unescaped.{Unescaped}
+use Rattle.std.specs.Prelude.{Result, Ok, Err, is_ok}
+use Rattle.reference.specs.declared.BadReference.{BadReference}
 use Rattle.unescape.specs.Loops.{size_of}
-use Rattle.table.specs.Row.{Name, Tok, start, bad, tok_as}
+use Rattle.table.specs.Row.{Name, Tok, start, attr, gt, slash, bad, tok_as}
+use Rattle.table.specs.Rows.{name_at, value_at, tok_at}
+use Rattle.table.proofs.Classes.{Kind, of_start, of_attr, of_gt, of_close, of_slash, of_matter, of_error, kind_of_lem}
 use Rattle.document.specs.Reader.{reader, depth, depth_after, Scope, Attribute, StartEl, blank, on_attribute, take_turn, turn, next}
 use Rattle.document.specs.Reader as doc
 use Rattle.document.proofs.Laws.Steps.{next_end, next_token}
-use Rattle.document.specs.Tags.{in_tag_after, Tags}
-use Rattle.decode.specs.declared.reader.Past.{Past}
-use Rattle.decode.specs.declared.reader.Next.{Next}
-use Rattle.decode.specs.Rows.{InTable, Readable, name_at, value_at, tok_at}
-use Rattle.decode.specs.Reader.{toks_from, is_bytes, attribute_at, attributes_from, start_at, FoundIn, GoneIn, StartsAt, over_at}
-use Rattle.decode.specs.Reader.{found_at, TagRead, TagEnd, TagIs}
-use Rattle.decode.proofs.Names.{value_span}
-use Rattle.decode.proofs.ByKind.{other}
-use Rattle.decode.proofs.Places.{toks_next, toks_none, tok_is, tags_next, row_seen}
-
--- ---- whether a value unescapes
--- a text that is measured has a length
-abbrev is_length : Unescaped → Bool
-is_length (Unescaped.Length m) = true
-is_length (Unescaped.BadReference at) = false
-is_length Unescaped.NoRoom = false
-
-pub unescapes : (v : List ℕ) {x : List ℕ} {r u : Unescaped} {b : Bool} → x ≡ v → r ≡ size_of (unescaped x) → r ≡ u → b ≡ is_length u
-    → b ≡ is_bytes (unescaped v)
-unfolding size_of
-unescapes v {x} {r} {u} {b} p e q i = rw (i, ← q, e, p) (go (unescaped v))
-  where
-    go : (o : Out) → is_length (size_of o) ≡ is_bytes o
-    go (bytes l) = refl
-    go (ref.bad at) = refl
-
-pub ruleset value_laws = (rules, value_span, unescapes)
+use Rattle.document.specs.Tags.{may_stand, in_tag_after, Tags}
+use Rattle.decode.specs.declared.view.View.{View}
+use Rattle.decode.specs.declared.element.Element.{Element}
+use Rattle.decode.specs.Place.{is_bytes, Outside, StartIn, over_at}
+use Rattle.decode.specs.Element.{toks_from, attribute_at, attributes_from, start_at, good_attribute}
+use Rattle.decode.specs.Element.{FoundIn, GoneIn, TagEnd, StartsAt, TagIs}
+use Rattle.decode.proofs.Known.{Sees, sees_of, Stands, stands, outside, toks_next, toks_none, tags_next, error_end}
 
 pub bytes_are : (o : Out) → is_bytes o ≡ true → o ≡ bytes (meaning o)
 bytes_are (bytes v) e = refl
@@ -54,7 +37,29 @@ not_bytes : (o : StartEl) (m : Name) (x : Out) → is_bytes x ≡ false → on_a
 not_bytes o m (bytes v) e = false_true (sym e)
 not_bytes o m (ref.bad at) e = refl
 
--- ---- the loop over attributes
+-- an attribute that unescapes is one, and unescapes
+pub good_is : (body t : List ℕ) (k : ℕ) → good_attribute body t k ≡ true
+    → (get_or t (k * 8 + 0) 0 ≡ 2) × (is_bytes (unescaped (value_at body t k)) ≡ true)
+good_is body t k = go (eqb (get_or t (k * 8 + 0) 0) 2) refl
+  where
+    go : (u : Bool) → eqb (get_or t (k * 8 + 0) 0) 2 ≡ u → pick u (is_bytes (unescaped (value_at body t k))) false ≡ true
+        → (get_or t (k * 8 + 0) 0 ≡ 2) × (is_bytes (unescaped (value_at body t k)) ≡ true)
+    go true e q = (eqb-true (get_or t (k * 8 + 0) 0) 2 e, q)
+    go false e q = false_true q
+
+-- a text that is measured has a length exactly where it unescapes
+measured : (o : Out) → is_ok (size_of o) ≡ is_bytes o
+unfolding size_of
+measured (bytes l) = refl
+measured (ref.bad at) = refl
+
+pub good_ok : (body t : List ℕ) (k : ℕ) → 2 ≡ get_or t (k * 8 + 0) 0 → {x : List ℕ} → x ≡ value_at body t k
+    → {m : Result ℕ BadReference} → m ≡ size_of (unescaped x)
+    → {r : Bool} → r ≡ is_ok m
+    → r ≡ good_attribute body t k
+good_ok body t k h f g q = rw (← h, q, g, f) (measured (unescaped (value_at body t k)))
+
+-- ---- the attributes
 -- one attribute more
 attributes_more : (body t : List ℕ) (k m : ℕ)
     → attributes_from body t k (suc m) ≡ attributes_from body t k m ++ attribute_at body t (k + m) ∷ []
@@ -63,162 +68,193 @@ attributes_more body t k (suc m) =
     let z : k + suc m ≡ suc k + m = omega arith in
     rw z (ap {B = List Attribute} (λ l. attribute_at body t k ∷ l) (attributes_more body t (suc k) m))
 
-pub tag_start : {body t : List ℕ} {n d i : ℕ} → StartsAt body t n d i → TagRead body t n i (i + 1)
-unfolding tok_as
-tag_start {body} {t} {n} {d} {i} w =
-    let l = toks_from body t n (i + 1) in
-    let m = name_at body t i in
-    let e : toks_from body t n i ≡ start m ∷ l = rw w.starts at (toks_next body t n i w.here) in
-    let z : i + 1 - (i + 1) ≡ 0 = omega arith in
-    record {
-      low = omega arith;
-      high = omega (arith, w.here);
-      tags = rw w.starts at (tags_next body t n i w.at.tags w.here).1;
-      good = λ j a b. absurd (omega arith);
-      rest = λ s c. rw z (sym (ap (next s blank (depth c) i) e ∙ rw (← add-one i) at (next_token s blank (depth c) i (start m) l)));
-    }
+-- what was met so far, up to row k, of the tag of row i at depth d
+abbrev so_far : List ℕ → List ℕ → ℕ → ℕ → ℕ → StartEl
+so_far body t i k d = start_at body t (record { row = i; end = k; closed = false; depth = depth d })
 
-module _ {body t : List ℕ} {n i k : ℕ} (w : TagRead body t n i k) where
-  -- what was met so far, of a tag at depth d
-  abbrev so_far : ℕ → StartEl
-  so_far d = start_at body t (record { row = i; end = k; closed = false; depth = depth d })
+-- the start tag of row i is read up to row k: the search for a start element goes on from there with what was met so far, whatever the
+-- scope and the depth
+record TagRead (body t : List ℕ) (n i k : ℕ) : Type 0 where
+  tags : Tags true (toks_from body t n k)
+  rest : (s : Scope) (d : ℕ)
+      → next s (so_far body t i k d) (depth (suc d)) k (toks_from body t n k)
+      ≡ next s blank (depth d) i (toks_from body t n i)
 
-  pub tag_out : n ≤ k → TagEnd body t n i k
-  tag_out h = record { read = w; stops = λ l. absurd (omega arith) }
+module _ (body t : List ℕ) (n i : ℕ) where
+  tag_start : Tags false (toks_from body t n i) → i < n → get_or t (i * 8 + 0) 0 ≡ 1 → TagRead body t n i (i + 1)
+  unfolding tok_as
+  tag_start g h q =
+      let l = toks_from body t n (i + 1) in
+      let m = name_at body t i in
+      let e : toks_from body t n i ≡ start m ∷ l = rw q at (toks_next body t n i h) in
+      let z : i + 1 - (i + 1) ≡ 0 = omega arith in
+      record {
+        tags = rw q at (tags_next body t n i g h).1;
+        rest = λ s c. rw z (sym (ap (next s blank (depth c) i) e ∙ rw (← add-one i) at (next_token s blank (depth c) i (start m) l)));
+      }
 
-  module _ (h : k < n) where
+  module _ {k : ℕ} (w : TagRead body t n i k) (h : k < n) where
+    abbrev met : ℕ → StartEl
+    met = so_far body t i k
+
     -- what one row does
     turned : (u : Tok) → tok_at body t k ≡ u → (s : Scope) (d : ℕ)
-        → take_turn (turn s (so_far d) (depth (suc d)) k u) (reader (depth_after u (depth (suc d))) (suc k) (toks_from body t n (suc k)))
-        (λ (o' : StartEl). next s o' (depth_after u (depth (suc d))) (suc k) (toks_from body t n (suc k)))
+        → take_turn (turn s (met d) (depth (suc d)) k u) (reader (depth_after u (depth (suc d))) (k + 1) (toks_from body t n (k + 1)))
+        (λ (o' : StartEl). next s o' (depth_after u (depth (suc d))) (k + 1) (toks_from body t n (k + 1)))
         ≡ next s blank (depth d) i (toks_from body t n i)
     turned u e s d =
-        sym (next_token s (so_far d) (depth (suc d)) k u (toks_from body t n (suc k)))
-        ∙ (ap (λ (l : List Tok). next s (so_far d) (depth (suc d)) k l) (sym (rw (e, add-one k) at (toks_next body t n k h))) ∙ w.rest s d)
+        rw (← add-one k) at
+        (sym (next_token s (met d) (depth (suc d)) k u (toks_from body t n (suc k)))
+        ∙ (ap (λ (l : List Tok). next s (met d) (depth (suc d)) k l) (sym (rw (e, add-one k) at (toks_next body t n k h))) ∙ w.rest s d))
 
     tags_after : (u : Tok) → tok_at body t k ≡ u → Tags (in_tag_after u true) (toks_from body t n (k + 1))
     tags_after u e = rw e at (tags_next body t n k w.tags h).1
 
-    module _ {kind : ℕ} (f : kind ≡ get_or t (k * 8 + 0) 0) where
-      pub tag_other : (kind ≡ 2 → ⊥) → TagEnd body t n i k
-      tag_other q = record { read = w; stops = λ l e. absurd (q (f ∙ e)) }
-
-      module _ (e : kind ≡ 2) {r : Bool} (g : r ≡ is_bytes (unescaped (value_at body t k))) where
-        pub tag_bad : r ≡ false → TagEnd body t n i k
-        tag_bad q = record { read = w; stops = λ l z. sym g ∙ q }
-
-        pub tag_on : r ≡ true → TagRead body t n i (k + 1)
-        unfolding tok_as
-        tag_on q =
-            let z : k + 1 - (i + 1) ≡ suc (k - (i + 1)) = omega (arith, w.low) in
-            let y : i + 1 + (k - (i + 1)) ≡ k = omega (arith, w.low) in
-            let x = rw y at (attributes_more body t (i + 1) (k - (i + 1))) in
-            record {
-              low = omega (arith, w.low);
-              high = omega arith;
-              tags = tags_after _ (tok_is body t k f 2 e);
-              good = λ j a b. good j a b (eqb j k) refl;
-              rest =
-                  λ s d. rw (z, x, add-one k)
-                  (rw (bytes_are (unescaped (value_at body t k)) (sym g ∙ q)) at (turned _ (tok_is body t k f 2 e) s d));
-            }
-          where
-            good : (j : ℕ) → i < j → j < k + 1 → (u : Bool) → eqb j k ≡ u → is_bytes (unescaped (value_at body t j)) ≡ true
-            good j a b true p = rw (eqb-true j k p) (sym g ∙ q)
-            good j a b false p = let z = eqb-false j k p in w.good j a (omega arith)
-
-pub row_after : {body t : List ℕ} {n d i k : ℕ} → StartsAt body t n d i → k < n → InTable t k
-row_after o h = row_seen o.sees h
-
-pub start_readable : {body t : List ℕ} {n d i : ℕ} → StartsAt body t n d i → Readable body t
-start_readable o = o.sees.readable
-
-pub ruleset attributes_laws = (rules, row_after, start_readable, tag_start, tag_out, tag_other, tag_bad, tag_on)
-
--- ---- its end
-pub at_any_depth : {body t : List ℕ} {n d i : ℕ} → StartsAt body t n d i → StartsAt body t n 0 i
-at_any_depth o =
-    record { sees = o.sees; at = record { high = o.at.high; low = omega arith; tags = o.at.tags }; here = o.here; starts = o.starts }
-
-module _ {body t : List ℕ} {n d i k : ℕ} (o : StartsAt body t n d i) (e : TagEnd body t n i k) where
-  w : TagRead body t n i k
-  w = e.read
-
-  -- the search is over, in the start tag
-  gone_in : (j : ℕ) → k ≤ j → j ≤ n → Tags true (toks_from body t n j) → GoneIn body t n i (over_at false j (d + 1))
-  gone_in j l h g =
-      record {
-        ended =
-            record { at = record { high = h; low = omega (arith, o.at.low, w.low); in_tag = true; tags = g }; out = λ q. false_true q };
-        since = omega (arith, w.low);
-      }
-
-  pub tag_done : {p : Past} → n ≤ k → p ≡ over_at false k (d + 1) → TagIs body t n d i (Next.Gone p)
-  tag_done {p} h q =
-      let z = toks_none body t n k h in
-      rw q
-      (record {
-        is = λ s. rw (add-one d, z) (sym (next_end s (so_far w d) (depth (suc d)) k) ∙ rw z at (w.rest s d));
-        met = gone_in k (omega arith) w.high w.tags;
-      })
-
-  module _ (h : k < n) where
-    pub tag_room : length t < 2 ^ 64 → k + 1 < 2 ^ 64
-    tag_room l = omega (arith, o.sees.rows)
-
-    -- the start element, if the tag ends here
-    found_in_lem : (closed : Bool) (inner : ℕ) → inner ≤ k + 1 → Tags false (toks_from body t n (k + 1))
-        → FoundIn body t n i (record { row = i; end = k; closed = closed; depth = depth d }) (record { row = k + 1; depth = depth inner })
-    found_in_lem closed inner l g =
+    tag_on : i < k → good_attribute body t k ≡ true → TagRead body t n i (k + 1)
+    unfolding tok_as
+    tag_on l q =
+        let g = good_is body t k q in
+        let z : k + 1 - (i + 1) ≡ suc (k - (i + 1)) = omega arith in
+        let y : i + 1 + (k - (i + 1)) ≡ k = omega arith in
+        let x = rw y at (attributes_more body t (i + 1) (k - (i + 1))) in
+        let a : tok_at body t k ≡ attr (name_at body t k) (value_at body t k) = rw g.0 in
         record {
-          start = record { starts = o.starts; low = w.low; high = h; deep = o.at.low; good = w.good };
-          stands = record { high = omega arith; low = l; tags = g };
-          since = omega arith;
-          past = omega arith;
+          tags = tags_after _ a;
+          rest = λ s d. rw (z, x) (rw (bytes_are (unescaped (value_at body t k)) g.1) at (turned _ a s d));
         }
 
+  -- all attributes that unescape
+  tag_read : (m : ℕ) → Tags false (toks_from body t n i) → i < n → get_or t (i * 8 + 0) 0 ≡ 1 → i + 1 + m ≤ n
+      → ((j : ℕ) → i < j → j < i + 1 + m → good_attribute body t j ≡ true)
+      → TagRead body t n i (i + 1 + m)
+  tag_read zero g h q l f = let z : i + 1 + 0 ≡ i + 1 = omega arith in rw z (tag_start g h q)
+  tag_read (suc m) g h q l f =
+      let z : i + 1 + suc m ≡ i + 1 + m + 1 = omega arith in
+      rw z
+      (tag_on (tag_read m g h q (omega arith) (λ j a b. f j a (omega arith))) (omega arith) (omega arith)
+      (f (i + 1 + m) (omega arith) (omega arith)))
+
+-- ---- the loop over attributes
+pub tag_none : (body t : List ℕ) (i j : ℕ) → i < j → j < i + 1 → good_attribute body t j ≡ true
+tag_none body t i j a b = absurd (omega arith)
+
+-- ---- its end
+module _ {v : View} {d i k : ℕ} (o : StartsAt v d i) (e : TagEnd v i k) where
+  abbrev body : List ℕ
+  body = v.table.body.now
+
+  abbrev t : List ℕ
+  t = v.table.rows.now
+
+  abbrev n : ℕ
+  n = v.count
+
+  q : Sees body t n
+  q = sees_of v
+
+  s : Stands body t n d i
+  s = stands q o.at
+
+  w : TagRead body t n i k
+  w =
+      let z : i + 1 + (k - (i + 1)) ≡ k = omega (arith, e.low) in
+      rw z at (tag_read body t n i (k - (i + 1)) s.tags o.here o.starts (omega (arith, e.high)) (λ j a b. e.good j a (omega arith)))
+
+  -- the search is over, in the start tag
+  gone_in : (j : ℕ) → k ≤ j → j ≤ n → GoneIn v i (over_at false j (d + 1))
+  gone_in j l h =
+      record {
+        ended = record { at = record { high = h; low = omega (arith, s.low, e.low) }; out = λ q. false_true q };
+        since = omega (arith, e.low);
+      }
+
+  pub tag_done : n ≤ k → TagIs v d i (Err (over_at false k (d + 1)))
+  tag_done h =
+      let z = toks_none body t n k h in
+      record {
+        is = λ s. rw (add-one d, z) (sym (next_end s (so_far body t i k d) (depth (suc d)) k) ∙ rw z at (w.rest s d));
+        met = gone_in k (omega arith) e.high;
+      }
+
+  module _ (h : k < n) where
+    -- the start element, if the tag ends here
+    pub start_in : {closed : Bool} → StartIn body t n (record { row = i; end = k; closed = closed; depth = depth d })
+    start_in = record { starts = o.starts; low = e.low; high = h; deep = s.low; good = λ j a b. (good_is body t j (e.good j a b)).1 }
+
+    out_here : (inner : ℕ) → inner ≤ k + 1 → Tags false (toks_from body t n (k + 1))
+        → Outside t n (record { row = k + 1; depth = depth inner })
+    out_here inner l g = outside q (record { high = omega arith; low = l; tags = g })
+
+    met_here : {c : Element} → c.view ≡ v → c.start.row ≡ i → c.start.end ≡ k → c.at.row ≡ k + 1 → FoundIn v i c
+    met_here a b x y = record { view = a; since = omega arith; past = omega arith }
+
     module _ {kind : ℕ} (f : kind ≡ get_or t (k * 8 + 0) 0) where
-      pub tag_gt : {r : Next} → kind ≡ 3 → r ≡ found_at i k false d (d + 1) → TagIs body t n d i r
+      gt_here : kind ≡ 3 → tok_at body t k ≡ gt
       unfolding tok_as
-      tag_gt q x =
-          let y = tok_is body t k f 3 q in
-          let m = found_in_lem false (d + 1) (omega (arith, o.at.low, w.low)) (tags_after w h _ y) in
-          rw x (record { is = λ s. rw (add-one k, add-one d) (turned w h _ y s d); met = m })
+      gt_here x = rw (← f, x)
 
-      pub tag_slash : {r : Next} → kind ≡ 5 → r ≡ found_at i k true d d → TagIs body t n d i r
+      slash_here : kind ≡ 5 → tok_at body t k ≡ slash
       unfolding tok_as
-      tag_slash q x =
-          let y = tok_is body t k f 5 q in
-          let m = found_in_lem true d (omega (arith, o.at.low, w.low)) (tags_after w h _ y) in
-          rw x (record { is = λ s. rw (add-one k) (turned w h _ y s d); met = m })
+      slash_here x = rw (← f, x)
 
-      -- an attribute that does not unescape
-      bad_value : kind ≡ 2 → TagIs body t n d i (Next.Gone (over_at false (k + 1) (d + 1)))
-      unfolding tok_as
-      bad_value q =
-          let y = tok_is body t k f 2 q in
-          let x = not_bytes (so_far w d) (name_at body t k) (unescaped (value_at body t k)) (e.stops h (sym f ∙ q)) in
+      pub out_gt : kind ≡ 3 → Outside t n (record { row = k + 1; depth = depth (d + 1) })
+      out_gt x = out_here (d + 1) (omega (arith, s.low, e.low)) (tags_after body t n i w h _ (gt_here x))
+
+      pub out_slash : kind ≡ 5 → Outside t n (record { row = k + 1; depth = depth d })
+      out_slash x = out_here d (omega (arith, s.low, e.low)) (tags_after body t n i w h _ (slash_here x))
+
+      -- what is found
+      pub tag_gt : {c : Element} → kind ≡ 3 → c.view ≡ v → c.start ≡ record { row = i; end = k; closed = false; depth = depth d }
+          → c.at ≡ record { row = k + 1; depth = depth (d + 1) }
+          → TagIs v d i (Ok c)
+      tag_gt x a b y =
           record {
-            is = λ s. rw (add-one k, add-one d) (rw x at (turned w h _ y s d));
-            met = gone_in (k + 1) (omega arith) (omega arith) (tags_after w h _ y);
+            is = λ s. rw (a, b, y, add-one d) (turned body t n i w h _ (gt_here x) s d);
+            met = met_here a (ap (λ u. u.row) b) (ap (λ u. u.end) b) (ap (λ u. u.row) y);
           }
 
-      -- or a token error
-      bad_token : tok_at body t k ≡ bad → TagIs body t n d i (Next.Gone (over_at false (k + 1) (d + 1)))
-      bad_token y =
-          let z = toks_none body t n (suc k) (omega (arith, o.sees.last k h (rw y))) in
+      pub tag_slash : {c : Element} → kind ≡ 5 → c.view ≡ v → c.start ≡ record { row = i; end = k; closed = true; depth = depth d }
+          → c.at ≡ record { row = k + 1; depth = depth d }
+          → TagIs v d i (Ok c)
+      tag_slash x a b y =
           record {
-            is = λ s. rw (add-one k, add-one d, z) (sym (next_end s (so_far w d) (depth (suc d)) (suc k)) ∙ rw z at (turned w h bad y s d));
-            met = gone_in (k + 1) (omega arith) (omega arith) (tags_after w h bad y);
+            is = λ s. rw (a, b, y) (turned body t n i w h _ (slash_here x) s d);
+            met = met_here a (ap (λ u. u.row) b) (ap (λ u. u.end) b) (ap (λ u. u.row) y);
           }
 
-      pub tag_over : {p : Past} → (kind ≡ 3 → ⊥) → (kind ≡ 5 → ⊥) → p ≡ over_at false (k + 1) (d + 1) → TagIs body t n d i (Next.Gone p)
-      tag_over {p} b c q = rw q (go (eqb kind 2) refl)
+      -- an attribute that does not unescape, or a token error
+      pub tag_over : (kind ≡ 3 → ⊥) → (kind ≡ 5 → ⊥) → TagIs v d i (Err (over_at false (k + 1) (d + 1)))
+      tag_over b c =
+          go (kind_of_lem (get_or t (k * 8 + 0) 0) (name_at body t k) (value_at body t k))
+          (tags_next body t n k w.tags h).0 (λ z. b (f ∙ z)) (λ z. c (f ∙ z)) refl refl
         where
-          go : (u : Bool) → eqb kind 2 ≡ u → TagIs body t n d i (Next.Gone (over_at false (k + 1) (d + 1)))
-          go true x = bad_value (eqb-true kind 2 x)
-          go false x =
-              let o = other kind (name_at body t k) (value_at body t k) in
-              bad_token (rw (← f) (o.inside (eqb-false kind 2 x) b c (rw f (tags_next body t n k w.tags h).0)))
+          bad_token : tok_at body t k ≡ bad → TagIs v d i (Err (over_at false (k + 1) (d + 1)))
+          bad_token y =
+              let z = toks_none body t n (k + 1) (error_end q k h y) in
+              record {
+                is =
+                    λ s. rw (add-one d, z)
+                    (sym (next_end s (so_far body t i k d) (depth (suc d)) (k + 1)) ∙ rw z at (turned body t n i w h bad y s d));
+                met = gone_in (k + 1) (omega arith) (omega arith);
+              }
 
-pub ruleset tag_laws = (rules, row_after, at_any_depth, tag_room, tag_done, tag_gt, tag_slash, tag_over)
+          bad_value : get_or t (k * 8 + 0) 0 ≡ 2 → tok_at body t k ≡ attr (name_at body t k) (value_at body t k)
+              → TagIs v d i (Err (over_at false (k + 1) (d + 1)))
+          bad_value x y =
+              let p : is_bytes (unescaped (value_at body t k)) ≡ false = rw x at (e.stops h) in
+              let z = not_bytes (so_far body t i k d) (name_at body t k) (unescaped (value_at body t k)) p in
+              record {
+                is = λ s. rw (add-one d) (rw z at (turned body t n i w h _ y s d));
+                met = gone_in (k + 1) (omega arith) (omega arith);
+              }
+
+          go : {j : ℕ} {u : Tok} → Kind (name_at body t k) (value_at body t k) j u → may_stand (tok_at body t k) true ≡ true
+              → (get_or t (k * 8 + 0) 0 ≡ 3 → ⊥) → (get_or t (k * 8 + 0) 0 ≡ 5 → ⊥) → get_or t (k * 8 + 0) 0 ≡ j → tok_at body t k ≡ u
+              → TagIs v d i (Err (over_at false (k + 1) (d + 1)))
+          go of_start m b c x y = false_true (rw y at m)
+          go of_attr m b c x y = bad_value x y
+          go of_gt m b c x y = absurd (b x)
+          go of_close m b c x y = false_true (rw y at m)
+          go of_slash m b c x y = absurd (c x)
+          go (of_matter z) m b c x y = false_true (rw y at m)
+          go (of_error z) m b c x y = bad_token y

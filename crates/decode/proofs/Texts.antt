@@ -1,153 +1,155 @@
 -- Laws of the walk to the first text of an element.
-use Prim.Native.Nat.{ℕ, suc, ◌+◌, ◌*◌, ◌≤◌, ◌<◌}
+use Prim.Native.Nat.{ℕ, suc, ◌+◌, ◌*◌, ◌^◌, ◌≤◌, ◌<◌}
 use mathlib.Core.Path.{◌≡◌, refl, sym, ◌∙◌, ap}
 use mathlib.Core.Bool.{Bool, true, false}
 use mathlib.Core.List.{List, []}
 use native.Mathlib.Numerals.{add-one}
 use native.Mathlib.Omega.{arith}
-use borrow.Author.Rules.{rules}
 use lib.ListN.{length, get_or, drop, length-take}
+use Rattle.std.specs.Prelude.{Ok, Err, Option, Some, None}
 use Rattle.lists.specs.Tests.{pick}
 use Rattle.refusal.specs.declared.Refusal.{Refusal}
 use Rattle.refusal.specs.Answer.{Answer, gives, refuses}
-use Rattle.reference.specs.Text.{Out, bytes, unescaped}
-use Rattle.reference.specs.Text as ref
-use Rattle.reference.specs.declared.Unescaped.{Unescaped}
-use Rattle.reference.proofs.Place.{bad_is, fails_within}
-use Rattle.unescape.specs.Loops.{size_of}
-use Rattle.table.specs.Row.{Tok, tok_as}
+use Rattle.reference.specs.Text.{decode, unescaped}
+use Rattle.table.specs.Row.{Row, Name, Matter, text, misc, Tok, matter, tok_as}
+use Rattle.table.specs.Rules.{open_count}
 use Rattle.table.specs.Flat.{rows_from}
+use Rattle.table.specs.Rows.{InTable, Obeys, name_at, value_at, tok_at}
+use Rattle.table.proofs.Classes.{OfMatter, Kind, of_start, of_attr, of_gt, of_close, of_slash, of_matter, of_error, kind_of_lem}
 use Rattle.table.proofs.Flat.{unroll, drop_from}
-use Rattle.document.specs.Reader.{depth, depth_after, ends_at}
+use Rattle.table.proofs.Valid.{few_bytes, spans_within}
+use Rattle.document.specs.declared.Depth.{Depth}
+use Rattle.document.specs.declared.part.Text.{Text}
+use Rattle.document.specs.Reader.{depth, depth_after, Scope, ends_at}
+use Rattle.document.specs.Scope.{scope_of}
 use Rattle.document.specs.Text.{value_start_at, at_end, text_turn, take_first, first_text, text_of}
+use Rattle.document.specs.Part.{given}
 use Rattle.document.proofs.Laws.Steps.{first_text_end, first_text_token}
 use Rattle.document.proofs.Laws.Place.{value_start_lem}
-use Rattle.decode.specs.declared.reader.ScopeRow.{ScopeRow}
-use Rattle.decode.specs.declared.reader.Cursor.{Cursor}
-use Rattle.decode.specs.declared.reader.StartRow.{StartRow}
-use Rattle.decode.specs.declared.view.Failure.{Failure}
-use Rattle.decode.specs.declared.view.View.{View}
-use Rattle.decode.specs.declared.text.Text.{Text}
-use Rattle.decode.specs.Rows.{InTable, Readable, name_at, value_at, tok_at}
-use Rattle.decode.specs.Reader.{toks_from, scope_at, child_at, Sees, DepthIs}
-use Rattle.decode.specs.View.{failure_at, view_at}
-use Rattle.decode.specs.Text.{text_at, TextIn, end_text, first_from, TextIs}
-use Rattle.decode.proofs.ByKind.{other}
-use Rattle.decode.proofs.Places.{toks_next, toks_none, tok_is, row_seen, scope_seen, start_scope}
+use Rattle.decode.specs.declared.element.Element.{Element}
+use Rattle.decode.specs.View.{failure_at, view_of}
+use Rattle.decode.specs.Element.{toks_from, child_of, ValueIs}
+use Rattle.decode.proofs.Known.{toks_next, toks_none, open_low}
+use Rattle.decode.proofs.Skipping.{depth_here}
 
--- ---- where the rows run out
-pub end_nothing : (f : Failure) → f ≡ Failure.Nothing → Text.Empty ≡ end_text f
-end_nothing f e = rw e
+-- ---- the value of a row is small
+pub value_small : {body t : List ℕ} {final k : ℕ} → Obeys body t final → InTable t k → {from : ℕ} → from ≡ get_or t (k * 8 + 5) 0
+    → {l : List ℕ} → l ≡ value_at body t k
+    → from + length l ≤ 2 ^ 16
+value_small {body} {t} {k = k} o i e f =
+    let m = length-take (get_or t (k * 8 + 6) 0) (drop (get_or t (k * 8 + 5) 0) body) in
+    omega (arith, m, ap length f, (spans_within o i).value, few_bytes o)
 
-pub end_is : (f : Failure) {r : Refusal} → f ≡ Failure.Is r → Text.Refused r ≡ end_text f
-end_is f e = rw e
-
-pub ruleset end_text_laws = (rules, end_nothing, end_is)
-
-end_text_lem : (body t : List ℕ) (f : Failure) → TextIs body t (end_text f) (at_end (failure_at f))
-end_text_lem body t Failure.Nothing = record { same = refl; row = tt }
-end_text_lem body t (Failure.Is r) = record { same = refl; row = tt }
+-- where it begins, by the definition
+pub value_begins : (t : List ℕ) (n k : ℕ) → k < n → value_start_at (rows_from t 0 n) k ≡ get_or t (k * 8 + 5) 0
+value_begins t n k h =
+    let z : 0 + k ≡ k = omega arith in value_start_lem (rows_from t 0 n) k (rw z at (drop_from t 0 k n) ∙ unroll t k n h)
 
 -- ---- the loop: at depth d and row k what is left gives the whole
-pub record TextFrom (body t : List ℕ) (n : ℕ) (f : Failure) (s : ScopeRow) (d₀ k₀ d k : ℕ) : Type 0 where
-  pub rest : first_from body t n f s (depth d) k ≡ first_from body t n f s (depth d₀) k₀
+abbrev first_from : Element → ℕ → ℕ → Answer (List ℕ)
+first_from e d k =
+    first_text (view_of e.view).rows (view_of e.view).failure (scope_of (child_of e).start) (depth d) k
+    (toks_from e.view.table.body.now e.view.table.rows.now e.view.count k)
 
-pub text_start : (body t : List ℕ) (n : ℕ) (f : Failure) (s : ScopeRow) (d k : ℕ) → TextFrom body t n f s d k d k
-text_start body t n f s d k = record { rest = refl }
+abbrev the_text : Element → Answer (List ℕ)
+the_text e = text_of (view_of e.view) (child_of e)
 
-module _ {body t : List ℕ} {n : ℕ} {f : Failure} {s : ScopeRow} {d₀ k₀ d k : ℕ} (w : TextFrom body t n f s d₀ k₀ d k) where
-  abbrev answer : Answer (List ℕ)
-  answer = first_from body t n f s (depth d₀) k₀
+pub record TextFrom (e : Element) (d k : ℕ) : Type 0 where
+  pub low : d ≤ k
+  pub rest : first_from e d k ≡ the_text e
 
-  pub text_done : {r : Text} → n ≤ k → r ≡ end_text f → TextIs body t r answer
-  text_done {r} h e =
-      let x = first_text_end (rows_from t 0 n) (failure_at f) (scope_at body t s) (depth d) k in
-      let z : answer ≡ at_end (failure_at f) = sym w.rest ∙ rw (toks_none body t n k h) x in
-      rw (e, z) (end_text_lem body t f)
+-- one without a byte is the empty text
+pub empty_is : (r : Text) → r.bytes.now ≡ [] → given (Ok r) ≡ gives []
+unfolding unescaped decode
+empty_is r x = rw x
 
-  module _ (h : k < n) {kind : ℕ} (g : kind ≡ get_or t (k * 8 + 0) 0) where
-    -- where the row's value begins
-    begins : value_start_at (rows_from t 0 n) k ≡ get_or t (k * 8 + 5) 0
-    begins = let z : 0 + k ≡ k = omega arith in value_start_lem (rows_from t 0 n) k (rw z at (drop_from t 0 k n) ∙ unroll t k n h)
+pub text_closed : (e : Element) → e.start.closed ≡ true → (r : Text) → r.bytes.now ≡ [] → given (Ok r) ≡ the_text e
+unfolding text_of
+text_closed e q r x = rw q (empty_is r x)
 
+pub text_start : (e : Element) → e.start.closed ≡ false → TextFrom e e.at.depth.0 e.at.row
+unfolding text_of
+text_start e q = record { low = e.outside.at.low; rest = rw q }
+
+-- what is no text and no start is passed over, unless it ends the scope
+pub passed : {m : Name} {l : List ℕ} {kind : ℕ} {u : Tok} → Kind m l kind u → (kind ≡ 1 → ⊥) → (kind ≡ 6 → ⊥)
+    → (take : List ℕ → Answer (List ℕ) → Answer (List ℕ)) (s : Scope) (d : Depth) (more : Answer (List ℕ))
+    → text_turn take s d u more ≡ pick (ends_at s d u) (gives []) more
+passed of_start a b take s d more = absurd (a refl)
+passed of_attr a b take s d more = refl
+passed of_gt a b take s d more = refl
+passed of_close a b take s d more = refl
+passed of_slash a b take s d more = refl
+passed {l = l} {kind} (of_matter {m = x} w) a b take s d more = go x w
+  where
+    go : (x : Matter) → OfMatter l kind x → text_turn take s d (matter x) more ≡ more
+    go (text v) w = absurd (b (w.is_text v refl))
+    go misc w = refl
+passed (of_error w) a b take s d more = refl
+
+failed_is : (o : Option Refusal) {why : Refusal} → o ≡ Some why → at_end (failure_at o) ≡ refuses why
+failed_is o q = rw q
+
+none_is : (o : Option Refusal) → o ≡ None → at_end (failure_at o) ≡ gives []
+none_is o q = rw q
+
+module _ {e : Element} {d k : ℕ} (w : TextFrom e d k) where
+  abbrev body : List ℕ
+  body = e.view.table.body.now
+
+  abbrev t : List ℕ
+  t = e.view.table.rows.now
+
+  abbrev n : ℕ
+  n = e.view.count
+
+  abbrev s : Scope
+  s = scope_of (child_of e).start
+
+  abbrev rows : List Row
+  rows = (view_of e.view).rows
+
+  -- where the rows run out
+  ended : n ≤ k → at_end (failure_at e.view.failure) ≡ the_text e
+  ended h = sym (first_text_end rows (failure_at e.view.failure) s (depth d) k) ∙ rw (toks_none body t n k h) at w.rest
+
+  pub text_failed : {why : Refusal} → n ≤ k → e.view.failure ≡ Some why → given (Err why) ≡ the_text e
+  text_failed h q = sym (failed_is e.view.failure q) ∙ ended h
+
+  pub text_empty : n ≤ k → e.view.failure ≡ None → (r : Text) → r.bytes.now ≡ [] → given (Ok r) ≡ the_text e
+  text_empty h q r x = empty_is r x ∙ (sym (none_is e.view.failure q) ∙ ended h)
+
+  module _ (h : k < n) where
     -- what one row does
-    turned : (u : Tok) → tok_at body t k ≡ u
-        → text_turn (take_first (get_or t (k * 8 + 5) 0)) (scope_at body t s) (depth_after u (depth d)) u
-        (first_from body t n f s (depth_after u (depth d)) (suc k)) ≡ answer
-    turned u e =
-        let rows = rows_from t 0 n in
-        let x = first_text_token rows (failure_at f) (scope_at body t s) (depth d) k u (toks_from body t n (suc k)) in
-        sym (rw begins at x)
-        ∙ (ap (first_text rows (failure_at f) (scope_at body t s) (depth d) k) (sym (rw (e, add-one k) at (toks_next body t n k h)))
-        ∙ w.rest)
+    turned : text_turn (take_first (get_or t (k * 8 + 5) 0)) s (depth_after (tok_at body t k) (depth d)) (tok_at body t k)
+        (first_text rows (failure_at e.view.failure) s (depth_after (tok_at body t k) (depth d)) (k + 1) (toks_from body t n (k + 1)))
+        ≡ the_text e
+    turned =
+        let u = tok_at body t k in
+        let x = first_text_token rows (failure_at e.view.failure) s (depth d) k u (toks_from body t n (suc k)) in
+        rw (← add-one k) at
+        (sym (rw (value_begins t n k h) at x)
+        ∙ (ap (first_text rows (failure_at e.view.failure) s (depth d) k) (sym (rw (add-one k) at (toks_next body t n k h))) ∙ w.rest))
 
-    pub text_element : kind ≡ 1 → TextIs body t (Text.Refused Refusal.ElementInText) answer
-    unfolding tok_as
-    text_element e = record { same = turned _ (tok_is body t k g 1 e); row = tt }
+    module _ {kind : ℕ} (g : kind ≡ get_or t (k * 8 + 0) 0) where
+      pub text_element : kind ≡ 1 → given (Err Refusal.ElementInText) ≡ the_text e
+      unfolding tok_as
+      text_element q = rw (← g, q) at turned
 
-    pub text_row : Sees body t n → kind ≡ 6 → TextIs body t (Text.Row k) answer
-    unfolding tok_as
-    text_row q e = record { same = turned _ (tok_is body t k g 6 e); row = row_seen q h }
+      pub text_row : {r : Text} → kind ≡ 6 → ValueIs body t k r → given (Ok r) ≡ the_text e
+      unfolding tok_as
+      text_row q x = rw (x.from, x.bytes) (rw (← g, q) at turned)
 
-    module _ (a : (kind ≡ 6 → ⊥)) (b : (kind ≡ 1 → ⊥)) {e : ℕ} (x : DepthIs kind d e) {r : Bool}
-        (i : r ≡ ends_at (scope_at body t s) (depth e) (tok_at body t k)) where
-      passed : pick r (gives []) (first_from body t n f s (depth e) (suc k)) ≡ answer
-      passed =
-          let m = name_at body t k in
-          let v = value_at body t k in
-          let y : depth_after (tok_at body t k) (depth d) ≡ depth e = rw (← g) (x.is b m v) in
-          let more = first_from body t n f s (depth e) (suc k) in
-          let u = tok_at body t k in
-          let take = take_first (get_or t (k * 8 + 5) 0) in
-          let z : text_turn take (scope_at body t s) (depth e) u more ≡ pick (ends_at (scope_at body t s) (depth e) u) (gives []) more
-          = rw (← g) ((other kind m v).text b a take (scope_at body t s) (depth e) more) in
-          rw i (sym z ∙ rw y at (turned u refl))
+      module _ (a : (kind ≡ 6 → ⊥)) (b : (kind ≡ 1 → ⊥)) {d' : ℕ} (x : d' ≡ open_count d kind) {r : Bool}
+          (i : r ≡ ends_at s (depth d') (tok_at body t k)) where
+        on : pick r (gives []) (first_from e d' (k + 1)) ≡ the_text e
+        on =
+            let c = kind_of_lem (get_or t (k * 8 + 0) 0) (name_at body t k) (value_at body t k) in
+            let z = passed c (rw g at b) (rw g at a) (take_first (get_or t (k * 8 + 5) 0)) s (depth d') (first_from e d' (k + 1)) in
+            rw i (sym z ∙ rw (depth_here body t d k g x) at turned)
 
-      pub text_on : r ≡ false → TextFrom body t n f s d₀ k₀ e (k + 1)
-      text_on q = record { rest = rw (add-one k) (rw q at passed) }
+        pub text_on : r ≡ false → TextFrom e d' (k + 1)
+        text_on q = record { low = rw x (open_low d kind k w.low); rest = rw q at on }
 
-      pub text_ended : r ≡ true → TextIs body t Text.Empty answer
-      text_ended q = record { same = rw q at passed; row = tt }
-
-pub ruleset text_laws = (rules, row_seen, scope_seen, text_start, text_done, text_element, text_row, text_on, text_ended)
-
--- ---- of an element
-module _ (body t : List ℕ) (v : View) (s : StartRow) (c : Cursor) where
-  pub text_closed : s.closed ≡ true → TextIs body t Text.Empty (text_of (view_at t v) (child_at body t v.count s c))
-  unfolding text_of
-  text_closed e = record { same = rw e; row = tt }
-
-  pub text_inside : {r : Text} → s.closed ≡ false
-      → TextIs body t r (first_from body t v.count v.failure (ScopeRow.Element s.depth s.row) (depth c.depth.0) c.row)
-      → TextIs body t r (text_of (view_at t v) (child_at body t v.count s c))
-  unfolding text_of
-  text_inside e x = record { same = rw e x.same; row = x.row }
-
-pub ruleset element_text_laws = (rules, text_closed, text_inside, start_scope)
-
--- ---- for callers: a text that has a row
-pub row_in : {t : List ℕ} {text : Text} {k : ℕ} → TextIn t text → text ≡ Text.Row k → InTable t k
-row_in w e = rw e at w
-
--- a text of row k that was measured and does not unescape: its place lies in the body, so 16 bits hold it where the body is small
-measured_bad : (o : Out) {r : Unescaped} {at : ℕ} → r ≡ size_of o → r ≡ Unescaped.BadReference at → o ≡ ref.bad at
-unfolding size_of
-measured_bad (bytes l) e q = let z : ◌≡◌ {A = ℕ} 0 1 = cc in absurd (omega arith)
-measured_bad (ref.bad i) {r} {at} e q = let z : i ≡ at = cc in ap ref.bad z
-
-module _ (body t : List ℕ) (k : ℕ) {from : ℕ} (f : from ≡ get_or t (k * 8 + 5) 0) {x : List ℕ} (p : x ≡ value_at body t k) {r : Unescaped}
-    (e : r ≡ size_of (unescaped x)) {at : ℕ} (q : r ≡ Unescaped.BadReference at) where
-  bad_here : unescaped (value_at body t k) ≡ ref.bad at
-  bad_here = rw (← p) (measured_bad (unescaped x) e q)
-
-  pub text_bad : refuses (Refusal.BadReference (from + at)) ≡ text_at body t (Text.Row k)
-  text_bad = rw (bad_here, f)
-
-  module _ (b : Readable body t) (i : InTable t k) where
-    pub text_within : from + at < length body
-    unfolding unescaped
-    text_within =
-        let v = value_at body t k in
-        let n = fails_within false v ((bad_is false v at).0 bad_here) in
-        let m = length-take (get_or t (k * 8 + 6) 0) (drop (get_or t (k * 8 + 5) 0) body) in
-        omega (arith, n, m, (b.each k i.row).value)
+        pub text_ended : r ≡ true → (f : Text) → f.bytes.now ≡ [] → given (Ok f) ≡ the_text e
+        text_ended q f y = empty_is f y ∙ rw q at on

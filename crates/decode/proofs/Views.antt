@@ -4,156 +4,201 @@ use mathlib.Core.Path.{◌≡◌, refl, sym, ◌∙◌, ap}
 use mathlib.Core.Bool.{Bool, true, false}
 use mathlib.Core.List.{List, ◌∷◌}
 use native.Mathlib.Omega.{arith}
-use borrow.Author.Rules.{rules}
 use borrow.Author.Tests.{ltb-true, ltb-false}
 use lib.Dec.{ltb}
 use lib.ListN.{length, get_or, length-append}
+use Rattle.std.specs.Prelude.{Ok, Err, Some, None}
+use Rattle.std.proofs.Math.Option as math
 use Rattle.refusal.specs.declared.Refusal.{Refusal}
-use Rattle.table.specs.Row.{Row, tok_as, toks_of, rows_of}
-use Rattle.table.specs.Rules.{TableRules}
-use Rattle.table.specs.Flat.{rows_from}
-use Rattle.table.proofs.Flat.{length_rows, rows_whole}
+use Rattle.table.specs.Row.{Name, Tok, tok_as, toks_of, rows_of}
+use Rattle.table.proofs.Classes.{Kind, of_start, of_attr, of_gt, of_close, of_slash, of_matter, of_error, kind_of_lem}
+use Rattle.lists.proofs.Tests.{false_true}
+use Rattle.table.specs.Rules.{Place, at_first, EachRow, after}
+use Rattle.table.specs.Flat.{row_at, rows_from}
+use Rattle.table.specs.Rows.{Obeys, InTable, name_at, value_at, tok_at}
+use Rattle.table.specs.declared.rows.ValidTable.{ValidTable}
+use Rattle.table.proofs.Test.{first}
+use Rattle.table.proofs.Flat.{length_rows}
+use Rattle.table.proofs.Valid.{all_rows, each_row, end_within, readable, rules_at}
 use Rattle.xml.specs.declared.Cause.{Cause}
-use Rattle.xml.specs.declared.Drained.{Drained}
+use Rattle.xml.specs.declared.DrainError.{DrainError}
 use Rattle.xml.specs.Drain.{walked, cause_place}
 use Rattle.xml.specs.Passed.{FirstFault, at_row, at_the_end}
 use Rattle.xml.proofs.First.{walk_ill_formed_is}
 use Rattle.document.specs.View.{position_at, failure_of, is_error, error_at, view}
-use Rattle.document.specs.View as doc
-use Rattle.decode.specs.declared.view.Failure.{Failure}
 use Rattle.decode.specs.declared.view.View.{View}
-use Rattle.decode.specs.Rows.{tok_at}
-use Rattle.decode.specs.Drain.{Walkable}
-use Rattle.decode.specs.View.{whole_at, Viewed, ViewIs}
-use Rattle.decode.proofs.ByKind.{other}
-use Rattle.decode.proofs.Walking.{walkable, length_toks}
-use Rattle.decode.proofs.Causes.{row_in, cause_fits}
-use Rattle.decode.proofs.Seen.{take_rows, position_row, position_past, is_error_lem, rules_at, error_at_lem, error_none, all_rows, sees}
-use Rattle.decode.proofs.Seen.{outside}
+use Rattle.decode.specs.View.{whole_of, ViewIs}
+use Rattle.decode.proofs.Walking.{length_toks}
+use Rattle.decode.proofs.Known.{take_rows}
 
--- what a text meets where the drain stopped at a reference
-pub failure_reference : (at : ℕ) (c : Cause) → c ≡ Cause.BadReference → Refusal.BadReference at ≡ failure_of at c
-failure_reference at c e = rw e
+-- ---- the position of a row, or the final one
+position_row : (t : List ℕ) (final s k m : ℕ) → k < m → position_at final (rows_from t s m) k ≡ get_or t ((s + k) * 8 + 7) 0
+position_row t final s k zero h = absurd (omega arith)
+position_row t final s zero (suc m) h = let z : s + 0 ≡ s = omega arith in rw z
+position_row t final s (suc k) (suc m) h =
+    let z : s + suc k ≡ suc s + k = omega arith in rw z (position_row t final (suc s) k m (omega arith))
 
-pub ruleset failure_laws = (rules, failure_reference)
+position_past : (t : List ℕ) (final s k m : ℕ) → m ≤ k → position_at final (rows_from t s m) k ≡ final
+position_past t final s k zero h = refl
+position_past t final s zero (suc m) h = absurd (omega arith)
+position_past t final s (suc k) (suc m) h = position_past t final (suc s) k m (omega arith)
 
--- the position of a row, or the final one
-module _ {body t : List ℕ} (w : Walkable body t) (final k : ℕ) where
+module _ {body t : List ℕ} {final : ℕ} (o : Obeys body t final) (k : ℕ) where
   pub position_in : {x : ℕ} → k < length t / 8 → x ≡ get_or t (k * 8 + 7) 0 → x ≡ position_at final (rows_of t) k
-  position_in h e = let z : 0 + k ≡ k = omega arith in rw (all_rows w) (e ∙ sym (rw z at (position_row t final 0 k (length t / 8) h)))
+  position_in h e = let z : 0 + k ≡ k = omega arith in rw (all_rows o) (e ∙ sym (rw z at (position_row t final 0 k (length t / 8) h)))
 
   pub position_out : length t / 8 ≤ k → final ≡ position_at final (rows_of t) k
-  position_out h = rw (all_rows w) (sym (position_past t final 0 k (length t / 8) h))
+  position_out h = rw (all_rows o) (sym (position_past t final 0 k (length t / 8) h))
 
-  position_low : final ≤ length body → position_at final (rows_of t) k ≤ length body
-  position_low l = go (ltb k (length t / 8)) refl
+  pub position_low : position_at final (rows_of t) k ≤ length body
+  position_low = go (ltb k (length t / 8)) refl
     where
       go : (b : Bool) → ltb k (length t / 8) ≡ b → position_at final (rows_of t) k ≤ length body
       go true q =
-          let h = ltb-true k (length t / 8) q in rw (← position_in h refl)
-          (w.readable.each k (omega (arith, rows_whole t w.whole))).position
-      go false q = rw (← position_out (ltb-false k (length t / 8) q)) l
+          let h = ltb-true k (length t / 8) q in
+          rw (← position_in h refl) ((readable o).each k (omega arith)).position
+      go false q = rw (← position_out (ltb-false k (length t / 8) q)) (end_within o)
 
-pub ruleset position_laws = (rules, position_in, position_out, row_in)
+-- ---- what a token error in the last row says of all
+bad_number : {m : Name} {v : List ℕ} {kind : ℕ} {u : Tok} → Kind m v kind u → is_error u ≡ true → 1 ≤ kind → kind ≤ 8 → kind ≡ 8
+bad_number of_start e l h = false_true e
+bad_number of_attr e l h = false_true e
+bad_number of_gt e l h = false_true e
+bad_number of_close e l h = false_true e
+bad_number of_slash e l h = false_true e
+bad_number (of_matter w) e l h = false_true e
+bad_number (of_error w) e l h = w.eight l h
 
--- nothing stops the reader
-module _ {body t : List ℕ} {final : ℕ} (o : TableRules body t final) where
-  w : Walkable body t
-  w = walkable o
+bad_is : (body t : List ℕ) (k : ℕ) → is_error (tok_at body t k) ≡ true → 1 ≤ get_or t (k * 8 + 0) 0 → get_or t (k * 8 + 0) 0 ≤ 8
+    → get_or t (k * 8 + 0) 0 ≡ 8
+bad_is body t k = bad_number (kind_of_lem (get_or t (k * 8 + 0) 0) (name_at body t k) (value_at body t k))
 
-  viewed : {v : View} → v.count ≤ length t / 8 → v.ends ≤ length body → Viewed body t v
-  viewed {v} h l =
-      let n : length (rows_of t) ≡ length t / 8 = rw (all_rows w) (length_rows t 0 (length t / 8)) in
-      record { sees = sees w v.count h; ends = l; small = o.rules.few_bytes; few = omega (arith, o.rules.few_rows) }
+module _ (body t : List ℕ) where
+  -- of m + 1 rows none but the last is one
+  error_early : {p : Place} (s m : ℕ) → EachRow body p (rows_from t s (suc (suc m))) → is_error (tok_at body t s) ≡ false
+  error_early {p} s m e = go (is_error (tok_at body t s)) refl
+    where
+      go : (u : Bool) → is_error (tok_at body t s) ≡ u → u ≡ false
+      go true q =
+          let o = (first e).0 in
+          let z = o.error_last (bad_is body t s q o.known_kind.0 o.known_kind.1) in
+          absurd (omega (arith, length_rows t (suc s) (suc m)))
+      go false q = refl
 
-  whole_is : ViewIs body t (whole_at t final) (doc.whole (rows_of t) final)
-  whole_is =
-      record { same = rw (all_rows w); viewed = viewed (omega arith) o.rules.within; fresh = outside w (length t / 8) (omega arith) }
+  error_is : {p : Place} (s m : ℕ) → EachRow body p (rows_from t s (suc m)) → is_error (tok_at body t (s + m)) ≡ true
+      → error_at (toks_of body (rows_from t s (suc m))) ≡ math.some m
+  unfolding error_at
+  error_is {p = p} s zero e q = let z : s + 0 ≡ s = omega arith in rw (rw z at q)
+  error_is {p = p} s (suc m) e q =
+      let z : s + suc m ≡ suc s + m = omega arith in
+      rw (error_early s m e, error_is {p = after p (row_at t s)} (suc s) m (first e).1 (rw z at q))
 
-  module _ {r : Drained} (e : r ≡ walked (toks_of body (rows_of t))) where
-    -- what is seen of all rows, where the drain passes; a walk never says `Table`
-    pub view_passes : {v : View} → r ≡ Drained.Passes → v ≡ whole_at t final → ViewIs body t v (view true body (rows_of t) final)
-    unfolding view
-    view_passes q i = rw (← e, q, i) whole_is
+  error_none : {p : Place} (s m : ℕ) → EachRow body p (rows_from t s (suc m)) → is_error (tok_at body t (s + m)) ≡ false
+      → error_at (toks_of body (rows_from t s (suc m))) ≡ math.none
+  unfolding error_at
+  error_none {p = p} s zero e q = let z : s + 0 ≡ s = omega arith in rw (rw z at q)
+  error_none {p = p} s (suc m) e q =
+      let z : s + suc m ≡ suc s + m = omega arith in
+      rw (error_early s m e, error_none {p = after p (row_at t s)} (suc s) m (first e).1 (rw z at q))
 
-    pub view_table : {v : View} → r ≡ Drained.Table → v ≡ whole_at t final → ViewIs body t v (view true body (rows_of t) final)
-    unfolding view
-    view_table q i = rw (← e, q, i) whole_is
+-- ---- the views of a table
+module _ (v : ValidTable) where
+  abbrev body : List ℕ
+  body = v.body.now
 
-    first_in : {k : ℕ} {c : Cause} → r ≡ Drained.IllFormed k c → k ≤ length t / 8
-    first_in {k} {c} q = go ((walk_ill_formed_is (toks_of body (rows_of t)) k c).0 (sym e ∙ q))
+  abbrev t : List ℕ
+  t = v.rows.now
+
+  abbrev n : ℕ
+  n = length t / 8
+
+  -- nothing stops the reader
+  pub whole_seen : n * 8 ≤ length t
+  whole_seen = omega arith
+
+  pub whole_is : {r : View} → r.table ≡ v → r.count ≡ n → r.failure ≡ None → r.ill_formed ≡ false → r.ends ≡ v.end
+      → ViewIs v (whole_of v) r
+  whole_is a b c d e = record { same = rw (a, b, c, d, e, all_rows v.obeys); table = a }
+
+  module _ {k : ℕ} {c : Cause} (e : Err (DrainError.IllFormed k c) ≡ walked (toks_of body (rows_of t))) where
+    first_in : k ≤ n
+    first_in = go ((walk_ill_formed_is (toks_of body (rows_of t)) k c).0 (sym e))
       where
-        size : length (toks_of body (rows_of t)) ≡ length t / 8
-        size = length_toks body (rows_of t) ∙ rw (all_rows w) (length_rows t 0 (length t / 8))
+        size : length (toks_of body (rows_of t)) ≡ n
+        size = length_toks body (rows_of t) ∙ rw (all_rows v.obeys) (length_rows t 0 n)
 
-        go : FirstFault (toks_of body (rows_of t)) k c → k ≤ length t / 8
+        go : FirstFault (toks_of body (rows_of t)) k c → k ≤ n
         go (at_row a x b s l f g) = omega (arith, size, ap length s, length-append a (x ∷ b))
         go (at_the_end l d f g) = omega (arith, size)
 
-    pub view_ill : {k : ℕ} {c : Cause} {x : ℕ} {f : Refusal} {p : ℕ} → r ≡ Drained.IllFormed k c → x ≡ cause_place body (rows_of t) k c
-        → f ≡ failure_of x c
-        → p ≡ position_at final (rows_of t) k
-        → ViewIs body t (record { count = k; failure = Failure.Is f; ill_formed = true; ends = p }) (view true body (rows_of t) final)
+    pub ill_seen : k * 8 ≤ length t
+    ill_seen = omega (arith, first_in)
+
+    pub view_ill : {x : ℕ} {f : Refusal} {p : ℕ} → x ≡ cause_place body (rows_of t) k c → f ≡ failure_of x c
+        → p ≡ position_at v.end (rows_of t) k
+        → {r : View} → r.table ≡ v → r.count ≡ k → r.failure ≡ Some f → r.ill_formed ≡ true → r.ends ≡ p
+        → ViewIs v (view true body (rows_of t) v.end) r
     unfolding view
-    view_ill {k} {c} {x} {f} {p} q a i j =
-        let l = first_in q in
-        record {
-          same = rw (← e, q, i, a, ← j, all_rows w, take_rows t 0 k (length t / 8) l);
-          viewed = viewed l (rw j (position_low w final k o.rules.within));
-          fresh = outside w k l;
-        }
+    view_ill a i j {r} h l m o q =
+        record { same = rw (← e, h, l, m, o, q, i, a, j, all_rows v.obeys, take_rows t 0 k n first_in); table = h }
+
+  pub view_passes : Ok tt ≡ walked (toks_of body (rows_of t)) → {r : View} → ViewIs v (whole_of v) r
+      → ViewIs v (view true body (rows_of t) v.end) r
+  unfolding view
+  view_passes e x = rw (← e) x
+
+  pub view_table : Err DrainError.Table ≡ walked (toks_of body (rows_of t)) → {r : View} → ViewIs v (whole_of v) r
+      → ViewIs v (view true body (rows_of t) v.end) r
+  unfolding view
+  view_table e x = rw (← e) x
 
   -- lenient: the last row alone can be a token error
-  pub lenient_none : {v : View} → length t / 8 ≡ 0 → v ≡ whole_at t final → ViewIs body t v (view false body (rows_of t) final)
+  pub lenient_none : n ≡ 0 → {r : View} → ViewIs v (whole_of v) r → ViewIs v (view false body (rows_of t) v.end) r
   unfolding view error_at
-  lenient_none e i = let z : rows_of t ≡ rows_from t 0 0 = all_rows w ∙ ap (rows_from t 0) e in rw (z, i) (rw z at whole_is)
+  lenient_none e x = let z : rows_of t ≡ rows_from t 0 0 = all_rows v.obeys ∙ ap (rows_from t 0) e in rw z (rw z at x)
 
-  module _ (h : (length t / 8 ≡ 0 → ⊥)) {kind : ℕ} (f : kind ≡ get_or t ((length t / 8 - 1) * 8 + 0) 0) where
-    count : length t / 8 ≡ suc (length t / 8 - 1)
-    count = some_rows (length t / 8) h
+  module _ (h : (n ≡ 0 → ⊥)) where
+    count : n ≡ suc (n - 1)
+    count = some_rows n h
       where
         some_rows : (m : ℕ) → (m ≡ 0 → ⊥) → m ≡ suc (m - 1)
         some_rows zero z = absurd (z refl)
         some_rows (suc m) z = omega arith
 
-    rows_are : rows_of t ≡ rows_from t 0 (suc (length t / 8 - 1))
-    rows_are = all_rows w ∙ ap (rows_from t 0) count
+    rows_are : rows_of t ≡ rows_from t 0 (suc (n - 1))
+    rows_are = all_rows v.obeys ∙ ap (rows_from t 0) count
 
-    pub lenient_error : kind ≡ 8
-        → ViewIs body t (record { count = length t / 8 - 1; failure = Failure.Is Refusal.TokenError; ill_formed = false; ends = final })
-        (view false body (rows_of t) final)
+    each : EachRow body at_first (rows_from t 0 (suc (n - 1)))
+    each = rw count at (each_row v.obeys)
+
+    pub last_seen : (n - 1) * 8 ≤ length t
+    last_seen = omega arith
+
+    pub last_in : InTable t (n - 1)
+    last_in = record { row = omega (arith, count) }
+
+    pub lenient_error : 8 ≡ get_or t ((n - 1) * 8 + 0) 0 → {r : View} → r.table ≡ v → r.count ≡ n - 1 → r.failure ≡ Some Refusal.TokenError
+        → r.ill_formed ≡ false
+        → r.ends ≡ v.end
+        → ViewIs v (view false body (rows_of t) v.end) r
     unfolding view tok_as
-    lenient_error q =
-        let m = length t / 8 - 1 in
+    lenient_error q a b c d e =
+        let m = n - 1 in
         let z : 0 + m ≡ m = omega arith in
-        let x = error_at_lem body t 0 m (rw rows_are at w.each) (rw (z, ← f, q)) in
-        record {
-          same = rw (rows_are, x, take_rows t 0 m (suc m) (omega arith));
-          viewed = viewed (omega arith) o.rules.within;
-          fresh = outside w m (omega arith);
-        }
+        let x = error_is body t 0 m each (rw (z, ← q)) in
+        record { same = rw (a, b, c, d, e, rows_are, x, take_rows t 0 m (suc m) (omega arith)); table = a }
 
-    pub lenient_whole : {v : View} → (kind ≡ 8 → ⊥) → v ≡ whole_at t final → ViewIs body t v (view false body (rows_of t) final)
+    pub lenient_whole : {kind : ℕ} → kind ≡ get_or t ((n - 1) * 8 + 0) 0 → (kind ≡ 8 → ⊥) → {r : View} → ViewIs v (whole_of v) r
+        → ViewIs v (view false body (rows_of t) v.end) r
     unfolding view
-    lenient_whole q i =
-        let m = length t / 8 - 1 in
+    lenient_whole {kind} f q x =
+        let m = n - 1 in
         let z : 0 + m ≡ m = omega arith in
-        let x = error_none body t 0 m (rw rows_are at w.each) (rw z (is_error_lem _ (λ y. q (kind_is y)))) in
-        rw (rows_are, x, i) (rw (← rows_are) whole_is)
+        let y = error_none body t 0 m each (rw z (not_error (is_error (tok_at body t m)) refl)) in
+        rw (rows_are, y) (rw rows_are at x)
       where
-        kind_is : is_error (tok_at body t (length t / 8 - 1)) ≡ true → kind ≡ 8
-        kind_is z =
-            let r = rules_at body t (length t / 8) 0 (length t / 8 - 1) (rw (all_rows w) at w.each) (omega arith)
-            (omega (arith, count)) in
-            f ∙ (other _ _ _).error r.rules.known_kind.0 r.rules.known_kind.1 z
-
-module _ {body t : List ℕ} {v : View} (strict : Bool) (rows : List Row) (final : ℕ) where
-  pub view_strict : ViewIs body t v (view true body rows final) → strict ≡ true → ViewIs body t v (view strict body rows final)
-  view_strict x e = rw e x
-
-  pub view_lenient : ViewIs body t v (view false body rows final) → strict ≡ false → ViewIs body t v (view strict body rows final)
-  view_lenient x e = rw e x
-
-pub ruleset either_laws = (rules, view_strict, view_lenient)
-
-pub ruleset view_laws = (rules, walkable, row_in, cause_fits, view_passes, view_table, view_ill, lenient_none, lenient_error, lenient_whole)
+        not_error : (u : Bool) → is_error (tok_at body t (n - 1)) ≡ u → u ≡ false
+        not_error false e = refl
+        not_error true e =
+            let r = (rules_at v.obeys last_in).rules.known_kind in
+            absurd (q (f ∙ bad_is body t (n - 1) e r.0 r.1))

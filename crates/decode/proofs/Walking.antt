@@ -6,40 +6,34 @@ use mathlib.Core.Bool.{Bool, true, false}
 use mathlib.Core.List.{List, [], ◌∷◌}
 use native.Mathlib.Numerals.{add-one}
 use native.Mathlib.Omega.{arith}
-use borrow.Author.Rules.{rules}
-use borrow.Author.Tests.{eqb-true, ne_eqb, leb-true, leb-false}
+use borrow.Author.Tests.{eqb-true, leb-true, leb-false}
 use lib.Dec.{eqb, leb}
-use lib.ListN.{length, get_or, set, length-set}
+use lib.ListN.{length, get_or, set}
 use lib.Seq.{get_or-set_same, get_or-set_other}
-use Rattle.lists.specs.Characters.{ampersand}
-use Rattle.lists.specs.Find.{Clear}
+use Rattle.std.specs.Prelude.{Result, Ok, Err}
 use Rattle.lists.specs.Tests.{pick}
-use Rattle.lists.proofs.Tests.{false_true, pick_all}
+use Rattle.lists.proofs.Tests.{false_true}
 use Rattle.lists.specs.Decide.{is_yes}
 use Rattle.reference.specs.Text.{validated}
-use Rattle.reference.specs.declared.Validated.{Validated}
+use Rattle.reference.specs.declared.BadReference.{BadReference}
 use Rattle.table.specs.Row.{Row, Name, Tok, references_in, bad, toks_of, rows_of}
+use Rattle.table.specs.Rows.{InTable, Obeys, name_at, value_at, tok_at}
 use Rattle.table.proofs.Classes.{Kind, of_start, of_attr, of_gt, of_close, of_slash, of_matter, of_error, kind_of_lem}
 use Rattle.table.specs.Rules.{closes_element, ends_tag, in_tag_only, may_be_in_tag, open_count, Place, at_first, after, RowRules, EachRow}
 use Rattle.table.specs.Rules.{TableRules}
 use Rattle.table.specs.Test.{dec_table}
-use Rattle.table.proofs.OrderLaws.{count_within}
 use Rattle.table.proofs.Test.{first}
-use Rattle.table.proofs.Pass.{obeyed}
+use Rattle.table.proofs.Valid.{all_rows, each_row}
 use Rattle.table.specs.Flat.{row_at, rows_from}
-use Rattle.table.proofs.Flat.{length_rows, rows_same, rows_whole, unroll, rolled_out, spans_in}
+use Rattle.table.proofs.Flat.{length_rows, unroll, rolled_out}
 use Rattle.xml.specs.Drain.{same_name, has_name, drained_by, drained, State, going}
 use Rattle.xml.specs.Drain.{failed, with_value, with_attribute, closed, popped, step}
 use Rattle.xml.specs.Drain.{walk, verdict}
 use Rattle.xml.specs.Drain.{walked}
 use Rattle.xml.specs.Passed.{names_after}
 use Rattle.xml.specs.declared.Cause.{Cause}
-use Rattle.xml.specs.declared.Drained.{Drained}
-use Rattle.decode.specs.declared.drain.Fault.{Fault}
-use Rattle.decode.specs.Rows.{InTable, name_at, value_at, tok_at}
-use Rattle.decode.specs.Drain.{names_back, as_fault, value_fault, fault_of, FaultIs, WellPlaced, top_of, MayEnter, starts_after, Entered}
-use Rattle.decode.specs.Drain.{Walkable}
-use Rattle.decode.proofs.Faults.{names_first, plain_none}
+use Rattle.xml.specs.declared.DrainError.{DrainError}
+use Rattle.decode.specs.Drain.{names_back, Fault, as_fault, value_fault, fault_of, FaultIs, WellPlaced, top_of, starts_after, Entered}
 
 -- ---- the open elements, by the rows in which they start
 abbrev pub stack_of : List ℕ → List ℕ → List ℕ → ℕ → List Name
@@ -69,23 +63,23 @@ starts_in starts d k kind room f i = go (eqb kind 1) (closes_element kind) refl
 
 -- ---- what a token does, by its fault
 abbrev told : Fault → ℕ → State → State
-told Fault.Nothing k st = st
-told (Fault.Is c) k st = failed k c
+told (Ok u) k st = st
+told (Err c) k st = failed k c
 
 told_value : (v : List ℕ) (k : ℕ) (st : State) → with_value (validated v) k st ≡ told (value_fault v) k st
 told_value v k st = go (validated v)
   where
-    go : (r : Validated) → with_value r k st ≡ told (as_fault r) k st
-    go Validated.Valid = refl
-    go (Validated.BadReference at) = refl
+    go : (r : Result (Unit {0}) BadReference) → with_value r k st ≡ told (as_fault r) k st
+    go (Ok u) = refl
+    go (Err e) = refl
 
 told_attribute : (u : Bool) (v : List ℕ) (k : ℕ) (st : State)
-    → with_attribute u k (with_value (validated v) k st) ≡ told (pick u (Fault.Is Cause.RepeatedAttribute) (value_fault v)) k st
+    → with_attribute u k (with_value (validated v) k st) ≡ told (pick u (Err Cause.RepeatedAttribute) (value_fault v)) k st
 told_attribute true v k st = refl
 told_attribute false v k st = told_value v k st
 
 told_close : (u : Bool) (k : ℕ) (st : State)
-    → pick u st (failed k Cause.MismatchedEnd) ≡ told (pick u Fault.Nothing (Fault.Is Cause.MismatchedEnd)) k st
+    → pick u st (failed k Cause.MismatchedEnd) ≡ told (pick u (Ok tt) (Err Cause.MismatchedEnd)) k st
 told_close true k st = refl
 told_close false k st = refl
 
@@ -103,6 +97,10 @@ module _ {body : List ℕ} {p : Place} {r : Row} {rest : List Row} (o : RowRules
       go : (b : Bool) → p.in_tag ≡ b → p.in_tag ≡ true
       go true h = h
       go false h = false_true (sym (o.tag_order.outside h) ∙ e)
+
+names_first : (body t : List ℕ) (tag j : ℕ) → tag + 1 < j
+    → names_back body t tag j ≡ name_at body t (j - 1) ∷ names_back body t tag (j - 1)
+names_first body t tag j h = let e : j - (tag + 1) ≡ suc ((j - 1) - (tag + 1)) = omega arith in rw e
 
 -- ---- in the start tag of row `top`: the attribute names of the rows after it
 record TagAt (body t : List ℕ) (top k : ℕ) (names : List Name) : Type 0 where
@@ -175,72 +173,57 @@ module _ (body t starts : List ℕ) (d k : ℕ) (v : List ℕ) (names : List Nam
   tag_after (of_matter w) z m f a x = false_true (sym w.outside ∙ f (rw (w.loose.start, w.loose.tag_end) at x))
   tag_after (of_error w) z m f a x = absurd (z refl)
 
--- ---- the walk; of its fields `search` reads those that are `pub`
-pub record WalkAt (body t : List ℕ) (n : ℕ) (starts : List ℕ) (depth k low high : ℕ) : Type 0 where
-  pub count : n ≡ length t / 8
-  pub within : k ≤ n
+-- ---- the walk
+pub record WalkAt (body t : List ℕ) (starts : List ℕ) (depth k : ℕ) : Type 0 where
+  pub within : k ≤ length t / 8
   place : Place
-  each : EachRow body place (rows_from t k (n - k))
+  each : EachRow body place (rows_from t k (length t / 8 - k))
   deep : place.nesting ≡ depth
-  pub limit : depth ≤ 256
-  size : length starts ≡ 256
   rows_in : (i : ℕ) → i < depth → get_or starts i 0 < k
   names : List Name
   tagged : place.in_tag ≡ true → TagAt body t (top_of starts depth) k names
-  rest : walk k (going (stack_of body t starts depth) names) (toks_of body (rows_from t k (n - k)))
+  rest : walk k (going (stack_of body t starts depth) names) (toks_of body (rows_from t k (length t / 8 - k)))
       ≡ walk 0 (going [] []) (toks_of body (rows_of t))
-  pub clear : Clear body ampersand low high
 
-pub walk_start : {body t : List ℕ} (starts : List ℕ) → Walkable body t → length starts ≡ 256 → WalkAt body t (length t / 8) starts 0 0 0 0
-walk_start {body} {t} starts w s =
-    let n = length t / 8 in
-    let e : rows_of t ≡ rows_from t 0 n = rows_same n t (rows_whole t w.whole) in
-    let z : n - 0 ≡ n = omega arith in
+pub walk_start : {body t : List ℕ} {final : ℕ} (starts : List ℕ) → Obeys body t final → WalkAt body t starts 0 0
+walk_start {body} {t} starts o =
+    let z : length t / 8 - 0 ≡ length t / 8 = omega arith in
     record {
-      count = refl;
       within = omega arith;
       place = at_first;
-      each = rw (z, ← e) w.each;
+      each = rw z (each_row o);
       deep = refl;
-      limit = omega arith;
-      size = s;
       rows_in = λ i l. absurd (omega arith);
       names = [];
       tagged = λ q. false_true q;
-      rest = rw (z, ← e);
-      clear = plain_none body;
+      rest = rw (z, all_rows o);
     }
 
-module _ {body t : List ℕ} {n : ℕ} {starts : List ℕ} {depth k low high : ℕ} (w : WalkAt body t n starts depth k low high) (h : k < n) where
+module _ {body t : List ℕ} {starts : List ℕ} {depth k : ℕ} (w : WalkAt body t starts depth k) (h : k < length t / 8) where
   pub row_in : InTable t k
-  row_in = record { row = omega (arith, w.count) }
+  row_in = record { row = omega arith }
 
-  here : RowRules body w.place (row_at t k) (rows_from t (k + 1) (n - (k + 1)))
-  here = (first (rw (unroll t k n h) at w.each)).0
+  here : RowRules body w.place (row_at t k) (rows_from t (k + 1) (length t / 8 - (k + 1)))
+  here = (first (rw (unroll t k (length t / 8) h) at w.each)).0
 
-  after_here : EachRow body (after w.place (row_at t k)) (rows_from t (k + 1) (n - (k + 1)))
-  after_here = (first (rw (unroll t k n h) at w.each)).1
+  after_here : EachRow body (after w.place (row_at t k)) (rows_from t (k + 1) (length t / 8 - (k + 1)))
+  after_here = (first (rw (unroll t k (length t / 8) h) at w.each)).1
 
-  pub row_room : MayEnter t depth k
-  row_room = record { row = row_in; limit = w.limit; room = λ i. omega (arith, w.deep, here.open_limit i) }
-
-  room : get_or t (k * 8 + 0) 0 ≡ 1 → depth < length starts
-  room i = omega (arith, w.size, row_room.room i)
+  pub row_room : get_or t (k * 8 + 0) 0 ≡ 1 → depth < 256
+  row_room i = omega (arith, w.deep, here.open_limit i)
 
   top_in : InTable t (top_of starts depth)
   top_in = go depth w.rows_in
     where
       go : (d : ℕ) → ((i : ℕ) → i < d → get_or starts i 0 < k) → InTable t (top_of starts d)
-      go zero f = record { row = omega (arith, w.count) }
-      go (suc d) f = record { row = omega (arith, w.count, f d (omega arith)) }
+      go zero f = record { row = omega arith }
+      go (suc d) f = record { row = omega (arith, f d (omega arith)) }
 
   pub row_placed : WellPlaced t (top_of starts depth) k
   row_placed =
       record {
         row = row_in;
         start = top_in;
-        least = here.known_kind.0;
-        most = here.known_kind.1;
         in_tag = λ q. (w.tagged (in_tag_lem here (rw q))).before;
       }
 
@@ -249,136 +232,112 @@ module _ {body t : List ℕ} {n : ℕ} {starts : List ℕ} {depth k low high : �
 
   -- one step of the walk
   stepped : walk (k + 1) (step k (stack_of body t starts depth) w.names (tok_at body t k))
-      (toks_of body (rows_from t (k + 1) (n - (k + 1))))
+      (toks_of body (rows_from t (k + 1) (length t / 8 - (k + 1))))
       ≡ walk 0 (going [] []) (toks_of body (rows_of t))
   unfolding walk
   stepped =
       rw (add-one k)
       (sym
-      (ap (λ (l : List Row). walk k (going (stack_of body t starts depth) w.names) (toks_of body l)) (rw (add-one k) at (unroll t k n h)))
+      (ap (λ (l : List Row). walk k (going (stack_of body t starts depth) w.names) (toks_of body l))
+      (rw (add-one k) at (unroll t k (length t / 8) h)))
       ∙ w.rest)
 
-  module _ {r : Fault} (q : FaultIs body t (top_of starts depth) k r) where
+  module _ (size : length starts ≡ 256) {r : Fault} (q : FaultIs body t (top_of starts depth) k r) where
     turned : walk (k + 1)
         (told r k
         (going (stack_of body t (starts_after starts depth k (get_or t (k * 8 + 0) 0)) (open_count depth (get_or t (k * 8 + 0) 0)))
         (names_after w.names (tok_at body t k))))
-        (toks_of body (rows_from t (k + 1) (n - (k + 1))))
+        (toks_of body (rows_from t (k + 1) (length t / 8 - (k + 1))))
         ≡ walk 0 (going [] []) (toks_of body (rows_of t))
     turned =
         let x =
-        row_step body t starts depth k (value_at body t k) w.names kind_here room
+        row_step body t starts depth k (value_at body t k) w.names kind_here (λ i. rw size (row_room i))
         (λ i. (w.tagged (in_tag_lem here (rw i))).are)
         (λ i. omega (arith, w.deep, here.needs_open (rw i))) in
         rw (x, ← q.is) at stepped
 
-    pub walk_fault : {c : Cause} → r ≡ Fault.Is c → Drained.IllFormed k c ≡ walked (toks_of body (rows_of t))
+    pub walk_fault : {c : Cause} → r ≡ Err c → Err (DrainError.IllFormed k c) ≡ walked (toks_of body (rows_of t))
     unfolding walked
-    walk_fault {c} g = rw (← turned, g, walk_failed (k + 1) k c (toks_of body (rows_from t (k + 1) (n - (k + 1)))))
+    walk_fault {c} g = rw (← turned, g, walk_failed (k + 1) k c (toks_of body (rows_from t (k + 1) (length t / 8 - (k + 1)))))
 
     -- without a fault it goes on
-    module _ (g : r ≡ Fault.Nothing) where
+    module _ (g : r ≡ (Ok tt)) where
       no_error_lem : tok_at body t k ≡ bad → ⊥
       no_error_lem i =
-          let f : Fault.Is Cause.TokenError ≡ Fault.Nothing = sym (rw i at q.is) ∙ g in
+          let f : Err Cause.TokenError ≡ (Ok tt) = sym (rw i at q.is) ∙ g in
           let z : ◌≡◌ {A = ℕ} 0 1 = cc in absurd (omega arith)
 
-      pub walk_next : {d from to : ℕ} {new : List ℕ} → Clear body ampersand from to → Entered starts depth (get_or t (k * 8 + 0) 0) k new d
-          → WalkAt body t n new d (k + 1) from to
-      walk_next c o =
+      pub walk_next : {d : ℕ} {new : List ℕ} → Entered starts depth (get_or t (k * 8 + 0) 0) k new d → WalkAt body t new d (k + 1)
+      walk_next o =
           rw (o.rows, o.count)
           (record {
-            count = w.count;
             within = omega arith;
             place = after w.place (row_at t k);
             each = after_here;
             deep = rw w.deep;
-            limit = count_within depth (get_or t (k * 8 + 0) 0) 256 w.limit row_room.room;
-            size = pick_all (λ l. length l ≡ 256) (eqb (get_or t (k * 8 + 0) 0) 1) (set starts depth k) starts
-                (length-set starts depth k ∙ w.size) w.size;
-            rows_in = starts_in starts depth k (get_or t (k * 8 + 0) 0) room w.rows_in;
+            rows_in = starts_in starts depth k (get_or t (k * 8 + 0) 0) (λ i. rw size (row_room i)) w.rows_in;
             names = names_after w.names (tok_at body t k);
             tagged =
-                tag_after body t starts depth k (value_at body t k) w.names kind_here no_error_lem room
+                tag_after body t starts depth k (value_at body t k) w.names kind_here no_error_lem (λ i. rw size (row_room i))
                 here.tag_order.inside w.tagged;
             rest = rw g at turned;
-            clear = c;
           })
 
 -- ---- the start rows after a row
-pub enter_room : {t : List ℕ} {depth k kind : ℕ} → MayEnter t depth k → kind ≡ get_or t (k * 8 + 0) 0 → kind ≡ 1 → depth < 256
-enter_room r e q = r.room (sym e ∙ q)
+module _ (starts : List ℕ) (depth k : ℕ) where
+  pub enter_start : Entered starts depth 1 k (set starts depth k) (depth + 1)
+  enter_start = record { rows = refl; count = add-one depth }
 
-module _ (starts : List ℕ) (depth k : ℕ) {kind : ℕ} where
-  pub enter_start : (i : ℕ) → kind ≡ i → kind ≡ 1 → Entered starts depth i k (set starts depth k) (depth + 1)
-  enter_start i e q = rw (← e, q) (record { rows = refl; count = add-one depth })
+  pub enter_close : Entered starts depth 4 k starts (depth - 1)
+  enter_close = record { rows = refl; count = refl }
 
-  pub enter_other : {r : ℕ} (i : ℕ) → kind ≡ i → (kind ≡ 1 → ⊥) → r ≡ open_count depth kind → Entered starts depth i k starts r
-  enter_other i e f o = rw (← e) (record { rows = rw (ne_eqb kind 1 f); count = o })
-
-pub ruleset enter_laws = (rules, enter_room, enter_start, enter_other)
+  pub enter_slash : Entered starts depth 5 k starts (depth - 1)
+  enter_slash = record { rows = refl; count = refl }
 
 -- ---- the end of the rows
 pub length_toks : (body : List ℕ) (l : List Row) → length (toks_of body l) ≡ length l
 length_toks body [] = refl
 length_toks body (r ∷ l) = ap suc (length_toks body l)
 
-module _ {body t : List ℕ} {n : ℕ} {starts : List ℕ} {depth k low high : ℕ} (q : Walkable body t)
-    (w : WalkAt body t n starts depth k low high)
-    (h : n ≤ k) where
+module _ {body t : List ℕ} {final : ℕ} {starts : List ℕ} {depth k : ℕ} (o : Obeys body t final)
+    (w : WalkAt body t starts depth k)
+    (h : length t / 8 ≤ k) where
   ended : walk 0 (going [] []) (toks_of body (rows_of t)) ≡ going (stack_of body t starts depth) w.names
   unfolding walk
-  ended = sym (rw (rolled_out t k n h) at w.rest)
+  ended = sym (rw (rolled_out t k (length t / 8) h) at w.rest)
 
-  pub walk_passes : depth ≡ 0 → Drained.Passes ≡ walked (toks_of body (rows_of t))
+  pub walk_passes : depth ≡ 0 → Ok tt ≡ walked (toks_of body (rows_of t))
   unfolding walked
   walk_passes e = rw (ended, e)
 
-  rows_are : length (toks_of body (rows_of t)) ≡ n
-  rows_are = length_toks body (rows_of t) ∙ rw (rows_same (length t / 8) t (rows_whole t q.whole), length_rows) (sym w.count)
+  rows_are : length (toks_of body (rows_of t)) ≡ length t / 8
+  rows_are = length_toks body (rows_of t) ∙ rw (all_rows o, length_rows)
 
-  pub walk_unclosed : (depth ≡ 0 → ⊥) → Drained.IllFormed n Cause.UnclosedElement ≡ walked (toks_of body (rows_of t))
+  pub walk_unclosed : (depth ≡ 0 → ⊥) → Err (DrainError.IllFormed (length t / 8) Cause.UnclosedElement) ≡ walked (toks_of body (rows_of t))
   unfolding walked
   walk_unclosed e = rw (ended, rows_are) (go depth e)
     where
-      go : (d : ℕ) → (d ≡ 0 → ⊥) → Drained.IllFormed n Cause.UnclosedElement ≡ verdict n (going (stack_of body t starts d) w.names)
+      go : (d : ℕ) → (d ≡ 0 → ⊥)
+          → Err (DrainError.IllFormed (length t / 8) Cause.UnclosedElement) ≡ verdict (length t / 8)
+          (going (stack_of body t starts d) w.names)
       go zero e = absurd (e refl)
       go (suc d) e = refl
 
-pub ruleset walk_laws = (
-  rules,
-  walk_start,
-  row_in,
-  row_placed,
-  row_room,
-  walk_fault,
-  walk_next,
-  walk_passes,
-  walk_unclosed,
-)
-
--- ---- a table that obeys the rules can be walked
-pub walkable : {body t : List ℕ} {final : ℕ} → TableRules body t final → Walkable body t
-walkable {body} {t} r = record { whole = r.whole; each = r.rules.each; readable = record { each = λ k h. spans_in r k (omega arith) } }
-
-module _ (body t : List ℕ) (final : ℕ) {u : Bool} (e : u ≡ is_yes (dec_table body t final)) where
-  pub drain_walk : u ≡ true → Walkable body t
-  drain_walk h = walkable (obeyed body t final e h)
-
-  pub drain_walked : {r : Drained} → u ≡ true → r ≡ walked (toks_of body (rows_of t)) → r ≡ drained body t final
+-- ---- the drain
+module _ (body t : List ℕ) (final : ℕ) where
+  pub drain_walked : Obeys body t final → {r : Result (Unit {0}) DrainError} → r ≡ walked (toks_of body (rows_of t))
+      → r ≡ drained body t final
   unfolding drained
-  drain_walked {r} h q = go (dec_table body t final) (sym e ∙ h)
+  drain_walked o {r} q = go (dec_table body t final) o.is
     where
       go : (d : Dec (TableRules body t final)) → is_yes d ≡ true → r ≡ drained_by d (toks_of body (rows_of t))
       go (yes x) p = q
       go (no x) p = false_true p
 
-  pub drain_table : u ≡ false → Drained.Table ≡ drained body t final
+  pub drain_table : is_yes (dec_table body t final) ≡ false → Err DrainError.Table ≡ drained body t final
   unfolding drained
-  drain_table h = go (dec_table body t final) (sym e ∙ h)
+  drain_table h = go (dec_table body t final) h
     where
-      go : (d : Dec (TableRules body t final)) → is_yes d ≡ false → Drained.Table ≡ drained_by d (toks_of body (rows_of t))
+      go : (d : Dec (TableRules body t final)) → is_yes d ≡ false → Err DrainError.Table ≡ drained_by d (toks_of body (rows_of t))
       go (yes x) p = false_true (sym p)
       go (no x) p = refl
-
-pub ruleset drain_laws = (rules, drain_walk, drain_walked, drain_table)

@@ -1,6 +1,4 @@
-pub mod Rows
+pub mod Place
 pub mod Drain
-pub mod Reader
 pub mod View
-pub mod Piece
-pub mod Text
+pub mod Element

@@ -1,34 +1,32 @@
--- The view by number: how many rows are seen, and what is met where they run out.
-use Rattle.std.specs.Prelude.{ℕ, ◌/◌, ◌≤◌, ◌≡◌, false, List, length}
-use Rattle.std.proofs.Math.Option.{Option, none, some}
+-- What a view stands for.
+use Rattle.std.specs.Prelude.{◌≡◌, Option, Some, None}
+use Rattle.std.proofs.Math.Option as math
 use Rattle.refusal.specs.declared.Refusal.{Refusal}
+use Rattle.table.specs.Row.{rows_of}
 use Rattle.table.specs.Flat.{rows_from}
+use Rattle.table.specs.declared.rows.ValidTable.{ValidTable}
 use Rattle.document.specs.View as doc
-use Rattle.decode.specs.declared.view.Failure.{Failure}
 use Rattle.decode.specs.declared.view.View.{View}
-use Rattle.decode.specs.Reader.{Sees, Outside}
 
--- ---- what a view of numbers stands for
-abbrev pub failure_at : Failure → Option Refusal
-failure_at Failure.Nothing = none
-failure_at (Failure.Is r) = some r
+abbrev pub failure_at : Option Refusal → math.Option Refusal
+failure_at None = math.none
+failure_at (Some r) = math.some r
 
-abbrev pub view_at : List ℕ → View → doc.View
-view_at t v = record { rows = rows_from t 0 v.count; failure = failure_at v.failure; ill_formed = v.ill_formed; ends = v.ends }
+-- the rows that are seen, and what is met where they run out
+abbrev pub view_of : View → doc.View
+view_of v =
+    record {
+      rows = rows_from v.table.rows.now 0 v.count;
+      failure = failure_at v.failure;
+      ill_formed = v.ill_formed;
+      ends = v.ends;
+    }
 
--- all rows, up to the final position
-abbrev pub whole_at : List ℕ → ℕ → View
-whole_at t final = record { count = length t / 8; failure = Failure.Nothing; ill_formed = false; ends = final }
+-- all rows of a table, up to its final position
+abbrev pub whole_of : ValidTable → doc.View
+whole_of t = doc.whole (rows_of t.rows.now) t.end
 
--- ---- what is known of a view: its rows can be seen, and its numbers are small
-pub record Viewed (body t : List ℕ) (v : View) : Type 0 where
-  pub sees : Sees body t v.count
-  pub ends : v.ends ≤ length body
-  pub small : length body ≤ 65536
-  pub few : v.count ≤ 8192
-
--- ---- what the views promise: the definition's answer, with what is known of it and of a reader at its first row
-pub record ViewIs (body t : List ℕ) (v : View) (is : doc.View) : Type 0 where
-  pub same : view_at t v ≡ is
-  pub viewed : Viewed body t v
-  pub fresh : Outside body t v.count 0 0
+-- what is answered: the definition's view, of this table
+pub record ViewIs (t : ValidTable) (is : doc.View) (v : View) : Type 0 where
+  pub same : view_of v ≡ is
+  pub table : v.table ≡ t

@@ -1,249 +1,222 @@
 // The strict drain: one walk over the rows, with the open elements by the rows in which they start.
-ghost use Rattle.std.specs.Prelude.{◌+◌, ◌*◌, ◌<◌, ◌≤◌, ◌≡◌, get_or};
-ghost use Rattle.decode.specs.Rows.{InTable, Readable, name_at, value_at};
-ghost use Rattle.decode.specs.Drain.{Entered, FaultIs, MayEnter, LiesIn, WellPlaced};
-ghost use Rattle.decode.specs.Drain.{Walkable, failing_in, fault_if, names_back, top_of, value_passes};
+ghost use Rattle.std.specs.Prelude.{◌≡◌, ◌≤◌, ◌<◌, length};
 ghost use Rattle.lists.specs.Characters.{ampersand};
 ghost use Rattle.lists.specs.Find.{Clear};
+ghost use Rattle.reference.specs.Text.{validated};
 ghost use Rattle.table.specs.Row.{rows_of, toks_of};
+ghost use Rattle.table.specs.Rows.{InTable, name_at, value_at};
 ghost use Rattle.xml.specs.Drain.{cause_place, drained, has_name, reference_place, walked};
+ghost use Rattle.decode.specs.Drain.{Entered, FaultIs, LiesIn, WellPlaced, failing_in, names_back, top_of, value_fault};
+ghost use Rattle.table.specs.Kinds.{kind_number};
 
-use crate::name::{same_name, span};
-use reference::Validated;
-use table::kind::{ATTRIBUTE, CLOSE, ERROR, START, TEXT};
-use table::number::{KIND, VALUE, VALUE_LEN};
-use table::{field, open_after};
-use xml::{Cause, Drained};
+use table::{Kind, Table, ValidTable};
+use xml::{Cause, DrainError};
 
-// What is wrong with a row, if anything is.
+// A part of a body where no `&` stands.
 #[derive(Clone, Copy)]
-pub enum Fault {
-    Nothing,
-    Is(Cause),
+struct Plain<'a> {
+    body: &'a [u8],
+    from: usize,
+    to: usize,
+    ghost clear: { Clear body.now ampersand from to },
 }
 
-// Whether a row between a start row and row k has the name of row k: a look back over the attributes of one start tag.
-fn is_repeated(body: &[u8], rows: &[u32], tag: usize, k: usize) -> bool
-    requires readable { Readable body.now rows.now }
-    requires in_table { InTable rows.now k × (tag < k) }
-    ensures { result ≡ has_name (name_at body.now rows.now k)
-        (names_back body.now rows.now tag k) }
+impl<'a> Plain<'a> {
+    // The part to look at for a value that begins in a place: the one at hand, or, if the value begins after it, the bytes from there up
+    // to the next `&`.
+    fn at(self, from: usize) -> Self
+        requires { from ≤ length self.body.now }
+        ensures { result.body.now ≡ self.entry.body.now }
+    {
+        if self.to < from {
+            let to = slices::find(self.body, from, b'&');
+            Plain {
+                body: self.body,
+                from,
+                to,
+            }
+        } else {
+            self
+        }
+    }
+
+    // Whether a value, by its start and length, lies in it.
+    fn holds(self, from: usize, len: usize) -> bool
+        ensures { LiesIn from len self.entry.from self.entry.to result }
+    {
+        self.from <= from && from <= self.to && len <= self.to - from
+    }
+}
+
+// The start rows of the open elements, the innermost last.
+#[derive(Drop)]
+struct Open {
+    rows: [usize; 256],
+    depth: usize,
+    ghost size: { length rows ≡ 256 },
+    ghost most: { depth ≤ 256 },
+}
+
+impl Open {
+    // That of the innermost, or row 0.
+    fn top(&self) -> usize
+        ensures { result ≡ top_of self.now.rows self.now.depth }
+    {
+        if self.depth == 0 {
+            0
+        } else {
+            self.rows[self.depth - 1]
+        }
+    }
+
+    // After row k, of a kind: where it starts an element, that is put among them; a close tag and `/>` take one off.
+    fn enter(&mut self, kind: Kind, k: usize)
+        requires { kind_number kind ≡ 1 → self.old.depth < 256 }
+        ensures { Entered self.old.rows self.old.depth (kind_number kind) k self.new.rows self.new.depth }
+    {
+        match kind {
+            Kind::Start => {
+                self.rows[self.depth] = k;
+                self.depth += 1;
+            }
+            Kind::Close | Kind::Slash => {
+                self.depth = self.depth.saturating_sub(1);
+            }
+            _ => {}
+        }
+    }
+}
+
+// Whether a row between a start row and row k has the name of row k: a look over the attributes of one start tag.
+fn is_repeated(table: ValidTable, tag: usize, k: usize) -> bool
+    requires in_table { InTable table.rows.now k }
+    requires in_tag { tag < k }
+    ensures { result ≡ has_name (name_at table.entry.body.now table.entry.rows.now k)
+        (names_back table.entry.body.now table.entry.rows.now tag k) }
 {
-    let mut j = k;
-    while tag + 1 < j {
-        j -= 1;
-        if same_name(body, rows, k, j) {
+    for j in tag + 1..k {
+        if table.same_name(k, j) {
             return true;
         }
     }
     false
 }
 
-// A part of the body where no `&` stands.
-#[derive(Clone, Copy)]
-struct Plain {
-    from: usize,
-    to: usize,
+// Whether each reference in the value of row k is right: one in a part without `&` has none.
+fn check_references(table: ValidTable, k: usize, plain: Plain) -> Result<(), Cause>
+    requires in_table { InTable table.rows.now k }
+    requires of_body { plain.body.now ≡ table.body.now }
+    ensures { result ≡ value_fault (value_at table.entry.body.now table.entry.rows.now k) }
+{
+    let value = table.value(k);
+    if plain.holds(table.value_start(k), value.len()) {
+        return Ok(());
+    }
+    unescape::validate_references(value).map_err(|_| Cause::BadReference)
 }
 
-// The part to look at for the value of row k: the one at hand, or, if the value begins after it, the bytes from there up to the next `&`.
-fn plain_for(body: &[u8], rows: &[u32], k: usize, plain: Plain) -> Plain
-    requires readable { Readable body.now rows.now }
-    requires in_table { InTable rows.now k }
-    requires clear { Clear body.now ampersand plain.from plain.to }
-    ensures { Clear body.now ampersand result.from result.to }
+// What is wrong with row k, if anything is, where the innermost open element starts in row `top`: an attribute stands in that one's start
+// tag.
+fn row_fault(table: ValidTable, top: usize, k: usize, plain: Plain) -> Result<(), Cause>
+    requires placed { WellPlaced table.rows.now top k }
+    requires of_body { plain.body.now ≡ table.body.now }
+    ensures { FaultIs table.entry.body.now table.entry.rows.now top k result }
 {
-    let from = field(rows, k, VALUE);
-    if plain.to < from {
-        let to = slices::find(body, from, b'&');
-        return Plain { from, to };
-    }
-    plain
-}
-
-// Whether the value of row k lies in a part.
-fn lies_in(rows: &[u32], k: usize, plain: Plain) -> bool
-    requires { InTable rows.now k }
-    ensures { LiesIn rows.now k plain.from plain.to result }
-{
-    let from = field(rows, k, VALUE);
-    if from < plain.from {
-        return false;
-    }
-    if plain.to < from {
-        return false;
-    }
-    if plain.to - from < field(rows, k, VALUE_LEN) {
-        return false;
-    }
-    true
-}
-
-// Whether each reference in the value of row k is right.
-fn references_pass(body: &[u8], rows: &[u32], k: usize) -> bool
-    requires readable { Readable body.now rows.now }
-    requires in_table { InTable rows.now k }
-    ensures { result ≡ value_passes (value_at body.now rows.now k) }
-{
-    match unescape::validate_references(span(body, rows, k, VALUE)) {
-        Validated::Valid => true,
-        Validated::BadReference { at: _ } => false,
-    }
-}
-
-// What is wrong with a value that passes or does not.
-fn value_fault(passes: bool) -> Fault
-    ensures { result ≡ fault_if passes }
-{
-    if passes {
-        return Fault::Nothing;
-    }
-    Fault::Is(Cause::BadReference)
-}
-
-// The start row of the innermost open element, or row 0.
-fn top_of(starts: &[usize; 256], depth: usize) -> usize
-    requires { depth ≤ 256 }
-    ensures { result ≡ top_of starts.now depth }
-{
-    if depth == 0 {
-        return 0;
-    }
-    starts[depth - 1]
-}
-
-// What is wrong with row k, where so many elements are open, by their start rows: an attribute stands in the start tag of the innermost.
-fn row_fault(
-    body: &[u8],
-    rows: &[u32],
-    k: usize,
-    starts: &[usize; 256],
-    depth: usize,
-    plain: Plain,
-) -> Fault
-    requires readable { Readable body.now rows.now }
-    requires depth_bound { (depth ≤ 256) × WellPlaced rows.now (top_of starts.now depth) k }
-    requires clear { Clear body.now ampersand plain.from plain.to }
-    ensures { FaultIs body.now rows.now (top_of starts.now depth) k result }
-{
-    let top = top_of(starts, depth);
-    let kind = field(rows, k, KIND);
-    if kind == ATTRIBUTE {
-        if is_repeated(body, rows, top, k) {
-            return Fault::Is(Cause::RepeatedAttribute);
+    match table.kind(k) {
+        Kind::Attribute => {
+            if is_repeated(table, top, k) {
+                Err(Cause::RepeatedAttribute)
+            } else {
+                check_references(table, k, plain)
+            }
         }
-        if lies_in(rows, k, plain) {
-            return Fault::Nothing;
+        Kind::Text => check_references(table, k, plain),
+        Kind::Close => {
+            if table.same_name(k, top) {
+                Ok(())
+            } else {
+                Err(Cause::MismatchedEnd)
+            }
         }
-        return value_fault(references_pass(body, rows, k));
+        Kind::Error => Err(Cause::TokenError),
+        _ => Ok(()),
     }
-    if kind == CLOSE {
-        if same_name(body, rows, k, top) {
-            return Fault::Nothing;
-        }
-        return Fault::Is(Cause::MismatchedEnd);
-    }
-    if kind == TEXT {
-        if lies_in(rows, k, plain) {
-            return Fault::Nothing;
-        }
-        return value_fault(references_pass(body, rows, k));
-    }
-    if kind == ERROR {
-        return Fault::Is(Cause::TokenError);
-    }
-    Fault::Nothing
-}
-
-// How many elements are open after row k; where it starts one, it is put among their start rows.
-fn enter(rows: &[u32], k: usize, starts: &mut [usize; 256], depth: usize) -> usize
-    requires { MayEnter rows.now depth k }
-    ensures { Entered starts.old depth (get_or rows.now (k * 8 + 0) 0) k starts.new result }
-{
-    let kind = field(rows, k, KIND);
-    if kind == START {
-        starts[depth] = k;
-        return depth + 1;
-    }
-    open_after(kind, depth)
 }
 
 // The walk of the drain, over the rows of a table that obeys the rules.
-pub fn walk(body: &[u8], rows: &[u32]) -> Drained
-    requires { Walkable body.now rows.now }
-    ensures { result ≡ walked (toks_of body.now (rows_of rows.now)) }
+pub fn walk(table: ValidTable) -> Result<(), DrainError>
+    ensures { result ≡ walked (toks_of table.entry.body.now (rows_of table.entry.rows.now)) }
 {
-    let n = rows.len() / 8;
-    let mut starts = [0usize; 256];
-    let mut depth = 0;
-    let mut k = 0;
-    let mut plain = Plain { from: 0, to: 0 };
-    while k < n {
-        plain = plain_for(body, rows, k, plain);
-        match row_fault(body, rows, k, &starts, depth, plain) {
-            Fault::Is(cause) => {
-                return Drained::IllFormed { row: k, cause };
-            }
-            Fault::Nothing => {
-                depth = enter(rows, k, &mut starts, depth);
-                k += 1;
-            }
+    let n = table.len();
+    let mut open = Open {
+        rows: [0; 256],
+        depth: 0,
+    };
+    let mut plain = Plain {
+        body: table.body,
+        from: 0,
+        to: 0,
+    };
+    for k in 0..n {
+        plain = plain.at(table.value_start(k));
+        if let Err(cause) = row_fault(table, open.top(), k, plain) {
+            return Err(DrainError::IllFormed { row: k, cause });
         }
+        open.enter(table.kind(k), k);
     }
-    if depth == 0 {
-        return Drained::Passes;
-    }
-    Drained::IllFormed {
-        row: n,
-        cause: Cause::UnclosedElement,
+    if open.depth == 0 {
+        Ok(())
+    } else {
+        Err(DrainError::IllFormed {
+            row: n,
+            cause: Cause::UnclosedElement,
+        })
     }
 }
 
 // The strict drain: whether a table obeys the rules and its tokens are well-formed, or the first row that is not, and why.
-pub fn drain(body: &[u8], rows: &[u32], end: u32) -> Drained
-    ensures { result ≡ drained body.now rows.now end }
+pub fn drain(table: Table) -> Result<(), DrainError>
+    ensures { result ≡ drained table.entry.body.now table.entry.rows.now table.entry.end }
 {
-    if table::obeys(body, rows, end) {
-        return walk(body, rows);
+    match table.check() {
+        Some(valid) => walk(valid),
+        None => Err(DrainError::Table),
     }
-    Drained::Table
 }
 
 // Where validating the value of row k fails, as an offset in the body: the start of the value where it is valid.
-fn value_place(body: &[u8], rows: &[u32], k: usize) -> usize
-    requires readable { Readable body.now rows.now }
-    requires in_table { InTable rows.now k }
-    ensures { result ≡ failing_in body.now rows.now k }
+fn value_place(table: ValidTable, k: usize) -> usize
+    requires { InTable table.rows.now k }
+    ensures { result ≡ failing_in table.entry.body.now table.entry.rows.now k }
 {
-    let from = field(rows, k, VALUE);
-    match unescape::validate_references(span(body, rows, k, VALUE)) {
-        Validated::Valid => from,
-        Validated::BadReference { at } => from + at,
+    let from = table.value_start(k);
+    match unescape::validate_references(table.value(k)) {
+        Ok(()) => from,
+        Err(bad) => from + bad.at,
     }
 }
 
 // The place of the failing `&` in row k, or 0 where there is no such row.
-fn reference_place(body: &[u8], rows: &[u32], k: usize) -> usize
-    requires { Walkable body.now rows.now }
-    ensures { result ≡ reference_place body.now (rows_of rows.now) k }
+fn reference_place(table: ValidTable, k: usize) -> usize
+    ensures { result ≡ reference_place table.entry.body.now (rows_of table.entry.rows.now) k }
 {
-    if k < rows.len() / 8 {
-        return value_place(body, rows, k);
+    if k < table.len() {
+        value_place(table, k)
+    } else {
+        0
     }
-    0
 }
 
 // The place of a cause that the drain answers with row k, as an offset in the body: only a reference has one, that of the failing `&`.
 // The value is validated once more, so that the walk need not keep the place.
-pub fn cause_place(body: &[u8], rows: &[u32], k: usize, cause: Cause) -> usize
-    requires { Walkable body.now rows.now }
-    ensures { result ≡ cause_place body.now (rows_of rows.now) k cause }
+pub fn cause_place(table: ValidTable, k: usize, cause: Cause) -> usize
+    ensures { result ≡ cause_place table.entry.body.now (rows_of table.entry.rows.now) k cause }
 {
     match cause {
-        Cause::TokenError => 0,
-        Cause::MismatchedEnd => 0,
-        Cause::UnclosedElement => 0,
-        Cause::RepeatedAttribute => 0,
-        Cause::BadReference => reference_place(body, rows, k),
+        Cause::BadReference => reference_place(table, k),
+        Cause::TokenError
+        | Cause::MismatchedEnd
+        | Cause::UnclosedElement
+        | Cause::RepeatedAttribute => 0,
     }
 }

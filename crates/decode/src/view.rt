@@ -1,33 +1,25 @@
 // What a reading sees of a table: how many rows, and what is met where they run out.
-ghost use Rattle.std.specs.Prelude.{false, true, ◌≡◌};
-ghost use Rattle.table.specs.Row.{rows_of};
-ghost use Rattle.table.specs.Rules.{TableRules};
+ghost use Rattle.std.specs.Prelude.{◌≡◌, true, false, ◌*◌, ◌≤◌, length};
+ghost use Rattle.table.specs.Row.{rows_of, toks_of};
+ghost use Rattle.xml.specs.Drain.{walked};
 ghost use Rattle.document.specs.View.{failure_of, position_at, view};
-ghost use Rattle.decode.specs.Drain.{Walkable};
-ghost use Rattle.decode.specs.View.{ViewIs, whole_at};
 
 use crate::drain::{cause_place, walk};
 use refusal::Refusal;
-use table::field;
-use table::kind::ERROR;
-use table::number::{KIND, POSITION};
-use xml::{Cause, Drained};
+use table::{Kind, ValidTable};
+use xml::{Cause, DrainError};
 
-// What a reader meets where the rows of its view run out, if anything.
+// The view: the table, how many of its rows are seen, what is met where they run out, whether the reading is refused with 9 at its end,
+// and the stream position where the rows run out.
 #[derive(Clone, Copy)]
-pub enum Failure {
-    Nothing,
-    Is(Refusal),
-}
-
-// The view: how many rows are seen, what is met where they run out, whether the reading is refused with 9 at its end, and the stream
-// position where the rows run out.
-#[derive(Clone, Copy)]
-pub struct View {
+pub struct View<'a> {
+    pub table: ValidTable<'a>,
     pub count: usize,
-    pub failure: Failure,
+    pub failure: Option<Refusal>,
     pub ill_formed: bool,
     pub ends: usize,
+    pub ghost seen: { count * 8 ≤ length table.rows.now },
+    pub ghost within: { ends ≤ length table.body.now },
 }
 
 // What a text meets after a row that fails the drain; a reference has the place of the drain's cause.
@@ -36,87 +28,96 @@ fn failure_of(at: u16, cause: Cause) -> Refusal
 {
     match cause {
         Cause::TokenError => Refusal::TokenError,
-        Cause::MismatchedEnd => Refusal::IllFormed,
-        Cause::UnclosedElement => Refusal::IllFormed,
-        Cause::RepeatedAttribute => Refusal::IllFormed,
+        Cause::MismatchedEnd | Cause::UnclosedElement | Cause::RepeatedAttribute =>
+            Refusal::IllFormed,
         Cause::BadReference => Refusal::BadReference { at },
     }
 }
 
-// The position of row k, or the final one where there is no such row.
-fn position_at(body: &[u8], rows: &[u32], k: usize, end: usize) -> usize
-    requires { Walkable body.now rows.now }
-    ensures { result ≡ position_at end (rows_of rows.now) k }
-{
-    if k < rows.len() / 8 {
-        return field(rows, k, POSITION);
-    }
-    end
-}
+impl<'a> View<'a> {
+    ghost use Rattle.decode.specs.View.{ViewIs, view_of, whole_of};
 
-// All rows, where nothing stops the reader.
-fn whole_view(rows: &[u32], end: usize) -> View
-    ensures { result ≡ whole_at rows.now end }
-{
-    View {
-        count: rows.len() / 8,
-        failure: Failure::Nothing,
-        ill_formed: false,
-        ends: end,
-    }
-}
-
-// What a strict reading sees: the rows before the one that fails the drain.
-fn strict_view(body: &[u8], rows: &[u32], end: usize) -> View
-    requires { TableRules body.now rows.now end }
-    ensures { ViewIs body.now rows.now result (view true body.now (rows_of rows.now) end) }
-{
-    match walk(body, rows) {
-        Drained::IllFormed { row, cause } => {
-            let at = cause_place(body, rows, row, cause);
-            let failure = failure_of(at as u16, cause);
-            let ends = position_at(body, rows, row, end);
-            View {
-                count: row,
-                failure: Failure::Is(failure),
-                ill_formed: true,
-                ends,
-            }
-        }
-        Drained::Passes => whole_view(rows, end),
-        // A walk never answers this.
-        Drained::Table => whole_view(rows, end),
-    }
-}
-
-// What a lenient reading sees: all rows but a token error, which is the last.
-fn lenient_view(body: &[u8], rows: &[u32], end: usize) -> View
-    requires { TableRules body.now rows.now end }
-    ensures { ViewIs body.now rows.now result (view false body.now (rows_of rows.now) end) }
-{
-    let n = rows.len() / 8;
-    if n == 0 {
-        return whole_view(rows, end);
-    }
-    let last = n - 1;
-    if field(rows, last, KIND) == ERROR {
-        return View {
-            count: last,
-            failure: Failure::Is(Refusal::TokenError),
+    // All rows, where nothing stops the reader.
+    fn whole(table: ValidTable<'a>) -> Self
+        ensures { ViewIs table.entry (whole_of table.entry) result }
+    {
+        View {
+            table,
+            count: table.len(),
+            failure: None,
             ill_formed: false,
-            ends: end,
-        };
+            ends: table.end as usize,
+        }
     }
-    whole_view(rows, end)
+
+    // The rows before one that fails the drain.
+    fn before(table: ValidTable<'a>, row: usize, cause: Cause) -> Self
+        requires { Err (DrainError.IllFormed row cause) ≡ walked (toks_of table.body.now (rows_of table.rows.now)) }
+        ensures { ViewIs table.entry (view true table.entry.body.now (rows_of table.entry.rows.now) table.entry.end) result }
+    {
+        let at = cause_place(table, row, cause) as u16;
+        let failure = failure_of(at, cause);
+        let ends = position_at(table, row);
+        View {
+            table,
+            count: row,
+            failure: Some(failure),
+            ill_formed: true,
+            ends,
+        }
+    }
+
+    // What a strict reading sees: the rows before the one that fails the drain.
+    fn strict(table: ValidTable<'a>) -> Self
+        ensures { ViewIs table.entry (view true table.entry.body.now (rows_of table.entry.rows.now) table.entry.end) result }
+    {
+        match walk(table) {
+            Err(DrainError::IllFormed { row, cause }) => Self::before(table, row, cause),
+            // A walk never answers that the table breaks a rule.
+            Err(DrainError::Table) => Self::whole(table),
+            Ok(()) => Self::whole(table),
+        }
+    }
+
+    // What a lenient reading sees: all rows but a token error, which is the last.
+    fn lenient(table: ValidTable<'a>) -> Self
+        ensures { ViewIs table.entry (view false table.entry.body.now (rows_of table.entry.rows.now) table.entry.end) result }
+    {
+        let n = table.len();
+        if n == 0 {
+            return Self::whole(table);
+        }
+        if let Kind::Error = table.kind(n - 1) {
+            return View {
+                table,
+                count: n - 1,
+                failure: Some(Refusal::TokenError),
+                ill_formed: false,
+                ends: table.end as usize,
+            };
+        }
+        Self::whole(table)
+    }
+
+    // What a reading sees of a table.
+    pub fn new(strict: bool, table: ValidTable<'a>) -> Self
+        ensures { ViewIs table.entry (view strict table.entry.body.now (rows_of table.entry.rows.now) table.entry.end) result }
+    {
+        if strict {
+            Self::strict(table)
+        } else {
+            Self::lenient(table)
+        }
+    }
 }
 
-// What a reading sees of a table that obeys the rules.
-pub fn view_of(strict: bool, body: &[u8], rows: &[u32], end: usize) -> View
-    requires { TableRules body.now rows.now end }
-    ensures { ViewIs body.now rows.now result (view strict body.now (rows_of rows.now) end) }
+// The position of row k, or the final one where there is no such row.
+fn position_at(table: ValidTable, k: usize) -> usize
+    ensures { result ≡ position_at table.entry.end (rows_of table.entry.rows.now) k }
 {
-    if strict {
-        return strict_view(body, rows, end);
+    if k < table.len() {
+        table.position(k)
+    } else {
+        table.end as usize
     }
-    lenient_view(body, rows, end)
 }

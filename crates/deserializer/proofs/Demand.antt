@@ -4,10 +4,10 @@ use mathlib.Core.Path.{◌≡◌, refl, sym, subst}
 use mathlib.Core.List.{List, [], ◌∷◌, ◌++◌}
 use native.Mathlib.Omega.{arith}
 use lib.ListN.{length, drop}
+use Rattle.std.specs.Prelude.{Ok}
 use Rattle.lists.specs.Every.{Every}
 use Rattle.lists.proofs.Every.{every_first, every_rest}
 use Rattle.lists.specs.Overwrite.{overwritten}
-use Rattle.xml.specs.declared.Drained.{Drained}
 use Rattle.xml.specs.Drain.{drained}
 use Rattle.xml.proofs.Means.{drained_passes_is}
 use Rattle.readings.specs.Call.{Upload, Call}
@@ -16,8 +16,7 @@ use Rattle.readings.specs.Shape as readings
 use Rattle.readings.specs.Shape.{read}
 use Rattle.readings.specs.Demand.{Handed, Promised, finishes, refuses}
 use Rattle.readings.proofs.Demand.Theorem.{demand_3, promised_output}
-use Rattle.output.specs.Held.{room_of}
-use Rattle.output.specs.Call.{ReadingCall}
+use Rattle.output.specs.Call.{room_of, ReadingCall}
 use Rattle.deserializer.specs.declared.Shape.{Shape}
 use Rattle.deserializer.specs.Call.{ShapeCall, SheetCall}
 use Rattle.deserializer.specs.Demand.{MayAnswer, finished, refused, PieceEntry, defined_as, Demanded}
@@ -74,7 +73,7 @@ module _ {u : Upload} {call : Call} {e t e' t' : List ℕ} {n m r : ℕ} where
       entries : List Entry
       entries = (output (read (defined_as shape) u call (room_of e t))).entries
 
-      holds : drained u.body u.rows u.end ≡ Drained.Passes
+      holds : drained u.body u.rows u.end ≡ Ok tt
           → Promised u call (room_of e t) (defined_as shape) (read (defined_as shape) u call (room_of e t))
       holds p = demand_3 u ((drained_passes_is u.body u.rows u.end).0 p) (defined_as shape) call (room_of e t)
 

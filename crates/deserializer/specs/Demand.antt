@@ -1,9 +1,8 @@
 -- Demand 3 of a call: what is promised of it where the drain passes the body and the table that were lent, down to the numbers in the
 -- entries' buffer.
-use Rattle.std.specs.Prelude.{ℕ, ◌+◌, ◌*◌, ◌<◌, ◌≡◌, List, get_or}
+use Rattle.std.specs.Prelude.{ℕ, ◌+◌, ◌*◌, ◌<◌, ◌≡◌, List, Ok, get_or}
 use Rattle.refusal.specs.declared.Refusal.{Refusal}
 use Rattle.refusal.specs.Numbers.{number}
-use Rattle.xml.specs.declared.Drained.{Drained}
 use Rattle.xml.specs.Drain.{drained}
 use Rattle.xml.specs.Piece.{ElementPiece}
 use Rattle.readings.specs.Call.{Upload, Call}
@@ -11,7 +10,7 @@ use Rattle.readings.specs.Output.{piece_kind, Room, Output}
 use Rattle.readings.specs.Shape as readings
 use Rattle.readings.specs.Shape.{read}
 use Rattle.readings.specs.Demand.{MayRefuse, Promised}
-use Rattle.output.specs.Held.{room_of}
+use Rattle.output.specs.Call.{room_of}
 use Rattle.deserializer.specs.declared.Shape.{Shape}
 
 -- "Each piece it hands out .. is exactly its element's bytes .. and that element's rows .. pass the drain again": the entry whose numbers
@@ -44,4 +43,4 @@ pub record Kept (shape : Shape) (u : Upload) (call : Call) (e t e' : List ℕ) (
   pub promised : Promised u call (room_of e t) (defined_as shape) (read (defined_as shape) u call (room_of e t))
 
 pub record Demanded (shape : Shape) (u : Upload) (call : Call) (e t e' : List ℕ) (n r : ℕ) : Type 0 where
-  pub kept : drained u.body u.rows u.end ≡ Drained.Passes → Kept shape u call e t e' n r
+  pub kept : drained u.body u.rows u.end ≡ Ok tt → Kept shape u call e t e' n r

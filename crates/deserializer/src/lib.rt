@@ -1,27 +1,34 @@
 // The port of src/codec/deserializer.rs: the readings by a sheet, from what is asked first to 9 at the end. What each answers is defined in
-// `readings`.
+// `readings`; the crate rests on `opening` for what is asked first, and on `structure`, `list` and `map` for what is read of a root.
 #![tactic(auto)]
 
-ghost use Rattle.codec.specs.Settings.{settings_of};
-ghost use Rattle.deserializer.specs.Call.{EnteredRead, SetBy, Tells, EnteredCall, ToldCall, SheetCall, SheetPlace, settings_by};
-ghost use Rattle.deserializer.specs.Call.{shape_depth, shape_of};
-ghost use Rattle.deserializer.specs.Demand.{Demanded};
-ghost use Rattle.readings.specs.Call.{uploaded, calling};
+ghost use Rattle.std.specs.Prelude.{◌≡◌, ◌/◌, ◌%◌, ◌<◌, eqb, not};
+ghost use Rattle.sheet.specs.Settings.{too_deep};
+ghost use Rattle.readings.specs.Call.{calling};
+ghost use Rattle.readings.specs.Shape.{plan_of};
+ghost use Rattle.output.specs.Call.{number_of, place_of};
+ghost use Rattle.output.specs.Held.{Does};
+ghost use Rattle.opening.specs.Opening.{upload_of};
+ghost use Rattle.deserializer.specs.Call.{SheetCall, SheetPlace, settings_by};
+ghost use Rattle.deserializer.specs.Demand.{Demanded, defined_as};
 
+use codec::collection::{ListSheet, MapSheet};
 use codec::guard::Guard;
-use codec::settings::Settings;
-use opening::Opening;
-use output::{Step, Written};
-use sheet::ShapeDepth;
+use codec::structure::StructureSheet;
+use list::items::{read_list, read_string_list};
+use map::read_map;
+use output::Output;
+use refusal::Refusal;
+use sheet::{Settings, ShapeDepth};
+use structure::read_struct;
+use table::rows::Table;
 
-// What is read by a sheet, as a number.
-pub const STRUCT: u32 = 1;
+// The flags that a caller gives as one number.
+const VALIDATE_DOCUMENT: u32 = 1;
 
-pub const LIST: u32 = 2;
+const VALIDATE_ROOT_NAME: u32 = 2;
 
-pub const MAP: u32 = 3;
-
-pub const STRING_LIST: u32 = 4;
+const STRICT_COLLECTION_ELEMENT_NAMES: u32 = 4;
 
 // What is read by a sheet.
 #[derive(Clone, Copy)]
@@ -32,288 +39,117 @@ pub enum Shape {
     StringList,
 }
 
-// The structure reading, where the depth guard was entered or not.
-fn read_struct(
-    body: &[u8],
-    rows: &[u32],
-    end: u32,
-    sheet: &[u8],
-    settings: Settings,
-    depth: ShapeDepth,
-    entered: bool,
-    entries: &mut [u32],
-    texts: &mut [u8],
-) -> Step
-    ensures { EnteredRead Shape.Struct (uploaded body.now rows.now end)
-        (calling sheet.now (settings_of settings) depth) entered
-        entries.old texts.old entries.new texts.new result }
-{
-    let parsed = codec::structure::parse_structure(sheet);
-    let strict = codec::settings::is_strict(settings, depth);
-    match opening::ask(body, rows, end, parsed.ok, !entered, strict) {
-        Opening::Refused(why) => Step::Refused(why, Written { count: 0, used: 0 }),
-        Opening::Found(view, root, at) => {
-            let tests = codec::settings::tests_root_name(settings, depth);
-            structure::structure::structure_at(
-                body, rows, view, root, at, sheet, parsed, tests, entries, texts,
-            )
+// What came of a reading: how many entries and how many text bytes are written, and whether it finished.
+#[derive(Clone, Copy)]
+pub struct Reading {
+    pub count: usize,
+    pub length: usize,
+    pub outcome: Result<(), Refusal>,
+}
+
+impl Reading {
+    // Its number: 0 where it finished.
+    pub fn number(self) -> u32
+        ensures { result ≡ number_of self.outcome }
+    {
+        match self.outcome {
+            Ok(()) => 0,
+            Err(why) => why.number(),
+        }
+    }
+
+    // The place beside it: that of the failing `&` where the number is 7, else 0.
+    pub fn place(self) -> usize
+        ensures { result ≡ place_of self.outcome }
+    {
+        match self.outcome {
+            Ok(()) => 0,
+            Err(why) => why.place() as usize,
         }
     }
 }
 
-// The list reading, where the depth guard was entered or not. It writes no text.
-fn read_list(
-    body: &[u8],
-    rows: &[u32],
-    end: u32,
-    sheet: &[u8],
-    settings: Settings,
-    depth: ShapeDepth,
-    entered: bool,
-    entries: &mut [u32],
-    texts: &mut [u8],
-) -> Step
-    ensures { EnteredRead Shape.List (uploaded body.now rows.now end)
-        (calling sheet.now (settings_of settings) depth) entered
-        entries.old texts.old entries.new texts.new result }
+// Whether a flag stands among others.
+fn has_flag(flags: u32, flag: u32) -> bool
+    requires { 0 < flag }
+    ensures { result ≡ eqb (flags / flag % 2) 1 }
 {
-    let said = codec::collection::parse_list(sheet);
-    let strict = codec::settings::is_strict(settings, depth);
-    match opening::ask(body, rows, end, said.ok, !entered, strict) {
-        Opening::Refused(why) => Step::Refused(why, Written { count: 0, used: 0 }),
-        Opening::Found(view, root, at) => list::list::list_at(
-            body, rows, view, root, at, sheet, said, settings, entries,
-        ),
-    }
+    flags / flag % 2 == 1
 }
 
-// The string list reading, where the depth guard was entered or not.
-fn read_string_list(
-    body: &[u8],
-    rows: &[u32],
-    end: u32,
-    sheet: &[u8],
-    settings: Settings,
-    depth: ShapeDepth,
-    entered: bool,
-    entries: &mut [u32],
-    texts: &mut [u8],
-) -> Step
-    ensures { EnteredRead Shape.StringList (uploaded body.now rows.now end)
-        (calling sheet.now (settings_of settings) depth) entered
-        entries.old texts.old entries.new texts.new result }
-{
-    let said = codec::collection::parse_list(sheet);
-    let strict = codec::settings::is_strict(settings, depth);
-    match opening::ask(body, rows, end, said.ok, !entered, strict) {
-        Opening::Refused(why) => Step::Refused(why, Written { count: 0, used: 0 }),
-        Opening::Found(view, root, at) => list::string_list::string_list_at(
-            body, rows, view, root, at, sheet, said, settings, entries, texts,
-        ),
-    }
-}
-
-// The map reading, where the depth guard was entered or not.
-fn read_map(
-    body: &[u8],
-    rows: &[u32],
-    end: u32,
-    sheet: &[u8],
-    settings: Settings,
-    depth: ShapeDepth,
-    entered: bool,
-    entries: &mut [u32],
-    texts: &mut [u8],
-) -> Step
-    ensures { EnteredRead Shape.Map (uploaded body.now rows.now end)
-        (calling sheet.now (settings_of settings) depth) entered
-        entries.old texts.old entries.new texts.new result }
-{
-    let said = codec::collection::parse_map(sheet);
-    let strict = codec::settings::is_strict(settings, depth);
-    match opening::ask(body, rows, end, said.ok, !entered, strict) {
-        Opening::Refused(why) => Step::Refused(why, Written { count: 0, used: 0 }),
-        Opening::Found(view, root, at) => map::map_at(
-            body, rows, view, root, at, sheet, said, settings, entries, texts,
-        ),
-    }
-}
-
-// The settings that flags say: 1 validate_document, 2 validate_root_name, 4 strict_collection_element_names; other bits are passed over.
+// The settings that flags say; other bits are passed over.
 pub fn settings_by(flags: u32, max_depth: u32) -> Settings
-    ensures { SetBy flags max_depth result }
+    ensures { result ≡ settings_by flags max_depth }
 {
     Settings {
         max_depth,
-        validate_document: flags % 2 == 1,
-        validate_root_name: flags / 2 % 2 == 1,
-        strict_collection_element_names: flags / 4 % 2 == 1,
+        validate_document: has_flag(flags, VALIDATE_DOCUMENT),
+        validate_root_name: has_flag(flags, VALIDATE_ROOT_NAME),
+        strict_collection_element_names: has_flag(flags, STRICT_COLLECTION_ELEMENT_NAMES),
     }
 }
 
-// The number of a step; how many entries and text bytes are written, and the place beside the number, go to three numbers that are lent
-// for it.
-fn tell(step: Step, told: &mut [usize]) -> u32
-    ensures { Tells step told.old told.new result }
-{
-    if told.len() < 3 {
-        return 0;
-    }
-    match step {
-        Step::Done(w) => {
-            told[0] = w.count;
-            told[1] = w.used;
-            told[2] = 0;
-            0
-        }
-        Step::Refused(why, w) => {
-            told[0] = w.count;
-            told[1] = w.used;
-            told[2] = refusal::place_of(why) as usize;
-            refusal::number_of(why)
-        }
-    }
-}
-
-// A reading by its shape's number, where the depth guard was entered or not.
+// A reading where the depth guard was entered or not: past what is asked first, what is read of the root.
 fn read_entered(
-    kind: u32,
-    body: &[u8],
-    rows: &[u32],
-    end: u32,
-    sheet: &[u8],
-    flags: u32,
-    max_depth: u32,
-    depth: u32,
+    shape: Shape,
+    table: Table,
+    bytes: &[u8],
+    settings: Settings,
+    depth: ShapeDepth,
     entered: bool,
-    entries: &mut [u32],
-    texts: &mut [u8],
-    told: &mut [usize],
-) -> u32
-    ensures { EnteredCall (shape_of kind) (uploaded body.now rows.now end)
-        (calling sheet.now (settings_by flags max_depth) (shape_depth depth)) entered
-        entries.old texts.old entries.new texts.new told.old told.new result }
+    out: &mut Output,
+) -> Result<(), Refusal>
+    requires { entered ≡ not (too_deep settings depth) }
+    ensures { Does (plan_of (defined_as shape) (upload_of table.entry) (calling bytes.now settings depth)) out.old out.new result }
 {
-    let settings = settings_by(flags, max_depth);
-    let deep = ShapeDepth(depth);
-    if kind == STRUCT {
-        let step = read_struct(
-            body, rows, end, sheet, settings, deep, entered, entries, texts,
-        );
-        return tell(step, told);
+    let strict = settings.is_strict(depth);
+    match shape {
+        Shape::Struct => {
+            let (sheet, root) = opening::ask(table, StructureSheet::parse(bytes), entered, strict)?;
+            read_struct(&root, &sheet, settings, depth, out)
+        }
+        Shape::List => {
+            let (sheet, root) = opening::ask(table, ListSheet::parse(bytes), entered, strict)?;
+            read_list(&root, &sheet, settings, out)
+        }
+        Shape::Map => {
+            let (sheet, root) = opening::ask(table, MapSheet::parse(bytes), entered, strict)?;
+            read_map(&root, &sheet, settings, out)
+        }
+        Shape::StringList => {
+            let (sheet, root) = opening::ask(table, ListSheet::parse(bytes), entered, strict)?;
+            read_string_list(&root, &sheet, settings, out)
+        }
     }
-    if kind == LIST {
-        let step = read_list(
-            body, rows, end, sheet, settings, deep, entered, entries, texts,
-        );
-        return tell(step, told);
-    }
-    if kind == MAP {
-        let step = read_map(
-            body, rows, end, sheet, settings, deep, entered, entries, texts,
-        );
-        return tell(step, told);
-    }
-    let step = read_string_list(
-        body, rows, end, sheet, settings, deep, entered, entries, texts,
-    );
-    tell(step, told)
 }
 
-// A reading by its shape's number: it enters by the depth guard and leaves by it, whatever came of it.
-fn read_sheet(
-    kind: u32,
-    body: &[u8],
-    rows: &[u32],
-    end: u32,
-    sheet: &[u8],
-    flags: u32,
-    max_depth: u32,
-    depth: u32,
-    entries: &mut [u32],
-    texts: &mut [u8],
-    told: &mut [usize],
-) -> u32
-    ensures { ToldCall (shape_of kind) (uploaded body.now rows.now end)
-        (calling sheet.now (settings_by flags max_depth) (shape_depth depth))
-        entries.old texts.old entries.new texts.new told.old told.new result }
-{
-    let mut guard = Guard {
-        depth,
-        max: max_depth,
-    };
-    let entered = codec::guard::enter_aggregate(&mut guard);
-    let number = read_entered(
-        kind, body, rows, end, sheet, flags, max_depth, depth, entered, entries, texts, told,
-    );
-    if entered {
-        codec::guard::leave_aggregate(&mut guard);
-    }
-    number
-}
-
-// A reading by its shape's number, with how many entries and text bytes are written, and the place of the failing `&` where the number is
-// 7.
-pub fn read_with_place(
-    kind: u32,
-    body: &[u8],
-    rows: &[u32],
-    end: u32,
-    sheet: &[u8],
-    flags: u32,
-    max_depth: u32,
-    depth: u32,
-    entries: &mut [u32],
-    texts: &mut [u8],
-    count: &mut usize,
-    length: &mut usize,
-    place: &mut usize,
-) -> u32
-    ensures reading { SheetCall (shape_of kind) (uploaded body.now rows.now end)
-        (calling sheet.now (settings_by flags max_depth) (shape_depth depth))
-        entries.old texts.old entries.new texts.new count.new length.new result }
-    ensures place { SheetPlace (shape_of kind) (uploaded body.now rows.now end)
-        (calling sheet.now (settings_by flags max_depth) (shape_depth depth))
-        entries.old texts.old place.new }
-    ensures demand { Demanded (shape_of kind) (uploaded body.now rows.now end)
-        (calling sheet.now (settings_by flags max_depth) (shape_depth depth))
-        entries.old texts.old entries.new count.new result }
-{
-    let mut told = [0usize; 3];
-    let number = read_sheet(
-        kind, body, rows, end, sheet, flags, max_depth, depth, entries, texts, &mut told,
-    );
-    *count = told[0];
-    *length = told[1];
-    *place = told[2];
-    number
-}
-
-// The same without the place, which only a map and a string list have to tell.
+// Reads a body by a sheet into two lent buffers: it enters by the depth guard and leaves by it, whatever came of it.
 pub fn read(
-    kind: u32,
-    body: &[u8],
-    rows: &[u32],
-    end: u32,
+    shape: Shape,
+    table: Table,
     sheet: &[u8],
-    flags: u32,
-    max_depth: u32,
-    depth: u32,
+    settings: Settings,
+    depth: ShapeDepth,
     entries: &mut [u32],
     texts: &mut [u8],
-    count: &mut usize,
-    length: &mut usize,
-) -> u32
-    ensures reading { SheetCall (shape_of kind) (uploaded body.now rows.now end)
-        (calling sheet.now (settings_by flags max_depth) (shape_depth depth))
-        entries.old texts.old entries.new texts.new count.new length.new result }
-    ensures demand { Demanded (shape_of kind) (uploaded body.now rows.now end)
-        (calling sheet.now (settings_by flags max_depth) (shape_depth depth))
-        entries.old texts.old entries.new count.new result }
+) -> Reading
+    ensures reading { SheetCall shape (upload_of table.entry) (calling sheet.now settings depth)
+        entries.old texts.old entries.new texts.new result.count result.length (number_of result.outcome) }
+    ensures place { SheetPlace shape (upload_of table.entry) (calling sheet.now settings depth)
+        entries.old texts.old (place_of result.outcome) }
+    ensures demand { Demanded shape (upload_of table.entry) (calling sheet.now settings depth)
+        entries.old texts.old entries.new result.count (number_of result.outcome) }
 {
-    let mut place = 0;
-    read_with_place(
-        kind, body, rows, end, sheet, flags, max_depth, depth, entries, texts, count, length,
-        &mut place,
-    )
+    let mut guard = Guard { settings, depth };
+    let entered = guard.enter_aggregate();
+    let mut out = Output::new(entries, texts);
+    let outcome = read_entered(shape, table, sheet, settings, depth, entered, &mut out);
+    if entered {
+        guard.leave_aggregate();
+    }
+    Reading {
+        count: out.count,
+        length: out.used,
+        outcome,
+    }
 }

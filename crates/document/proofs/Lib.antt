@@ -1,4 +1,4 @@
-pub mod Names
 pub mod Laws
 pub mod Passed
 pub mod Examples
+pub mod Measuring

@@ -6,6 +6,7 @@ use Rattle.lists.specs.Tests.{pick}
 use Rattle.table.specs.Row.{Tok}
 use Rattle.table.specs.Rules.{last_position}
 use Rattle.table.specs.Piece.{piece_start}
+use Rattle.document.specs.declared.part.Piece.{Piece}
 use Rattle.document.specs.View.{View}
 use Rattle.document.specs.Reader.{Reader, fresh, Scope, document, element, Past, skip, StartEl, blank, Next, found}
 use Rattle.document.specs.Reader.{gone, next}
@@ -94,10 +95,6 @@ unfolding next
 root_of toks = on_root (next_from document (fresh toks))
 
 -- ---- pieces: a part of the body
-pub record Piece : Type 0 where
-  pub start : ℕ
-  pub len : ℕ
-
 -- "A piece ends at the position of the last row read for it, or at the final position when the rows run out."
 abbrev pub piece_end : View → Past → ℕ
 piece_end v p = pick p.ended (last_position 0 (take p.reader.row v.rows)) v.ends

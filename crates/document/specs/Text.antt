@@ -1,5 +1,5 @@
 -- The text of an element: its first text (`try_data`), and all the texts directly in it.
-use Rattle.std.specs.Prelude.{ℕ, zero, suc, ◌+◌, List, [], ◌∷◌, ◌++◌}
+use Rattle.std.specs.Prelude.{ℕ, zero, suc, ◌+◌, Bool, true, false, List, [], ◌∷◌, ◌++◌, leb, length}
 use Rattle.std.proofs.Math.Option.{Option, none, some}
 use Rattle.lists.specs.Tests.{pick}
 use Rattle.refusal.specs.declared.Refusal.{Refusal}
@@ -22,6 +22,11 @@ value_start_at (r ∷ rest) (suc k) = value_start_at rest k
 abbrev pub unescaped_from : ℕ → Out → Answer (List ℕ)
 unescaped_from from (text.bytes l) = gives l
 unescaped_from from (text.bad at) = refuses (Refusal.BadReference (from + at))
+
+-- a text whose references are right
+abbrev pub is_right : Out → Bool
+is_right (text.bytes l) = true
+is_right (text.bad at) = false
 
 -- where the rows run out: the failure that the reader meets there, or the text is empty
 abbrev pub at_end : Option Refusal → Answer (List ℕ)
@@ -76,3 +81,7 @@ unfolding joined
 whole_of rows c =
     let inside = joined rows (scope_of c.start) c.inner.depth c.inner.row c.inner.rest in
     pick c.start.closed (gives []) inside
+
+-- ---- "10 for a string": the text, where there is room for it
+unfoldable pub string_in : ℕ → List ℕ → Answer (List ℕ)
+string_in room l = pick (leb (length l) room) (gives l) (refuses Refusal.NoRoom)

@@ -1,10 +1,10 @@
 -- The view: what a strict and a lenient reading see of a table. They differ in nothing else.
-use Rattle.std.specs.Prelude.{ℕ, zero, suc, Bool, true, false, List, [], ◌∷◌, take}
+use Rattle.std.specs.Prelude.{ℕ, zero, suc, Bool, true, false, List, [], ◌∷◌, take, Err, Ok, Result}
 use Rattle.std.proofs.Math.Option.{Option, none, some}
 use Rattle.refusal.specs.declared.Refusal.{Refusal}
 use Rattle.table.specs.Row.{Row, Tok, start, attr, gt, close, slash, matter, bad, toks_of}
 use Rattle.xml.specs.declared.Cause.{Cause}
-use Rattle.xml.specs.declared.Drained.{Drained}
+use Rattle.xml.specs.declared.DrainError.{DrainError}
 use Rattle.xml.specs.Drain.{walked, cause_place, reference_place}
 
 -- the rows that a reader takes one by one; what it meets when they run out, if anything; whether it is refused with 9 at its end; and the
@@ -35,10 +35,10 @@ failure_of at Cause.RepeatedAttribute = Refusal.IllFormed
 failure_of at Cause.BadReference = Refusal.BadReference at
 
 -- strict: the rows before the one that fails the drain; the tokenizer then stands after that one. (A walk over tokens never says `Table`.)
-abbrev pub strict_view : List ℕ → List Row → ℕ → Drained → View
-strict_view body rows final Drained.Passes = whole rows final
-strict_view body rows final Drained.Table = whole rows final
-strict_view body rows final (Drained.IllFormed k cause) =
+abbrev pub strict_view : List ℕ → List Row → ℕ → Result (Unit {0}) DrainError → View
+strict_view body rows final (Ok u) = whole rows final
+strict_view body rows final (Err DrainError.Table) = whole rows final
+strict_view body rows final (Err (DrainError.IllFormed k cause)) =
     record {
       rows = take k rows;
       failure = some (failure_of (cause_place body rows k cause) cause);

@@ -6,34 +6,21 @@ use mathlib.Core.List.{List, [], ◌∷◌}
 use native.Mathlib.Omega.{arith}
 use borrow.Author.Rules.{rules}
 use borrow.Author.Tests.{eq-eqb, ne_eqb, leb-true, leb-false}
-use lib.Dec.{eqb, leb, ltb}
-use lib.ListN.{length, get_or}
+use lib.Dec.{eqb, leb}
+use lib.ListN.{length}
 use lib.Seq.{sets}
 use Rattle.lists.specs.Tests.{pick}
 use Rattle.lists.specs.Decide.{Says}
-use Rattle.lists.proofs.Decide.{says_no, says_same, says_not, says_ltb}
+use Rattle.lists.proofs.Decide.{says_not}
 use Rattle.table.specs.Row.{Row}
 use Rattle.table.specs.Rules.{open_count}
 use Rattle.table.specs.Flat.{row_at, rows_from}
 use Rattle.table.proofs.Flat.{length_rows, unroll, rolled_out}
-use Rattle.table.proofs.OrderLaws.{count_low}
+use Rattle.table.proofs.KindLaws.{count_low}
 use Rattle.table.specs.Piece.{closing}
 use Rattle.element.specs.Rows.{StartsAfter, FirstAfter, moved_table, OwnRows}
 
 -- ---- the start row
-pub row_in : (t : List ℕ) {k : ℕ} → k < length t / 8 → k * 8 + 8 ≤ length t
-row_in t h = omega arith
-
-module _ (t : List ℕ) (k place : ℕ) {kind : ℕ} (e : kind ≡ get_or t (k * 8 + 0) 0) where
-  pub starts_other : (kind ≡ 1 → ⊥) → Says (StartsAfter t place k) false
-  starts_other f = says_no (λ s. f (e ∙ s.starts))
-
-  pub starts_so : {from : ℕ} {r : Bool} → kind ≡ 1 → from ≡ get_or t (k * 8 + 3) 0 → r ≡ ltb place from → Says (StartsAfter t place k) r
-  starts_so {from} q f u =
-      rw u (says_same (λ h. record { starts = sym e ∙ q; after = rw (← f) h }) (λ s. rw f s.after) (says_ltb place from))
-
-pub ruleset starts_laws = (rules, starts_other, starts_so)
-
 -- none before row k
 pub record Seeking (t : List ℕ) (place k : ℕ) : Type 0 where
   pub high : k ≤ length t / 8
@@ -56,7 +43,7 @@ module _ {t : List ℕ} {place k : ℕ} (s : Seeking t place k) where
   pub seeking_out : length t / 8 ≤ k → FirstAfter t place k
   seeking_out h = record { high = s.high; found = λ i. absurd (omega arith); first = s.none }
 
-pub ruleset seeking_laws = (rules, row_in, seeking_start, seeking_on, seeking_found, seeking_out)
+pub ruleset seeking_laws = (rules, seeking_start, seeking_on, seeking_found, seeking_out)
 
 -- ---- how many rows: j - k of them are counted, and n elements are open after them
 pub record Counting (t : List ℕ) (k n j : ℕ) : Type 0 where
@@ -78,17 +65,15 @@ unfolding closing
 closing_on n r rest f = rw (ne_eqb (open_count n r.kind) 0 f)
 
 module _ {t : List ℕ} {k n j : ℕ} (c : Counting t k n j) where
-  pub counting_out : length t / 8 ≤ j → j - k ≡ closing 0 (rows_from t k (length t / 8 - k))
+  pub counting_out : length t / 8 ≤ j → length t / 8 - k ≡ closing 0 (rows_from t k (length t / 8 - k))
   unfolding closing
-  counting_out h = let z : (j - k) + 0 ≡ j - k = omega arith in sym z ∙ rw (rolled_out t j (length t / 8) h) at c.rest
+  counting_out h =
+      let z : length t / 8 - k ≡ (j - k) + 0 = omega (arith, c.high) in z ∙ rw (rolled_out t j (length t / 8) h) at c.rest
 
-  pub counting_few : j + 1 < 2 ^ 64 → n + 1 < 2 ^ 64
-  counting_few h = omega (arith, c.few)
+  pub counting_few : length t < 2 ^ 64 → n + 1 < 2 ^ 64
+  counting_few h = omega (arith, c.few, c.high)
 
-  module _ (h : j < length t / 8) {kind m : ℕ} (e : kind ≡ get_or t (j * 8 + 0) 0) (o : m ≡ open_count n kind) where
-    is : m ≡ open_count n (row_at t j).kind
-    is = rw e at o
-
+  module _ (h : j < length t / 8) {m : ℕ} (is : m ≡ open_count n (row_at t j).kind) where
     abbrev later : List Row
     later = rows_from t (j + 1) (length t / 8 - (j + 1))
 
@@ -97,7 +82,7 @@ module _ {t : List ℕ} {k n j : ℕ} (c : Counting t k n j) where
 
     pub counting_more : (m ≡ 0 → ⊥) → Counting t k m (j + 1)
     counting_more f =
-        let low : m ≤ suc n = rw o (count_low n kind) in
+        let low : m ≤ suc n = rw is (count_low n (row_at t j).kind) in
         let z : (j + 1) - k ≡ suc (j - k) = omega (arith, c.low) in
         record {
           low = omega (arith, c.low);
@@ -113,7 +98,7 @@ module _ {t : List ℕ} {k n j : ℕ} (c : Counting t k n j) where
         let z : (j + 1) - k ≡ (j - k) + 1 = omega (arith, c.low) in
         z ∙ (ap (λ (x : ℕ). (j - k) + x) (sym (closing_here n (row_at t j) later (sym is ∙ f))) ∙ rest_is)
 
-pub ruleset counting_laws = (rules, row_in, counting_start, counting_out, counting_few, counting_more, counting_done)
+pub ruleset counting_laws = (rules, counting_start, counting_out, counting_few, counting_more, counting_done)
 
 -- ---- the whole
 pub closing_low : (n : ℕ) (l : List Row) → closing n l ≤ length l
@@ -125,20 +110,19 @@ closing_low n (r ∷ l) = go (eqb (open_count n r.kind) 0) (closing_low (open_co
     go true h = omega arith
     go false h = omega arith
 
-module _ {t : List ℕ} {w k n : ℕ} (f : FirstAfter t w k) (c : n ≡ closing 0 (rows_from t k (length t / 8 - k))) where
+module _ {t : List ℕ} {place k n : ℕ} (f : FirstAfter t place k) (c : n ≡ closing 0 (rows_from t k (length t / 8 - k))) where
   few : n ≤ length t / 8 - k
   few = rw c (omega (arith, closing_low 0 (rows_from t k (length t / 8 - k)), length_rows t k (length t / 8 - k)))
 
   pub own_in : (k + n) * 8 ≤ length t
   own_in = omega (arith, few, f.high)
 
-  module _ {place : ℕ} (q : w ≡ place) where
-    pub own_none : (old : List ℕ) → length old / 8 < n → OwnRows t place old old 0
-    own_none old h = record { row = k; first = rw q at f; fit = λ g. absurd (omega (arith, c)); short = λ g. (refl, refl) }
+  pub own_none : (old : List ℕ) → length old / 8 < n → OwnRows t place old old 0
+  own_none old h = record { row = k; first = f; fit = λ g. absurd (omega (arith, c)); short = λ g. (refl, refl) }
 
-    pub own_all : {old new : List ℕ} → new ≡ sets old 0 (moved_table place (rows_from t k n)) → n ≤ length old / 8
-        → OwnRows t place old new n
-    own_all e h = record { row = k; first = rw q at f; fit = λ g. (c, e); short = λ g. absurd (omega (arith, c)) }
+  pub own_all : {old new : List ℕ} → new ≡ sets old 0 (moved_table place (rows_from t k n)) → n ≤ length old / 8
+      → OwnRows t place old new n
+  own_all e h = record { row = k; first = f; fit = λ g. (c, e); short = λ g. absurd (omega (arith, c)) }
 
 pub own_high : {t : List ℕ} {place k : ℕ} → FirstAfter t place k → k ≤ length t / 8
 own_high f = f.high

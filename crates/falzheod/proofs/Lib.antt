@@ -1,3 +1,1 @@
--- Laws of the open operations.
-pub mod Flags
 pub mod Numbers

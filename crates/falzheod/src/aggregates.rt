@@ -3,12 +3,25 @@
 // validate_document, 2 validate_root_name, 4 strict_collection_element_names; other bits are passed over. `place`, of a map and a string
 // list, is where the failing `&` stands in the body, and 0 where the number is not 7; a structure and a list never answer 7. The last
 // promise of each is demand 3: what holds where the drain passes the body and the table.
+ghost use Rattle.std.specs.Prelude.{◌≡◌};
+ghost use Rattle.output.specs.Call.{number_of};
 ghost use Rattle.deserializer.specs.Call.{SheetCall, SheetPlace, settings_by, shape_depth};
 ghost use Rattle.deserializer.specs.Demand.{Demanded};
 ghost use Rattle.deserializer.specs.declared.Shape.{Shape};
 ghost use Rattle.readings.specs.Call.{uploaded, calling};
 
-use deserializer::{LIST, MAP, STRING_LIST, STRUCT};
+use deserializer::{Reading, Shape, read, settings_by};
+use sheet::ShapeDepth;
+use table::Table;
+
+// What came of a reading, in numbers.
+fn tell(reading: Reading, count: &mut usize, length: &mut usize) -> u32
+    ensures { (count.new ≡ reading.count) × (length.new ≡ reading.length) × (result ≡ number_of reading.outcome) }
+{
+    *count = reading.count;
+    *length = reading.length;
+    reading.number()
+}
 
 // The structure reading: 0, 1, 2, 3, 4, 5, 9 or 10.
 pub fn falzheod_read_struct(
@@ -31,9 +44,16 @@ pub fn falzheod_read_struct(
         (calling sheet.now (settings_by flags max_depth) (shape_depth depth))
         entries.old texts.old entries.new count.new result }
 {
-    deserializer::read(
-        STRUCT, body, rows, end, sheet, flags, max_depth, depth, entries, texts, count, length,
-    )
+    let reading = read(
+        Shape::Struct,
+        Table { body, rows, end },
+        sheet,
+        settings_by(flags, max_depth),
+        ShapeDepth(depth),
+        entries,
+        texts,
+    );
+    tell(reading, count, length)
 }
 
 // The list reading: 0, 1, 2, 3, 4, 9 or 10. No text is written.
@@ -57,9 +77,16 @@ pub fn falzheod_read_list(
         (calling sheet.now (settings_by flags max_depth) (shape_depth depth))
         entries.old texts.old entries.new count.new result }
 {
-    deserializer::read(
-        LIST, body, rows, end, sheet, flags, max_depth, depth, entries, texts, count, length,
-    )
+    let reading = read(
+        Shape::List,
+        Table { body, rows, end },
+        sheet,
+        settings_by(flags, max_depth),
+        ShapeDepth(depth),
+        entries,
+        texts,
+    );
+    tell(reading, count, length)
 }
 
 // The map reading: 0, 1, 2, 3, 4, 6, 7, 8, 9 or 10.
@@ -87,9 +114,17 @@ pub fn falzheod_read_map(
         (calling sheet.now (settings_by flags max_depth) (shape_depth depth))
         entries.old texts.old entries.new count.new result }
 {
-    deserializer::read_with_place(
-        MAP, body, rows, end, sheet, flags, max_depth, depth, entries, texts, count, length, place,
-    )
+    let reading = read(
+        Shape::Map,
+        Table { body, rows, end },
+        sheet,
+        settings_by(flags, max_depth),
+        ShapeDepth(depth),
+        entries,
+        texts,
+    );
+    *place = reading.place();
+    tell(reading, count, length)
 }
 
 // The string list reading: 0, 1, 2, 3, 4, 6, 7, 8, 9 or 10.
@@ -117,19 +152,15 @@ pub fn falzheod_read_string_list(
         (calling sheet.now (settings_by flags max_depth) (shape_depth depth))
         entries.old texts.old entries.new count.new result }
 {
-    deserializer::read_with_place(
-        STRING_LIST,
-        body,
-        rows,
-        end,
+    let reading = read(
+        Shape::StringList,
+        Table { body, rows, end },
         sheet,
-        flags,
-        max_depth,
-        depth,
+        settings_by(flags, max_depth),
+        ShapeDepth(depth),
         entries,
         texts,
-        count,
-        length,
-        place,
-    )
+    );
+    *place = reading.place();
+    tell(reading, count, length)
 }

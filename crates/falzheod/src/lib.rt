@@ -13,21 +13,27 @@ ghost use Rattle.falzheod.specs.Numbers.{ValidateCall, UnescapeCall, cause_numbe
 pub mod aggregates;
 pub mod scalars;
 
-use reference::{Unescaped, Validated};
-use xml::{Cause, Drained};
+use decode::drain::{cause_place, walk};
+use reference::UnescapeError;
+use refusal::Refusal;
+use table::Table;
+use xml::{Cause, DrainError};
+
+// 01's number of a text with a failing `&`. `Refusal` has it for a place in a body, which is a number of 16 bits.
+const BAD_REFERENCE: u32 = 7;
 
 // 0 where each reference of the text is right, else 7; `place` is then where the first failing `&` stands in the text, else 0.
 pub fn falzheod_validate_references(text: &[u8], place: &mut usize) -> u32
     ensures validated { ValidateCall (validated text.now) place.new result }
 {
     match unescape::validate_references(text) {
-        Validated::Valid => {
+        Ok(()) => {
             *place = 0;
             0
         }
-        Validated::BadReference { at } => {
-            *place = at;
-            7
+        Err(bad) => {
+            *place = bad.at;
+            BAD_REFERENCE
         }
     }
 }
@@ -38,22 +44,18 @@ pub fn falzheod_unescape(text: &[u8], out: &mut [u8], length: &mut usize, place:
     ensures unescaped { UnescapeCall text.now out.old out.new length.new
         place.new result }
 {
+    *length = 0;
+    *place = 0;
     match unescape::unescape(text, out) {
-        Unescaped::Length(n) => {
+        Ok(n) => {
             *length = n;
-            *place = 0;
             0
         }
-        Unescaped::BadReference { at: first } => {
-            *length = 0;
-            *place = first;
-            7
+        Err(UnescapeError::BadReference { at }) => {
+            *place = at;
+            BAD_REFERENCE
         }
-        Unescaped::NoRoom => {
-            *length = 0;
-            *place = 0;
-            10
-        }
+        Err(UnescapeError::NoRoom) => Refusal::NoRoom.number(),
     }
 }
 
@@ -61,7 +63,7 @@ pub fn falzheod_unescape(text: &[u8], out: &mut [u8], length: &mut usize, place:
 pub fn falzheod_is_utf8(text: &[u8]) -> u32
     ensures well_formed { result ≡ yes_no (is_utf8 text.now) }
 {
-    if utf8::is_utf8(text) { 1 } else { 0 }
+    utf8::is_utf8(text) as u32
 }
 
 // The number of a cause, as the header names it.
@@ -91,27 +93,26 @@ pub fn falzheod_drain(
     ensures place { place.new ≡ drain_place body.now (rows_of rows.now)
         (drained body.now rows.now end) }
 {
-    match decode::drain::drain(body, rows, end) {
-        Drained::Passes => {
-            *row = 0;
-            *cause = 0;
-            *place = 0;
-            0
-        }
-        Drained::Table => {
-            *row = 0;
-            *cause = 0;
-            *place = 0;
-            1
-        }
-        Drained::IllFormed {
-            row: first,
-            cause: why,
-        } => {
+    *row = 0;
+    *cause = 0;
+    *place = 0;
+    let lent = Table { body, rows, end };
+    let Some(table) = lent.check() else {
+        return Refusal::Table.number();
+    };
+    match walk(table) {
+        Ok(()) => 0,
+        Err(DrainError::Table) => Refusal::Table.number(),
+        Err(
+            DrainError::IllFormed {
+                row: first,
+                cause: why,
+            },
+        ) => {
             *row = first;
             *cause = cause_number(why);
-            *place = decode::drain::cause_place(body, rows, first, why);
-            9
+            *place = cause_place(table, first, why);
+            Refusal::IllFormed.number()
         }
     }
 }

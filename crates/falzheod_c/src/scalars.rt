@@ -1,6 +1,7 @@
 // Scalars of a body and of a text, find, and the whole text, as `falzheod` has them.
 ghost use Rattle.readings.specs.Call.{uploaded};
-ghost use Rattle.readings.specs.Scalar.{boolean_of, integer_of, string_in, boolean_reading, integer_reading, string_reading, whole_text};
+ghost use Rattle.document.specs.Text.{string_in};
+ghost use Rattle.readings.specs.Scalar.{boolean_of, integer_of, boolean_reading, integer_reading, string_reading, whole_text};
 ghost use Rattle.readings.specs.Find as readings;
 ghost use Rattle.deserializer.specs.Call.{settings_by, shape_depth};
 ghost use Rattle.scalar.specs.Calls.{BooleanCall, IntegerCall, StringCall, FindCall, BooleanRead, IntegerRead, StringRead};

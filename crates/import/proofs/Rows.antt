@@ -16,7 +16,7 @@ use Rattle.table.specs.Flat.{row_at, rows_from}
 use Rattle.table.proofs.Flat.{length_rows, rows_same, rows_whole, here_or_later, drop_from}
 use Rattle.table.specs.Piece.{closing, element_rows, piece_start, piece_rows, ElementAt}
 use Rattle.table.proofs.Element.{element_is}
-use Rattle.decode.proofs.Seen.{take_rows}
+use Rattle.decode.proofs.Known.{take_rows}
 use Rattle.element.specs.Rows.{moved_table, FirstAfter}
 use Rattle.element.proofs.Numbers.{moved_length}
 use Rattle.element.proofs.Rows.{closing_low}

@@ -1,74 +1,108 @@
-// A caller's view of demand 3. `pieces` drains an upload, reads it only where it passed whole, and reads each piece again by its own rows;
-// that this gets no refusal but the six is proved from the contracts of the drain and of the readings. Here it runs: a list of two cores,
-// each core read as a structure, and then the same upload cut after its first core, of which nothing is handed on. It rests on
-// `falzheod`, `deserializer` and `element`.
+// A caller's view of the main theorem. `pieces` drains an upload, reads it only where it passed whole, and reads each piece again by its
+// own rows; that this gets no refusal but the six is proved from the contracts of the drain and of the readings alone. Here it runs: a
+// list of two cores, each core read as a structure, and then the same upload cut after its first core, of which nothing is handed on. A
+// line that cannot be printed ends the program with status 1. It rests on `decode` for the drain, on `deserializer` and on `element`.
 #![tactic(auto)]
 
 mod pieces;
 
-use pieces::import;
+use deserializer::{Reading, Shape};
+use pieces::{Asked, Buffers, import};
+use refusal::Refusal;
 use scalar::find::find;
-
-// Standard output, as the system numbers it.
-const STDOUT_FILENO: i32 = 1;
+use sheet::Settings;
+use table::Table;
+use xml::DrainError;
 
 // The rows of <cores><core><id>7</id></core><core/></cores>, eight numbers each.
-const ROWS: [u32; 96] = [
-    1, 0, 0, 1, 5, 0, 0, 6, 3, 0, 0, 0, 0, 0, 0, 7, 1, 0, 0, 8, 4, 0, 0, 12, 3, 0, 0, 0, 0, 0, 0,
-    13, 1, 0, 0, 14, 2, 0, 0, 16, 3, 0, 0, 0, 0, 0, 0, 17, 6, 0, 0, 0, 0, 17, 1, 18, 4, 0, 0, 20,
-    2, 0, 0, 23, 4, 0, 0, 25, 4, 0, 0, 30, 1, 0, 0, 31, 4, 0, 0, 35, 5, 0, 0, 0, 0, 0, 0, 37, 4, 0,
-    0, 39, 5, 0, 0, 45,
+const ROWS: [[u32; 8]; 12] = [
+    [1, 0, 0, 1, 5, 0, 0, 6],
+    [3, 0, 0, 0, 0, 0, 0, 7],
+    [1, 0, 0, 8, 4, 0, 0, 12],
+    [3, 0, 0, 0, 0, 0, 0, 13],
+    [1, 0, 0, 14, 2, 0, 0, 16],
+    [3, 0, 0, 0, 0, 0, 0, 17],
+    [6, 0, 0, 0, 0, 17, 1, 18],
+    [4, 0, 0, 20, 2, 0, 0, 23],
+    [4, 0, 0, 25, 4, 0, 0, 30],
+    [1, 0, 0, 31, 4, 0, 0, 35],
+    [5, 0, 0, 0, 0, 0, 0, 37],
+    [4, 0, 0, 39, 5, 0, 0, 45],
 ];
 
-fn wide(x: u32) -> u64 {
-    x as u64
-}
+const SETTINGS: Settings = Settings {
+    max_depth: 128,
+    validate_document: true,
+    validate_root_name: true,
+    strict_collection_element_names: true,
+};
 
-fn print_number(name: &[u8], number: u64) {
-    io::write_all(STDOUT_FILENO, name);
-    io::print_decimal(STDOUT_FILENO, number);
-}
+// A list by its item name `core`.
+const CORES: Asked<'static> = Asked {
+    shape: Shape::List,
+    sheet: b"\x05\x04core",
+    settings: SETTINGS,
+};
 
-// An upload read as a list by its item name `core`, and each core as a structure with the member `id`; of one that passed also the first
-// core, as a part of the body.
-fn show(body: &[u8], rows: &[u32], end: u32) {
-    let mut entries = [0u32; 24];
-    let mut texts = [0u8; 16];
-    let mut numbers = [77u32; 2];
-    let mut piece_entries = [0u32; 12];
-    let mut piece_texts = [0u8; 16];
-    let done = import(
-        2,
-        1,
-        body,
-        rows,
-        end,
-        b"\x05\x04core",
-        b"\x00\x04core\x01\x01\x02id",
-        7,
-        128,
-        &mut entries,
-        &mut texts,
-        &mut numbers,
-        &mut piece_entries,
-        &mut piece_texts,
-    );
-    io::write_all(STDOUT_FILENO, body);
-    print_number(b"\ndrained ", wide(done.drained));
-    print_number(b", read ", wide(done.read));
-    print_number(b", entries ", done.count as u64);
-    print_number(b", pieces read again ", wide(numbers[0]));
-    print_number(b" and ", wide(numbers[1]));
-    io::write_all(STDOUT_FILENO, b"\n");
-    if done.drained == 0 {
-        io::write_all(STDOUT_FILENO, b"the first core: ");
-        io::write_all(STDOUT_FILENO, find(body, rows, end, b"core"));
-        io::write_all(STDOUT_FILENO, b"\n");
+// A structure with the member `id`.
+const CORE: Asked<'static> = Asked {
+    shape: Shape::Struct,
+    sheet: b"\x00\x04core\x01\x01\x02id",
+    settings: SETTINGS,
+};
+
+// What is printed for a piece that was not read again.
+const NOT_READ: u32 = 77;
+
+fn drain_number(why: DrainError) -> u32 {
+    match why {
+        DrainError::Table => Refusal::Table.number(),
+        DrainError::IllFormed { .. } => Refusal::IllFormed.number(),
     }
 }
 
-fn main() {
-    let rows = ROWS;
-    show(b"<cores><core><id>7</id></core><core/></cores>", &rows, 45);
-    show(b"<cores><core><id>7</id></core>", &rows[0..72], 30);
+// An upload read as a list of cores, and each core as a structure; of one that passed also the first core, as a part of the body.
+fn show(rt: &impl Print, upload: Table) -> anyhow::Result<()> {
+    let mut entries = [0; 24];
+    let mut texts = [0; 16];
+    let mut piece_entries = [0; 12];
+    let mut piece_texts = [0; 16];
+    let mut outcomes = [None; 2];
+    let mut lent = Buffers {
+        entries: &mut entries,
+        texts: &mut texts,
+    };
+    let mut space = Buffers {
+        entries: &mut piece_entries,
+        texts: &mut piece_texts,
+    };
+    let imported = import(upload, CORES, CORE, &mut lent, &mut outcomes, &mut space);
+    let (drained, read, count) = match imported {
+        Ok(reading) => (0, reading.number(), reading.count),
+        Err(why) => (drain_number(why), 0, 0),
+    };
+    let [first, second] = outcomes.map(|again| again.map_or(NOT_READ, Reading::number));
+    println!(rt; "{}", str::from_utf8(upload.body)?)?;
+    print!(rt; "drained {drained}, read {read}, entries {count}, ")?;
+    println!(rt; "pieces read again {first} and {second}")?;
+    if imported.is_ok() {
+        let core = str::from_utf8(find(upload, b"core"))?;
+        println!(rt; "the first core: {core}")?;
+    }
+    Ok(())
+}
+
+fn main(rt: HostRuntime) -> anyhow::Result<()> {
+    let whole = Table {
+        body: b"<cores><core><id>7</id></core><core/></cores>",
+        rows: ROWS.as_flattened(),
+        end: 45,
+    };
+    show(&rt, whole)?;
+    let cut = Table {
+        body: b"<cores><core><id>7</id></core>",
+        rows: ROWS[..9].as_flattened(),
+        end: 30,
+    };
+    show(&rt, cut)
 }

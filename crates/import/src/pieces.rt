@@ -1,231 +1,142 @@
-// An upload drained, read, and each of its pieces read again by its own rows, as an import service does: what demand 3 says of these
-// calls is proved from the contracts of the drain and of the readings alone.
-ghost use Rattle.std.specs.Prelude.{◌≡◌, ◌*◌, ◌≤◌, length};
+// An upload drained, read, and each of its pieces read again by its own rows, as an import service does: what the main theorem says of
+// these calls is proved from the contracts of the drain and of the readings alone.
+ghost use Rattle.std.specs.Prelude.{◌*◌, length, MatchOption};
 ghost use Rattle.xml.specs.Piece.{ElementPiece};
-ghost use Rattle.readings.specs.Call.{uploaded, calling};
-ghost use Rattle.deserializer.specs.Call.{settings_by, shape_depth, shape_of};
+ghost use Rattle.opening.specs.Opening.{upload_of};
 ghost use Rattle.deserializer.specs.Demand.{PieceEntry, PiecesIn};
-ghost use Rattle.import.specs.Import.{Passes, Reread, RereadOne, EachReread, ImportCall};
+ghost use Rattle.import.specs.Import.{asking, EachReread, ImportCall, Names, NamesNone, Passes, Reread, RereadOne, SameBuffers};
 
-use output::kind::PIECE;
+use decode::drain::drain;
+use deserializer::{Reading, Shape};
+use document::part::Piece;
+use output::entry::Kind;
+use sheet::{Settings, ShapeDepth};
+use table::Table;
+use xml::DrainError;
 
-// What came of an upload: the drain's number; where that is 0, the reading's number and how many entries and text bytes it wrote.
+// What is asked of a reading: what is read, by which sheet, and under which settings.
 #[derive(Clone, Copy)]
-pub struct Imported {
-    pub drained: u32,
-    pub read: u32,
-    pub count: usize,
-    pub length: usize,
+pub struct Asked<'a> {
+    pub shape: Shape,
+    pub sheet: &'a [u8],
+    pub settings: Settings,
 }
 
-fn wide(x: u32) -> usize
-    ensures { result ≡ x }
-{
-    x as usize
+// The two buffers that are lent for what a reading writes.
+#[derive(Drop)]
+pub struct Buffers<'a> {
+    pub entries: &'a mut [u32],
+    pub texts: &'a mut [u8],
 }
 
-// Reads a piece again, at depth 1, by its own rows, which are put into `table`.
-fn read_piece(
-    kind: u32,
-    body: &[u8],
-    rows: &[u32],
-    end: u32,
-    start: u32,
-    len: u32,
-    sheet: &[u8],
-    flags: u32,
-    max_depth: u32,
-    table: &mut [u32],
-    entries: &mut [u32],
-    texts: &mut [u8],
-) -> u32
-    requires passes { Passes (uploaded body.now rows.now end) }
-    requires element_piece { ElementPiece body.now rows.now start len }
-    requires in_bounds { 65536 ≤ length table.old }
-    ensures { Reread (shape_of kind) (uploaded body.now rows.now end) start len
-        (calling sheet.now (settings_by flags max_depth) (shape_depth 1))
-        (length entries.old) (length texts.old) result }
+// Reads a piece again, at depth 1, by its own rows.
+fn read_piece(upload: Table, piece: Piece, asked: Asked, space: &mut Buffers) -> Reading
+    requires passes { Passes (upload_of upload) }
+    requires element_piece { ElementPiece upload.body.now upload.rows.now piece.start piece.len }
+    ensures reread { Reread asked.entry.shape (upload_of upload.entry) piece.start piece.len (asking asked.entry 1)
+        (length space.old.entries.now) (length space.old.texts.now) result }
+    ensures same { SameBuffers space.old space.new }
 {
-    let from = wide(start);
-    let to = from + wide(len);
-    let last = element::own_rows(rows, start, table) * 8;
-    let mut count = 0;
-    let mut length = 0;
+    let mut rows = [0u32; 65536];
+    let start = piece.start as usize;
+    let end = start + piece.len as usize;
+    let count = element::own_rows(upload.rows, piece.start, &mut rows);
+    let table = Table {
+        body: &upload.body[start..end],
+        rows: &rows[..count * 8],
+        end: piece.len,
+    };
     deserializer::read(
-        kind,
-        &body[from..to],
-        &table[0..last],
-        len,
-        sheet,
-        flags,
-        max_depth,
-        1,
-        entries,
-        texts,
-        &mut count,
-        &mut length,
+        asked.shape,
+        table,
+        asked.sheet,
+        asked.settings,
+        ShapeDepth(1),
+        space.entries,
+        space.texts,
     )
 }
 
-// Reads the piece of entry k again, if it is one and there is a number k for what comes of it.
+// The piece that entry k names, if there is such an entry and it is one.
+fn piece_at(entries: &[u32], k: usize) -> Option<Piece>
+    ensures { MatchOption result (NamesNone entries.now k) (Names entries.now k) }
+{
+    if k < entries.len() / 6 && entries[k * 6] == Kind::Piece as u32 {
+        Some(Piece {
+            start: entries[k * 6 + 4],
+            len: entries[k * 6 + 5],
+        })
+    } else {
+        None
+    }
+}
+
+// Reads the piece of entry k again, if it is one and there is a place k for what comes of it.
 fn read_entry(
-    kind: u32,
-    body: &[u8],
-    rows: &[u32],
-    end: u32,
+    upload: Table,
     entries: &[u32],
     k: usize,
-    sheet: &[u8],
-    flags: u32,
-    max_depth: u32,
-    numbers: &mut [u32],
-    piece_entries: &mut [u32],
-    piece_texts: &mut [u8],
+    asked: Asked,
+    outcomes: &mut [Option<Reading>],
+    space: &mut Buffers,
 )
-    requires passes { Passes (uploaded body.now rows.now end) }
-    requires piece_entry { PieceEntry (uploaded body.now rows.now end) entries.now (k * 6) }
-    ensures { RereadOne (shape_of kind) (uploaded body.now rows.now end) entries.now
-        (calling sheet.now (settings_by flags max_depth) (shape_depth 1)) (length piece_entries.old)
-        (length piece_texts.old) numbers.old numbers.new k }
+    requires passes { Passes (upload_of upload) }
+    requires piece_entry { PieceEntry (upload_of upload) entries.now (k * 6) }
+    ensures reread { RereadOne asked.entry.shape (upload_of upload.entry) entries.now (asking asked.entry 1)
+        (length space.old.entries.now) (length space.old.texts.now) outcomes.old outcomes.new k }
+    ensures same { SameBuffers space.old space.new }
 {
-    if entries.len() / 6 <= k {
+    let Some(piece) = piece_at(entries, k) else {
         return;
+    };
+    if k < outcomes.len() {
+        outcomes[k] = Some(read_piece(upload, piece, asked, space));
     }
-    if numbers.len() <= k {
-        return;
-    }
-    if entries[k * 6] != PIECE {
-        return;
-    }
-    let start = entries[k * 6 + 4];
-    let len = entries[k * 6 + 5];
-    let mut table = [0u32; 65536];
-    numbers[k] = read_piece(
-        kind,
-        body,
-        rows,
-        end,
-        start,
-        len,
-        sheet,
-        flags,
-        max_depth,
-        &mut table,
-        piece_entries,
-        piece_texts,
-    );
 }
 
-// Reads each piece among the entries again; number k of `numbers`, where there is one, is what came of the piece of entry k.
+// Reads each piece among the entries again; in place k of `outcomes`, where there is one, stands what came of the piece of entry k.
+#[tactic(auto, using(crate::proofs::Again::onward_more))]
 fn read_pieces(
-    kind: u32,
-    body: &[u8],
-    rows: &[u32],
-    end: u32,
-    entries: &[u32],
+    upload: Table,
+    lent: &Buffers,
     count: usize,
-    sheet: &[u8],
-    flags: u32,
-    max_depth: u32,
-    numbers: &mut [u32],
-    piece_entries: &mut [u32],
-    piece_texts: &mut [u8],
+    asked: Asked,
+    outcomes: &mut [Option<Reading>],
+    space: &mut Buffers,
 )
-    requires passes { Passes (uploaded body.now rows.now end) }
-    requires pieces_in { PiecesIn (uploaded body.now rows.now end) entries.now count }
-    ensures { EachReread (shape_of kind) (uploaded body.now rows.now end) entries.now count
-        (calling sheet.now (settings_by flags max_depth) (shape_depth 1)) (length piece_entries.old)
-        (length piece_texts.old) numbers.old numbers.new }
+    requires passes { Passes (upload_of upload) }
+    requires pieces_in { PiecesIn (upload_of upload) lent.now.entries.now count }
+    ensures reread { EachReread asked.entry.shape (upload_of upload.entry) lent.now.entries.now count (asking asked.entry 1)
+        (length space.old.entries.now) (length space.old.texts.now) outcomes.old outcomes.new }
+    ensures same { SameBuffers space.old space.new }
 {
-    let mut k = 0;
-    while k < count {
-        read_entry(
-            kind,
-            body,
-            rows,
-            end,
-            entries,
-            k,
-            sheet,
-            flags,
-            max_depth,
-            numbers,
-            piece_entries,
-            piece_texts,
-        );
-        k += 1;
+    for k in 0..count {
+        read_entry(upload, lent.entries, k, asked, outcomes, space);
     }
 }
 
-// Drains an upload and, only where it passes whole, reads it by a sheet and each of its pieces by another.
+// Drains an upload and, only where it passes whole, reads it, and each of its pieces by what is asked of them.
 pub fn import(
-    kind: u32,
-    piece_kind: u32,
-    body: &[u8],
-    rows: &[u32],
-    end: u32,
-    sheet: &[u8],
-    piece_sheet: &[u8],
-    flags: u32,
-    max_depth: u32,
-    entries: &mut [u32],
-    texts: &mut [u8],
-    numbers: &mut [u32],
-    piece_entries: &mut [u32],
-    piece_texts: &mut [u8],
-) -> Imported
-    ensures { ImportCall (shape_of kind) (shape_of piece_kind) (uploaded body.now rows.now end)
-        (calling sheet.now (settings_by flags max_depth) (shape_depth 0))
-        (calling piece_sheet.now (settings_by flags max_depth) (shape_depth 1))
-        entries.old texts.old entries.new texts.new numbers.old numbers.new
-        piece_entries.old piece_texts.old piece_entries.new piece_texts.new result }
+    upload: Table,
+    whole: Asked,
+    piece: Asked,
+    lent: &mut Buffers,
+    outcomes: &mut [Option<Reading>],
+    space: &mut Buffers,
+) -> Result<Reading, DrainError>
+    ensures { ImportCall whole.entry piece.entry (upload_of upload.entry) lent.old lent.new outcomes.old outcomes.new
+        space.old space.new result }
 {
-    let mut row = 0;
-    let mut cause = 0;
-    let mut place = 0;
-    let drained = falzheod::falzheod_drain(body, rows, end, &mut row, &mut cause, &mut place);
-    if drained != 0 {
-        return Imported {
-            drained,
-            read: 0,
-            count: 0,
-            length: 0,
-        };
-    }
-    let mut count = 0;
-    let mut length = 0;
-    let read = deserializer::read(
-        kind,
-        body,
-        rows,
-        end,
-        sheet,
-        flags,
-        max_depth,
-        0,
-        entries,
-        texts,
-        &mut count,
-        &mut length,
+    drain(upload)?;
+    let reading = deserializer::read(
+        whole.shape,
+        upload,
+        whole.sheet,
+        whole.settings,
+        ShapeDepth(0),
+        lent.entries,
+        lent.texts,
     );
-    read_pieces(
-        piece_kind,
-        body,
-        rows,
-        end,
-        entries,
-        count,
-        piece_sheet,
-        flags,
-        max_depth,
-        numbers,
-        piece_entries,
-        piece_texts,
-    );
-    Imported {
-        drained,
-        read,
-        count,
-        length,
-    }
+    read_pieces(upload, lent, reading.count, piece, outcomes, space);
+    Ok(reading)
 }

@@ -1,2 +1,2 @@
-pub mod Items
-pub mod Strings
+pub mod Each
+pub mod ItemLaws

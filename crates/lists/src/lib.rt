@@ -1,3 +1,3 @@
 // Laws on lists and tests that the library lacks: a choice by a test, parts of lists, a front that is overwritten.
-// Definitions and laws only, in specs/; it rests on nothing.
+// The definitions are in specs/ and their laws in proofs/; it has no functions, and rests on nothing.
 #![tactic(auto)]

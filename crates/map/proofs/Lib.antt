@@ -1,4 +1,3 @@
-pub mod Fields
 pub mod Reading
-pub mod Writing
-pub mod Entries
+pub mod FieldLaws
+pub mod EntryLaws

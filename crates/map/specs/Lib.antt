@@ -1,3 +1,2 @@
-pub mod Field
-pub mod Entry
-pub mod Map
+pub mod Values
+pub mod Fields

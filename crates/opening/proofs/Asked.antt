@@ -1,198 +1,136 @@
--- What is asked before anything is read, "1, 2, 3, 4", by number: refused, or the view, the root and the reader after the root's start tag.
-use Prim.Native.Nat.{ℕ}
-use mathlib.Core.Path.{◌≡◌, refl, sym, ◌∙◌}
-use mathlib.Core.Bool.{Bool, true, false}
-use mathlib.Core.List.{List}
-use mathlib.Core.Option.{Option, none, some}
-use native.Mathlib.Omega.{arith}
-use borrow.Author.Rules.{rules}
-use borrow.Author.Tests.{not-true, not-false}
-use Rattle.lists.proofs.Tests.{false_true}
+-- What is asked before anything is read, "1, 2, 3, 4": each way out is the definition's.
+use mathlib.Core.Path.{◌≡◌, refl, sym, ◌∙◌, ap}
+use mathlib.Core.Bool.{Bool, true, false, not}
+use mathlib.Core.Option as math
+use Rattle.std.specs.Prelude.{Option, Some, None, MatchOption, Result, Ok, Err, ok_or}
+use Rattle.std.specs.Result.{IsErrAnd}
+use Rattle.std.proofs.lemmas.Result.{err_from_is_err_and}
 use Rattle.lists.specs.Decide.{is_yes}
 use Rattle.refusal.specs.declared.Refusal.{Refusal}
 use Rattle.refusal.specs.Answer.{Answer, gives, refuses, onward}
-use Rattle.table.specs.Row.{rows_of, toks_of}
-use Rattle.table.specs.Rules.{TableRules}
+use Rattle.table.specs.Row.{rows_of}
 use Rattle.table.specs.Test.{dec_table}
-use Rattle.table.proofs.Pass.{obeyed}
+use Rattle.table.specs.declared.rows.Table.{Table}
+use Rattle.table.specs.declared.rows.ValidTable.{ValidTable}
 use Rattle.document.specs.View.{view}
-use Rattle.document.specs.View as doc
-use Rattle.document.specs.Scope.{root_of}
+use Rattle.codec.specs.Told.{told}
+use Rattle.readings.specs.Opening.{Opened, Asked, with_table, with_depth, present, rooted, opened, asked}
+use Rattle.readings.specs.Call.{Upload}
 use Rattle.sheet.specs.declared.ShapeDepth.{ShapeDepth}
-use Rattle.sheet.specs.Settings.{Settings, is_strict, too_deep}
-use Rattle.readings.specs.Call.{uploaded}
-use Rattle.readings.specs.Opening.{Opened, Asked, with_table, with_depth, rooted, opened, asked}
-use Rattle.decode.specs.declared.reader.Cursor.{Cursor}
-use Rattle.decode.specs.declared.reader.Past.{Past}
-use Rattle.decode.specs.declared.reader.StartRow.{StartRow}
-use Rattle.decode.specs.declared.reader.Next.{Next}
-use Rattle.decode.specs.declared.view.View.{View}
-use Rattle.decode.specs.Reader.{Outside, StartIn, FoundIn, child_at, RootIs}
-use Rattle.decode.specs.View.{view_at, Viewed, ViewIs}
-use Rattle.opening.specs.declared.Opening.{Opening}
-use Rattle.opening.specs.Opening.{with_sheet, opening_of, RootAt, OpeningIs, AskedIs}
+use Rattle.sheet.specs.declared.Settings.{Settings}
+use Rattle.sheet.specs.Settings.{is_strict, too_deep}
+use Rattle.decode.specs.declared.element.Element.{Element}
+use Rattle.opening.specs.Opening.{upload_of, OpeningIs, asked_where, AskedIs}
 
-abbrev with_it : {S : Type 0} → S → Opened → Answer (Asked S)
-with_it s o = gives (record { sheet = s; opened = o })
+-- ---- `asked` is that
+pub asked_is : {S : Type 0} (u : Upload) (sheet : math.Option S) (settings : Settings) (depth : ShapeDepth)
+    → asked_where (too_deep settings depth) (is_strict settings depth) u sheet ≡ asked u sheet settings depth
+unfolding asked asked_where
+asked_is u sheet settings depth = refl
 
-abbrev sheetless : (A : Type 0) → Answer A
-sheetless A = refuses Refusal.Sheet
+-- ---- by a decision of the rules
+obeyed : {A P : Type 0} (d : Dec P) (a : Answer A) → is_yes d ≡ true → with_table d a ≡ a
+obeyed (yes p) a q = refl
+obeyed (no n) a q = absurd cc
 
-module _ {S : Type 0} (body table : List ℕ) (final : ℕ) (settings : Settings) (depth : ShapeDepth) where
-  pub asked_none : {why : Refusal} {sheet : Option S} → sheet ≡ none
-      → opening_of body table final false (too_deep settings depth) (is_strict settings depth) ≡ refuses why
-      → asked (uploaded body table final) sheet settings depth ≡ refuses why
-  unfolding asked opening_of
-  asked_none {why} e q = rw e (go (dec_table body table final) q)
-    where
-      go : (d : Dec (TableRules body table final)) → with_table d (sheetless Opened) ≡ refuses why → with_table d (sheetless (Asked S))
-          ≡ refuses why
-      go (yes a) q = let z : Refusal.Sheet ≡ why = cc in rw z
-      go (no a) q = let z : Refusal.Table ≡ why = cc in rw z
+refused_by : {A P : Type 0} (d : Dec P) (a : Answer A) → is_yes d ≡ false → with_table d a ≡ refuses Refusal.Table
+refused_by (yes p) a q = absurd cc
+refused_by (no n) a q = refl
 
-  asked_some : (s : S) → asked (uploaded body table final) (some s) settings depth
-      ≡ onward (opening_of body table final true (too_deep settings depth) (is_strict settings depth)) (with_it s)
-  unfolding asked opening_of
-  asked_some s = go (dec_table body table final) (too_deep settings depth)
-      (rooted body (view (is_strict settings depth) body (rows_of table) final))
-    where
-      go : (d : Dec (TableRules body table final)) (b : Bool) (a : Answer Opened) → with_table d (with_depth b (onward a (with_it s)))
-          ≡ onward (with_table d (with_depth b a)) (with_it s)
-      go (yes x) true a = refl
-      go (yes x) false a = refl
-      go (no x) b a = refl
+err_is : {X E : Type 0} (o : Option X) {e d : E} → Err e ≡ ok_or o d → (o ≡ None) × (e ≡ d)
+err_is None q = (refl, cc)
+err_is (Some x) q = absurd cc
 
-  module _ {s : S} {sheet : Option S} (e : sheet ≡ some s) where
-    pub asked_refused : {why : Refusal} → opening_of body table final true (too_deep settings depth) (is_strict settings depth)
-        ≡ refuses why
-        → asked (uploaded body table final) sheet settings depth ≡ refuses why
-    asked_refused q = rw e (rw q at (asked_some s))
+ok_is : {X E : Type 0} (o : Option X) (d : E) {x : X} → Ok x ≡ ok_or o d → o ≡ Some x
+ok_is None d q = absurd cc
+ok_is (Some x) d q = cc
 
-    pub asked_gives : {o : Opened} → opening_of body table final true (too_deep settings depth) (is_strict settings depth) ≡ gives o
-        → asked (uploaded body table final) sheet settings depth ≡ gives (record { sheet = s; opened = o })
-    asked_gives q = rw e (rw q at (asked_some s))
+-- what the test of a table answers
+abbrev CheckIs : Table → Option ValidTable → Type 0
+CheckIs t o =
+    MatchOption o (is_yes (dec_table t.body.now t.rows.now t.end) ≡ false)
+    (λ v. (v.body.now ≡ t.body.now) × (v.rows.now ≡ t.rows.now) × (v.end ≡ t.end))
 
--- where no sheet was read nothing is given
-pub opening_sheet : (body table : List ℕ) (final : ℕ) (ok deep strict : Bool) (o : Opened) → opening_of body table final ok deep strict
-    ≡ gives o → ok ≡ true
-unfolding opening_of
-opening_sheet body table final ok deep strict o q = go ok (dec_table body table final)
-    (with_depth deep (rooted body (view strict body (rows_of table) final))) q
-  where
-    go : (ok : Bool) (d : Dec (TableRules body table final)) (a : Answer Opened) → with_table d (with_sheet ok a) ≡ gives o → ok ≡ true
-    go true d a q = refl
-    go false (yes x) a q = let z : ◌≡◌ {A = ℕ} 0 1 = cc in absurd (omega arith)
-    go false (no x) a q = let z : ◌≡◌ {A = ℕ} 0 1 = cc in absurd (omega arith)
+-- the root of a table that obeys them
+abbrev root_of_table : Bool → ValidTable → Answer Opened
+root_of_table strict v = rooted v.body.now (view strict v.body.now (rows_of v.rows.now) v.end)
 
--- ---- 4
-pub viewed_of : {body t : List ℕ} {v : View} {w : doc.View} → ViewIs body t v w → Viewed body t v
-viewed_of x = x.viewed
+module _ (t : Table) (o : Option ValidTable) (k : CheckIs t o) where
+  no_table : o ≡ None → is_yes (dec_table t.body.now t.rows.now t.end) ≡ false
+  no_table q = rw q at k
 
-module _ {body t : List ℕ} {v : View} {w : doc.View} (x : ViewIs body t v w) {r : Next} (y : RootIs body t v.count r) where
-  pub root_none : {p : Past} → r ≡ Next.Gone p → OpeningIs body t (rooted body w) (Opening.Refused Refusal.NoRoot)
-  root_none {p} e =
-      let z : none ≡ root_of (toks_of body (view_at t v).rows) = rw e at y.is in
-      rw (← x.same) (record { is = rw (← z); known = tt })
+  module _ (v : ValidTable) (q : o ≡ Some v) where
+    same : (v.body.now ≡ t.body.now) × (v.rows.now ≡ t.rows.now) × (v.end ≡ t.end)
+    same = rw q at k
 
-  pub root_found : {s : StartRow} {c : Cursor} → r ≡ Next.Found s c → OpeningIs body t (rooted body w) (Opening.Found v s c)
-  root_found {s} {c} e =
-      let z : some (child_at body t v.count s c) ≡ root_of (toks_of body (view_at t v).rows) = rw e at y.is in
-      let f : FoundIn body t v.count 0 s c = rw e at y.met in
-      rw (← x.same) (record { is = rw (← z); known = record { viewed = x.viewed; start = f.start; stands = f.stands } })
+    past_table : {A : Type 0} (a : Answer A) → with_table (dec_table t.body.now t.rows.now t.end) a ≡ a
+    past_table a = obeyed (dec_table t.body.now t.rows.now t.end) a (rw (same.0, same.1, same.2) at v.obeys.is)
 
-pub ruleset root_laws = (rules, viewed_of, root_none, root_found)
+    same_root : (strict : Bool) → rooted t.body.now (view strict t.body.now (rows_of t.rows.now) t.end) ≡ root_of_table strict v
+    same_root strict = rw (← same.0, ← same.1, ← same.2) refl
 
--- ---- 1, 2, 3, in this order
-pub rules_of : (body t : List ℕ) (final : ℕ) {last : ℕ} {u : Bool} → u ≡ is_yes (dec_table body t final) → u ≡ true → last ≡ final
-    → TableRules body t last
-rules_of body t final e h q = rw q (obeyed body t final e h)
+  -- ---- "1, 4"
+  pub open_none : (strict : Bool) → o ≡ None → OpeningIs t.body.now (opened strict (upload_of t)) (Err Refusal.Table)
+  unfolding opened
+  open_none strict q = record { is = sym (refused_by (dec_table t.body.now t.rows.now t.end) _ (no_table q)); of_body = tt }
 
-module _ (body t : List ℕ) (final : ℕ) {u : Bool} (e : u ≡ is_yes (dec_table body t final)) where
-  module _ (h : u ≡ false) where
-    no_table : (a : Answer Opened) → with_table (dec_table body t final) a ≡ refuses Refusal.Table
-    no_table a = go (dec_table body t final) (sym e ∙ h)
-      where
-        go : (d : Dec (TableRules body t final)) → is_yes d ≡ false → with_table d a ≡ refuses Refusal.Table
-        go (yes x) p = false_true (sym p)
-        go (no x) p = refl
+  pub open_some : (strict : Bool) (v : ValidTable) {r : Result Element Refusal} → o ≡ Some v
+      → OpeningIs v.body.now (root_of_table strict v) r → OpeningIs t.body.now (opened strict (upload_of t)) r
+  unfolding opened
+  open_some strict v {r} q x =
+      rw (past_table v q (rooted t.body.now (view strict t.body.now (rows_of t.rows.now) t.end)), same_root v q strict, ← (same v q).0) x
 
-    pub open_table : (ok deep strict : Bool) → AskedIs body t final ok deep strict (Opening.Refused Refusal.Table)
-    unfolding opening_of
-    open_table ok deep strict = record { opening = record { is = sym (no_table _); known = tt } }
+  -- ---- "1, 2, 3, 4"
+  module _ {S : Type 0} (sheet : Option S) (entered strict : Bool) where
+    abbrev all : Answer (Asked S)
+    all = asked_where (not entered) strict (upload_of t) (told sheet)
 
-    pub opened_table : (strict : Bool) → OpeningIs body t (opened strict (uploaded body t final)) (Opening.Refused Refusal.Table)
-    unfolding opened
-    opened_table strict = record { is = sym (no_table _); known = tt }
+    pub ask_table : {r : Result (S × Element) Refusal} {e : Refusal} → Err e ≡ ok_or o Refusal.Table → IsErrAnd r (λ x. x ≡ e)
+        → AskedIs t.body.now all r
+    unfolding asked_where
+    ask_table {r} q f =
+        let g = err_from_is_err_and r f in
+        let h = err_is o q in
+        rw (g.1, g.2, h.1) (record { is = sym (refused_by (dec_table t.body.now t.rows.now t.end) _ (no_table h.0)); of_body = tt })
 
-  module _ (h : u ≡ true) where
-    a_table : (a : Answer Opened) → with_table (dec_table body t final) a ≡ a
-    a_table a = go (dec_table body t final) (sym e ∙ h)
-      where
-        go : (d : Dec (TableRules body t final)) → is_yes d ≡ true → with_table d a ≡ a
-        go (yes x) p = refl
-        go (no x) p = false_true p
+    -- past the table
+    module _ (v : ValidTable) (p : Ok v ≡ ok_or o Refusal.Table) where
+      after_table : all
+          ≡ onward (present Refusal.Sheet (told sheet)) (λ (s : S). with_depth (not entered) (onward (root_of_table strict v)
+          (λ (o : Opened). gives (record { sheet = s; opened = o }))))
+      unfolding asked_where
+      after_table =
+          past_table v (ok_is o Refusal.Table p) _ ∙ rw (same_root v (ok_is o Refusal.Table p) strict) refl
 
-    pub opened_root : (strict : Bool) {last : ℕ} {r : Opening} → last ≡ final
-        → OpeningIs body t (rooted body (view strict body (rows_of t) last)) r → OpeningIs body t (opened strict (uploaded body t final)) r
-    unfolding opened
-    opened_root strict q x = rw (a_table, ← q) x
+      pub ask_sheet : {r : Result (S × Element) Refusal} {e : Refusal} → Err e ≡ ok_or sheet Refusal.Sheet → IsErrAnd r (λ x. x ≡ e)
+          → AskedIs t.body.now all r
+      ask_sheet {r} q f =
+          let g = err_from_is_err_and r f in
+          let h = err_is sheet q in
+          rw (g.1, g.2, h.1, after_table) (record { is = rw (h.0) refl; of_body = tt })
 
-    module _ {ok : Bool} (deep strict : Bool) where
-      pub open_sheet : ok ≡ false → AskedIs body t final ok deep strict (Opening.Refused Refusal.Sheet)
-      unfolding opening_of
-      open_sheet o = record { opening = record { is = rw (a_table, o); known = tt } }
+      -- past the sheet
+      module _ (s : S) (y : Ok s ≡ ok_or sheet Refusal.Sheet) where
+        after_sheet : all ≡ with_depth (not entered)
+            (onward (root_of_table strict v) (λ (o : Opened). gives (record { sheet = s; opened = o })))
+        after_sheet = rw (after_table, ok_is sheet Refusal.Sheet y) refl
 
-      module _ (o : ok ≡ true) where
-        pub open_depth : deep ≡ true → AskedIs body t final ok deep strict (Opening.Refused Refusal.Depth)
-        unfolding opening_of
-        open_depth g = record { opening = record { is = rw (a_table, o, g); known = tt } }
+        pub ask_depth : entered ≡ false → AskedIs t.body.now all (Err Refusal.Depth)
+        ask_depth q = rw after_sheet (record { is = rw q refl; of_body = tt })
 
-        pub open_root : {last : ℕ} {r : Opening} → deep ≡ false → last ≡ final
-            → OpeningIs body t (rooted body (view strict body (rows_of t) last)) r → AskedIs body t final ok deep strict r
-        unfolding opening_of
-        open_root g q x = record { opening = rw (a_table, o, g, ← q) x }
+        pub ask_root : {r : Result (S × Element) Refusal} {e : Refusal} → entered ≡ true
+            → OpeningIs v.body.now (root_of_table strict v) (Err e) → IsErrAnd r (λ x. x ≡ e) → AskedIs t.body.now all r
+        ask_root {r} {e} q x f =
+            let g = err_from_is_err_and r f in
+            rw (g.1, g.2, after_sheet, q) (record {
+              is = ap (λ a. onward a (λ (o : Opened). gives (record { sheet = s; opened = o }))) x.is;
+              of_body = tt;
+            })
 
-pub ruleset opening_laws = (rules, not-true, not-false, rules_of, open_table, opened_table, opened_root, open_sheet, open_depth, open_root)
-
--- ---- what was asked, in a sheet of any kind
-module _ {body t : List ℕ} {final : ℕ} {ok deep strict : Bool} {r : Opening} (a : AskedIs body t final ok deep strict r) where
-  pub asked_why : {why : Refusal} → r ≡ Opening.Refused why → opening_of body t final ok deep strict ≡ refuses why
-  asked_why q = sym (rw q at a.opening.is)
-
-  module _ {v : View} {s : StartRow} {c : Cursor} (q : r ≡ Opening.Found v s c) where
-    pub asked_root : RootAt body t v s c
-    asked_root = rw q at a.opening.known
-
-    pub asked_opened : opening_of body t final ok deep strict ≡ gives (record { seen = view_at t v; root = child_at body t v.count s c })
-    asked_opened = sym (rw q at a.opening.is)
-
-    pub asked_ok : ok ≡ true
-    asked_ok = opening_sheet body t final ok deep strict _ asked_opened
-
-  -- the definition's answer, for a sheet that says s where it could be read, at these settings and this depth
-  module _ (settings : Settings) (depth : ShapeDepth) (d : deep ≡ too_deep settings depth) (i : strict ≡ is_strict settings depth)
-      {S : Type 0} {sheet : Option S} {said : S}
-      (there : ok ≡ true → sheet ≡ some said) where
-    pub asked_early : (ok ≡ false → sheet ≡ none) → {why : Refusal} → r ≡ Opening.Refused why
-        → asked (uploaded body t final) sheet settings depth
-        ≡ refuses why
-    asked_early broken {why} q = go ok refl
-      where
-        go : (b : Bool) → ok ≡ b → asked (uploaded body t final) sheet settings depth ≡ refuses why
-        go true o = asked_refused body t final settings depth (there o) (rw (o, d, i) at (asked_why q))
-        go false o = asked_none body t final settings depth (broken o) (rw (o, d, i) at (asked_why q))
-
-    pub asked_found : {v : View} {s : StartRow} {c : Cursor} → r ≡ Opening.Found v s c
-        → asked (uploaded body t final) sheet settings depth
-        ≡ gives (record { sheet = said; opened = record { seen = view_at t v; root = child_at body t v.count s c } })
-    asked_found q = asked_gives body t final settings depth (there (asked_ok q)) (rw (asked_ok q, d, i) at (asked_opened q))
-
-module _ {body t : List ℕ} {v : View} {s : StartRow} {c : Cursor} (x : RootAt body t v s c) where
-  pub root_viewed : Viewed body t v
-  root_viewed = x.viewed
-
-  pub root_start : StartIn body t v.count s
-  root_start = x.start
-
-  pub root_stands : Outside body t v.count c.depth.0 c.row
-  root_stands = x.stands
+        pub ask_done : (e : Element) → entered ≡ true
+            → OpeningIs v.body.now (root_of_table strict v) (Ok e) → AskedIs t.body.now all (Ok (s, e))
+        ask_done e q x =
+            rw (after_sheet, q) (record {
+              is = ap (λ a. onward a (λ (o : Opened). gives (record { sheet = s; opened = o }))) x.is;
+              of_body = x.of_body ∙ (same v (ok_is o Refusal.Table p)).0;
+            })

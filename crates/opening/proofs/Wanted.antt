@@ -1,34 +1,20 @@
 -- Which children are wanted.
-use Prim.Native.Nat.{ℕ}
-use mathlib.Core.Path.{◌≡◌, refl, sym, ◌∙◌}
-use mathlib.Core.Bool.{Bool, true, false}
-use mathlib.Core.List.{List}
-use mathlib.Core.Option.{Option, none, some}
-use borrow.Author.Rules.{rules}
-use Rattle.table.specs.Row.{Name}
-use Rattle.decode.specs.Rows.{name_at}
-use Rattle.document.specs.Names.{name_matches}
-use Rattle.document.specs.Scope.{Child}
+use mathlib.Core.Path.{◌≡◌, refl}
+use mathlib.Core.Bool.{Bool, true}
+use Rattle.std.specs.Prelude.{Option, Some, None}
+use Rattle.table.specs.declared.patterns.Pattern.{Pattern}
+use Rattle.table.specs.Names.{name_matches}
 use Rattle.readings.specs.Collection.{is_wanted}
-use Rattle.decode.specs.declared.reader.StartRow.{StartRow}
-use Rattle.decode.specs.declared.reader.Cursor.{Cursor}
-use Rattle.decode.specs.Reader.{child_at}
-use Rattle.opening.specs.Wanted.{name_if, wanted}
+use Rattle.decode.specs.declared.element.Element.{Element}
+use Rattle.decode.specs.Element.{child_of}
+use Rattle.opening.specs.Wanted.{asked_by}
 
-wanted_is : (nm : Option (List ℕ)) (c : Child) → is_wanted nm c ≡ wanted nm c.start.name
-unfolding is_wanted
-wanted_is none c = refl
-wanted_is (some name) c = refl
+module _ (e : Element) {name : Option Pattern} where
+  pub wanted_named : {p : Pattern} {r : Bool} → name ≡ Some p → r ≡ name_matches (child_of e).start.name p.whole.now
+      → r ≡ is_wanted (asked_by name) (child_of e)
+  unfolding is_wanted
+  wanted_named q x = rw q x
 
-pub is_it : (body t : List ℕ) (n : ℕ) (nm : Option (List ℕ)) (s : StartRow) (c : Cursor) {u : Bool} → u
-    ≡ wanted nm (name_at body t s.row) → is_wanted nm (child_at body t n s c) ≡ u
-is_it body t n nm s c e = wanted_is nm (child_at body t n s c) ∙ sym e
-
-module _ (name : List ℕ) (m : Name) {named : Bool} where
-  pub wanted_named : {r : Bool} → named ≡ true → r ≡ name_matches m name → r ≡ wanted (name_if named name) m
-  wanted_named e q = rw e q
-
-  pub wanted_all : named ≡ false → true ≡ wanted (name_if named name) m
-  wanted_all e = rw e
-
-pub ruleset wanted_laws = (rules, wanted_named, wanted_all)
+  pub wanted_any : name ≡ None → true ≡ is_wanted (asked_by name) (child_of e)
+  unfolding is_wanted
+  wanted_any q = rw q refl

@@ -1,3 +1,2 @@
-pub mod Level
 pub mod Opening
 pub mod Wanted

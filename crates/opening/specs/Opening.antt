@@ -1,53 +1,68 @@
--- What is asked before anything is read, "1, 2, 3, 4", by number: refused, or the view, the root and the reader after the root's start tag.
-use Rattle.std.specs.Prelude.{ℕ, ◌≡◌, Bool, true, false, List}
+-- What is asked before anything is read, "1, 2, 3, 4": refused, or a root, and what a root that was found stands for.
+use Rattle.std.specs.Prelude.{ℕ, ◌≡◌, Bool, List, Result, Ok, Err}
+use Rattle.std.proofs.Math.Option.{Option}
 use Rattle.refusal.specs.declared.Refusal.{Refusal}
-use Rattle.refusal.specs.Answer.{Answer, gives, refuses}
+use Rattle.refusal.specs.Answer.{Answer, gives, refuses, onward}
 use Rattle.table.specs.Row.{rows_of}
 use Rattle.table.specs.Test.{dec_table}
+use Rattle.table.specs.declared.rows.Table.{Table}
 use Rattle.document.specs.View.{view}
-use Rattle.readings.specs.Opening.{Opened, with_table, with_depth, rooted}
-use Rattle.decode.specs.declared.reader.Cursor.{Cursor}
-use Rattle.decode.specs.declared.reader.StartRow.{StartRow}
-use Rattle.decode.specs.declared.view.View.{View}
-use Rattle.decode.specs.Reader.{Outside, StartIn, child_at}
-use Rattle.decode.specs.View.{view_at, Viewed}
-use Rattle.opening.specs.declared.Opening.{Opening}
+use Rattle.document.specs.Scope.{root_of}
+use Rattle.readings.specs.Call.{Upload, uploaded}
+use Rattle.readings.specs.Opening.{Opened, Asked, with_table, with_depth, present, rooted}
+use Rattle.decode.specs.declared.element.Element.{Element}
+use Rattle.decode.specs.View.{view_of}
+use Rattle.decode.specs.Element.{child_of}
 
--- ---- `asked` with a sheet that was read elsewhere: whether it could be read is all that counts
-abbrev pub with_sheet : {A : Type 0} → Bool → Answer A → Answer A
-with_sheet true a = a
-with_sheet false a = refuses Refusal.Sheet
+-- a table that is lent, with its body
+abbrev pub upload_of : Table → Upload
+upload_of t = uploaded t.body.now t.rows.now t.end
 
-unfoldable pub opening_of : List ℕ → List ℕ → ℕ → Bool → Bool → Bool → Answer Opened
-opening_of body table final ok deep strict =
-    with_table (dec_table body table final)
-    (with_sheet ok
-    (with_depth deep
-    (rooted body (view strict body (rows_of table) final))))
+-- ---- what a root that was found stands for
+-- the body that an element is of
+abbrev pub body_of : Element → List ℕ
+body_of e = e.view.table.body.now
 
--- ---- what the functions answer
--- a root by its row, in a view by number
-abbrev pub opened_at : List ℕ → List ℕ → View → StartRow → Cursor → Opened
-opened_at body t v s c = record { seen = view_at t v; root = child_at body t v.count s c }
+-- what is read: its view, and the element as the root
+abbrev pub opened_of : Element → Opened
+opened_of e = record { seen = view_of e.view; root = child_of e }
 
-abbrev pub answer_of : List ℕ → List ℕ → Opening → Answer Opened
-answer_of body t (Opening.Refused why) = refuses why
-answer_of body t (Opening.Found v s c) = gives (opened_at body t v s c)
+-- the same with a sheet
+abbrev pub asked_of : {S : Type 0} → S → Element → Asked S
+asked_of s e = record { sheet = s; opened = opened_of e }
 
--- what is known of a root
-pub record RootAt (body t : List ℕ) (v : View) (s : StartRow) (c : Cursor) : Type 0 where
-  pub viewed : Viewed body t v
-  pub start : StartIn body t v.count s
-  pub stands : Outside body t v.count c.depth.0 c.row
+-- ---- what is answered: a root of the body
+abbrev pub opened_as : Result Element Refusal → Answer Opened
+opened_as (Ok e) = gives (opened_of e)
+opened_as (Err why) = refuses why
 
-abbrev pub Known : List ℕ → List ℕ → Opening → Type 0
-Known body t (Opening.Refused why) = Unit {0}
-Known body t (Opening.Found v s c) = RootAt body t v s c
+abbrev pub OfBody : List ℕ → Result Element Refusal → Type 0
+OfBody body (Ok e) = body_of e ≡ body
+OfBody body (Err why) = Unit {0}
 
-pub record OpeningIs (body t : List ℕ) (a : Answer Opened) (r : Opening) : Type 0 where
-  pub is : answer_of body t r ≡ a
-  pub known : Known body t r
+pub record OpeningIs (body : List ℕ) (a : Answer Opened) (r : Result Element Refusal) : Type 0 where
+  pub is : opened_as r ≡ a
+  pub of_body : OfBody body r
 
--- with a sheet
-pub record AskedIs (body t : List ℕ) (final : ℕ) (ok deep strict : Bool) (r : Opening) : Type 0 where
-  pub opening : OpeningIs body t (opening_of body t final ok deep strict) r
+-- ---- `asked`, where it was found out before whether the depth is too deep and the reading strict
+unfoldable pub asked_where : {S : Type 0} → Bool → Bool → Upload → Option S → Answer (Asked S)
+unfolding dec_table view root_of
+asked_where {S} deep strict u sheet =
+    with_table (dec_table u.body u.rows u.end)
+    (onward (present Refusal.Sheet sheet) (λ (s : S).
+    with_depth deep
+    (onward (rooted u.body (view strict u.body (rows_of u.rows) u.end))
+    (λ (o : Opened). gives (record { sheet = s; opened = o })))))
+
+-- what is answered: the sheet, and a root of the body
+abbrev pub asked_as : {S : Type 0} → Result (S × Element) Refusal → Answer (Asked S)
+asked_as (Ok p) = gives (asked_of p.0 p.1)
+asked_as (Err why) = refuses why
+
+abbrev pub AskedOfBody : {S : Type 0} → List ℕ → Result (S × Element) Refusal → Type 0
+AskedOfBody body (Ok p) = body_of p.1 ≡ body
+AskedOfBody body (Err why) = Unit {0}
+
+pub record AskedIs {S : Type 0} (body : List ℕ) (a : Answer (Asked S)) (r : Result (S × Element) Refusal) : Type 0 where
+  pub is : asked_as r ≡ a
+  pub of_body : AskedOfBody body r

@@ -1,14 +1,16 @@
--- Which children are wanted.
-use Rattle.std.specs.Prelude.{ℕ, Bool, true, List}
-use Rattle.std.proofs.Math.Option.{Option, none, some}
-use Rattle.lists.specs.Tests.{pick}
-use Rattle.table.specs.Row.{Name}
-use Rattle.document.specs.Names.{name_matches}
+-- Which children of a collection are wanted, and "9 last".
+use Rattle.std.specs.Prelude.{ℕ, Bool, true, false, List, Option, Some, None, Result, Ok, Err}
+use Rattle.std.proofs.Math.Option as math
+use Rattle.refusal.specs.declared.Refusal.{Refusal}
+use Rattle.table.specs.declared.patterns.Pattern.{Pattern}
 
--- a name that is asked for, or none
-abbrev pub name_if : Bool → List ℕ → Option (List ℕ)
-name_if named name = pick named (some name) none
+-- the name that a pattern asks for, if there is one
+abbrev pub asked_by : Option Pattern → math.Option (List ℕ)
+asked_by None = math.none
+asked_by (Some p) = math.some p.whole.now
 
-abbrev pub wanted : Option (List ℕ) → Name → Bool
-wanted none m = true
-wanted (some name) m = name_matches m name
+-- "9 last": an answer, tested once the children are read
+abbrev pub last_of : {A : Type 0} → Bool → Result A Refusal → Result A Refusal
+last_of true (Ok a) = Err Refusal.IllFormed
+last_of false (Ok a) = Ok a
+last_of ill (Err why) = Err why

@@ -1,7 +1,5 @@
-pub mod Room
-pub mod Texts
+pub mod Writing
+pub mod Groups
 pub mod Then
 pub mod Called
-pub mod Sound
-pub mod Kept
 pub mod Siblings

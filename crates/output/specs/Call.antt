@@ -1,9 +1,23 @@
 -- The promise of a reading that is called from outside: its number, its count, how many text bytes there are, and both buffers, written
 -- or not.
-use Rattle.std.specs.Prelude.{ℕ, ◌≡◌, List, length}
+use Rattle.std.specs.Prelude.{ℕ, ◌/◌, ◌≡◌, List, Result, Ok, Err, length}
 use Rattle.lists.specs.Overwrite.{overwritten}
+use Rattle.refusal.specs.declared.Refusal.{Refusal}
+use Rattle.refusal.specs.Numbers.{number, place}
 use Rattle.readings.specs.Output.{Room, Reading, told}
-use Rattle.output.specs.Held.{room_of}
+
+-- the room of two buffers
+abbrev pub room_of : List ℕ → List ℕ → Room
+room_of e t = record { entries = length e / 6; bytes = length t }
+
+-- what an answer tells: its number, 0 where the reading finished, and the place beside it
+abbrev pub number_of : {A : Type 0} → Result A Refusal → ℕ
+number_of (Ok a) = 0
+number_of (Err why) = number why
+
+abbrev pub place_of : {A : Type 0} → Result A Refusal → ℕ
+place_of (Ok a) = 0
+place_of (Err why) = place why
 
 -- `reading` is what the definition says in the room that was lent; e and t are what the buffers held, and e' and t' what they hold; n is
 -- the count, m how many text bytes there are, and r the number

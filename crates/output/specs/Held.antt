@@ -1,73 +1,80 @@
 -- What the lent buffers hold: what was written at the front, all else as before. And what a plan that is performed leaves in them.
-use Rattle.std.specs.Prelude.{ℕ, ◌+◌, ◌*◌, ◌/◌, ◌^◌, ◌≤◌, ◌<◌, ◌≡◌, Bool, false, List, ltb, leb, length}
+use Rattle.std.specs.Prelude.{ℕ, ◌+◌, ◌*◌, ◌/◌, ◌-◌, ◌^◌, ◌≤◌, ◌<◌, ◌≡◌, Bool, false, List, Result, Ok, Err, min, ltb, leb, length}
+use Rattle.std.specs.Borrow.{MutBor}
+use Rattle.std.proofs.lemmas.List.Edits.{sets}
 use Rattle.lists.specs.Tests.{pick}
 use Rattle.lists.specs.Overwrite.{overwritten}
-use Rattle.reference.specs.Text.{bytes, unescaped, meaning}
-use Rattle.readings.specs.Output.{Room, Output, Reading, finished, refused, output, numbers_of}
+use Rattle.refusal.specs.declared.Refusal.{Refusal}
+use Rattle.readings.specs.Output.{Room, Output, Reading, finished, refused, output, numbers_of, six_numbers}
 use Rattle.readings.specs.Plan.{Plan, perform}
-use Rattle.output.specs.declared.Written.{Written}
-use Rattle.output.specs.declared.Step.{Step}
+use Rattle.output.specs.declared.entry.Entry.{Entry}
+use Rattle.output.specs.declared.Output.{Output as Buffers}
+use Rattle.output.specs.Entry.{entry_of}
 
--- the room of two buffers
-abbrev pub room_of : List ℕ → List ℕ → Room
-room_of e t = record { entries = length e / 6; bytes = length t }
+-- the room of two buffers of these lengths: no more text is written than has places of 32 bits, and no reading comes to more
+abbrev pub room_in : ℕ → ℕ → Room
+room_in e t = record { entries = e / 6; bytes = min t (2 ^ 32 - 1) }
 
--- the buffers, which held e0 and t0, hold e and t: all of an output at their fronts, and w counts it
-pub record Holds (out : Output) (e0 t0 e t : List ℕ) (w : Written) : Type 0 where
-  pub count : w.count ≡ length out.entries
-  pub used : w.used ≡ length out.texts
-  pub entries : e ≡ overwritten e0 (numbers_of out.entries)
-  pub texts : t ≡ overwritten t0 out.texts
-  pub same_entries : length e ≡ length e0
-  pub same_texts : length t ≡ length t0
-  pub bytes : length out.texts ≤ length t0
+-- the buffers, which held e and t at first, hold all of an output at their fronts, and count it
+pub record Holds (out : Output) (e t : List ℕ) (b : Buffers) : Type 0 where
+  pub count : b.count ≡ length out.entries
+  pub used : b.used ≡ length out.texts
+  pub entries : b.entries.now ≡ overwritten e (numbers_of out.entries)
+  pub texts : b.texts.now ≡ overwritten t out.texts
+  pub same_entries : length b.entries.now ≡ length e
+  pub same_texts : length b.texts.now ≡ length t
+  pub bytes : length out.texts ≤ (room_in (length e) (length t)).bytes
 
--- what a step's answer says of the reading so far
-abbrev pub reading_of : Step → Output → Reading
-reading_of (Step.Done w) out = finished out
-reading_of (Step.Refused r w) out = refused r out
-
-abbrev pub written_of : Step → Written
-written_of (Step.Done w) = w
-written_of (Step.Refused r w) = w
+-- what an answer says of the reading so far
+abbrev pub reading_of : {A : Type 0} → Result A Refusal → Output → Reading
+reading_of (Ok a) out = finished out
+reading_of (Err r) out = refused r out
 
 -- the buffers hold what a reading wrote, and the answer is its answer
-pub record Ends (x : Reading) (e0 t0 e t : List ℕ) (r : Step) : Type 0 where
+pub record Ends (x : Reading) (e t : List ℕ) (b : Buffers) (r : Result (Unit {0}) Refusal) : Type 0 where
   pub is : x ≡ reading_of r (output x)
-  pub holds : Holds (output x) e0 t0 e t (written_of r)
+  pub holds : Holds (output x) e t b
+
+-- they are the buffers that they were
+pub record SameBuffers (b b' : Buffers) : Type 0 where
+  pub entries : b'.entries.ghost_name ≡ b.entries.ghost_name
+  pub texts : b'.texts.ghost_name ≡ b.texts.ghost_name
 
 -- THE PROMISE of a function that writes: whatever the buffers held at first, if they hold an output as it is called, they end as the
 -- definition's plan ends that is performed from that output on
-pub record Does (plan : Plan) (e t : List ℕ) (w : Written) (e' t' : List ℕ) (r : Step) : Type 0 where
-  pub is : {e0 t0 : List ℕ} {out : Output} → Holds out e0 t0 e t w → Ends (perform (room_of e0 t0) plan out) e0 t0 e' t' r
+pub record Does (plan : Plan) (b b' : Buffers) (r : Result (Unit {0}) Refusal) : Type 0 where
+  pub is : {e t : List ℕ} {out : Output} → Holds out e t b
+      → Ends (perform (room_in (length e) (length t)) plan out) e t b' r
+  pub same : SameBuffers b b'
 
--- the promise of a function that is not lent the texts, whatever they are
-pub record Enters (plan : Plan) (e : List ℕ) (w : Written) (e' : List ℕ) (r : Step) : Type 0 where
-  pub is : (t : List ℕ) → Does plan e t w e' t r
+-- nothing is written yet into two buffers
+pub record Begun (e t : MutBor (List ℕ)) (b : Buffers) : Type 0 where
+  pub entries : b.entries ≡ e
+  pub texts : b.texts ≡ t
+  pub count : b.count ≡ 0
+  pub used : b.used ≡ 0
 
--- ---- what a function that writes asks
--- `fits`, in numbers: whether an entry and n text bytes more fit into buffers of these lengths
-abbrev pub room_for : ℕ → ℕ → Written → ℕ → Bool
-room_for entries texts w n = pick (ltb w.count (entries / 6)) (leb (w.used + n) texts) false
+-- ---- the two steps of a write
+-- there is room for an entry with n bytes of text
+pub record Fits (b : Buffers) (n : ℕ) : Type 0 where
+  pub entry : b.count < length b.entries.now / 6
+  pub bytes : b.used + n ≤ min (length b.texts.now) (2 ^ 32 - 1)
 
-pub record HasRoom (entries texts : ℕ) (w : Written) (n : ℕ) (r : Bool) : Type 0 where
-  pub is : r ≡ room_for entries texts w n
+-- the place of its bytes, where there is room
+abbrev pub place_in : Buffers → ℕ → Bool → Result ℕ Refusal
+place_in b n fits = pick fits (Ok b.used) (Err Refusal.NoRoom)
 
--- each place stays a 32-bit number where n text bytes more are written
-pub record Ready (w : Written) (n : ℕ) : Type 0 where
-  pub small : w.used + n < 2 ^ 32
+-- `fits`, in numbers
+abbrev pub has_room : Buffers → ℕ → Bool
+has_room b n = pick (ltb b.count (length b.entries.now / 6)) (leb (b.used + n) (min (length b.texts.now) (2 ^ 32 - 1))) false
 
--- the references of a text are right, and it comes to n bytes
-pub record Comes (txt : List ℕ) (n : ℕ) : Type 0 where
-  pub is : unescaped txt ≡ bytes (meaning (unescaped txt))
-  pub size : n ≡ length (meaning (unescaped txt))
+pub record PlaceFor (b : Buffers) (n : ℕ) (r : Result ℕ Refusal) : Type 0 where
+  pub is : r ≡ pick (has_room b n) (Ok b.used) (Err Refusal.NoRoom)
 
--- ---- what a function over many entries asks and promises of the numbers alone
--- what is counted lies in the buffers
-pub record Sound (e t : List ℕ) (w : Written) : Type 0 where
-  pub entries : w.count * 6 ≤ length e
-  pub texts : w.used ≤ length t
-
--- how many text bytes a plan adds at most
-pub record Adds (plan : Plan) (n : ℕ) : Type 0 where
-  pub most : (room : Room) (out : Output) → length (output (perform room plan out)).texts ≤ length out.texts + n
+-- the numbers of an entry stand where the next entry's do, and it is counted with its n bytes
+pub record Pushed (entry : Entry) (n : ℕ) (b b' : Buffers) : Type 0 where
+  pub entries : b'.entries.now ≡ sets b.entries.now (b.count * 6) (six_numbers (entry_of entry))
+  pub texts : b'.texts.now ≡ b.texts.now
+  pub count : b'.count ≡ b.count + 1
+  pub used : b'.used ≡ b.used + n
+  pub same : SameBuffers b b'

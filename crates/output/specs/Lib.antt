@@ -1,4 +1,5 @@
+pub mod Entry
+pub mod Kept
 pub mod Plans
 pub mod Held
 pub mod Call
-pub mod Kept

@@ -1,431 +1,171 @@
-// What the readings write: entries, six numbers each, into one lent buffer, and texts into another, counted by a `Written`. What is
-// written is defined in `readings` (Output.antt, Structure.antt); each function refuses where the definition has no room, and then leaves
-// both buffers as they were. The crate rests on `unescape` and `slices` for the bytes of a text, and on `refusal` for numbers.
+// What the readings write: entries, six numbers each, into one lent buffer, and texts into another. What is written is defined in
+// `readings` (Output.antt, Structure.antt); each method refuses where the definition has no room, and then leaves both buffers as they
+// were. The crate rests on `document` for the texts and pieces of a body, on `slices` for a copy, and on `refusal` for numbers.
 #![tactic(auto)]
 
-ghost use Rattle.std.specs.Prelude.{◌≡◌, [], ◌∷◌, ◌++◌, ◌+◌, ◌*◌, ◌^◌, ◌≤◌, ◌<◌, length};
-ghost use Rattle.std.proofs.lemmas.List.Edits.{sets};
-ghost use Rattle.lists.specs.Overwrite.{Stored};
-ghost use Rattle.refusal.specs.Numbers.{SmallPlace};
-ghost use Rattle.reference.specs.Text.{unescaped, meaning};
-ghost use Rattle.readings.specs.Output.{six_numbers};
-ghost use Rattle.output.specs.Plans.{entry_of, entered, piece, failed, measured, text, scalar, key_text, key_piece, group};
-ghost use Rattle.output.specs.Held.{HasRoom, Does, Enters, Comes, Ready};
-ghost use Rattle.output.specs.Kept.{is_kept, GroupLen, kept_bytes, flat, Inside, Wide};
+ghost use Rattle.std.specs.Prelude.{◌≡◌, ◌+◌, ◌^◌, ◌≤◌, ◌<◌, length};
+ghost use Rattle.output.specs.Kept.{flat, Inside};
+ghost use Rattle.output.specs.Plans.{put_piece, put_failed, put_measured, put_text, put_scalar, put_key_text, put_key_piece, put_group};
+ghost use Rattle.output.specs.Held.{Begun, Does, PlaceFor, Pushed, Fits};
 
-pub mod kind;
+pub mod entry;
+pub mod kept;
 
-use crate::kind::{FAILED, GROUP, PIECE, TEXT};
-use reference::Unescaped;
-use refusal::{Refusal, bad_at};
+use crate::entry::{Entry, Kind};
+use crate::kept::{Kept, flat_len, put_flat};
+use document::part::{Measured, Piece, Text};
+use refusal::Refusal;
 
-// How many entries, and how many text bytes, are written.
-#[derive(Clone, Copy)]
-pub struct Written {
+// Places in the text buffer are told as 32-bit numbers, so no more of it is written. No body comes to so many bytes of text.
+const MOST: usize = 0xffff_ffff;
+
+// The two lent buffers, and how much of them is written: how many entries, and how many text bytes.
+#[derive(Drop)]
+pub struct Output<'a> {
+    pub entries: &'a mut [u32],
+    pub texts: &'a mut [u8],
     pub count: usize,
     pub used: usize,
 }
 
-// A step of a reading: it goes on, or it is refused; with what is written then.
-#[derive(Clone, Copy)]
-pub enum Step {
-    Done(Written),
-    Refused(Refusal, Written),
-}
-
-// The six numbers of an entry.
-#[derive(Clone, Copy)]
-pub struct Six {
-    pub kind: u32,
-    pub member: u32,
-    pub key_start: u32,
-    pub key_len: u32,
-    pub start: u32,
-    pub len: u32,
-}
-
-// Whether an entry and n text bytes more fit into buffers of these lengths.
-fn has_room(entries: usize, texts: usize, w: Written, n: usize) -> bool
-    requires { Ready w n }
-    ensures { HasRoom entries texts w n result }
-{
-    let used = w.used;
-    if w.count < entries / 6 {
-        return used + n <= texts;
+impl<'a> Output<'a> {
+    // Nothing is written yet.
+    pub fn new(entries: &'a mut [u32], texts: &'a mut [u8]) -> Output<'a>
+        ensures { Begun entries.entry texts.entry result }
+    {
+        Output {
+            entries,
+            texts,
+            count: 0,
+            used: 0,
+        }
     }
-    false
-}
 
-// Stores the numbers of entry k.
-fn put_entry(entries: &mut [u32], k: usize, s: Six)
-    requires { k * 6 + 6 ≤ length entries.old }
-    ensures { entries.new ≡ sets entries.old (k * 6) (six_numbers (entry_of s)) }
-{
-    let at = k * 6;
-    entries[at] = s.kind;
-    entries[at + 1] = s.member;
-    entries[at + 2] = s.key_start;
-    entries[at + 3] = s.key_len;
-    entries[at + 4] = s.start;
-    entries[at + 5] = s.len;
-}
-
-// ---- entries without text
-
-fn write_entry(entries: &mut [u32], w: Written, s: Six) -> Step
-    ensures { Enters (entered s []) entries.old w entries.new result }
-{
-    let count = w.count;
-    if count < entries.len() / 6 {
-        put_entry(entries, count, s);
-        return Step::Done(Written {
-            count: count + 1,
-            used: w.used,
-        });
+    // Tests the room for an entry with so many bytes of text, and answers where these begin.
+    fn place(&self, len: usize) -> Result<u32, Refusal>
+        ensures { PlaceFor self.now len result }
+    {
+        let room = self.texts.len().min(MOST);
+        if self.count < self.entries.len() / 6 && self.used <= room && len <= room - self.used {
+            return Ok(self.used as u32);
+        }
+        Err(Refusal::NoRoom)
     }
-    Step::Refused(Refusal::NoRoom, w)
-}
 
-// A piece of the body, for a member.
-pub fn write_piece(entries: &mut [u32], w: Written, member: u32, start: u32, len: u32) -> Step
-    ensures { Enters (piece member start len) entries.old w entries.new result }
-{
-    write_entry(
-        entries,
-        w,
-        Six {
-            kind: PIECE,
-            member,
-            key_start: 0,
-            key_len: 0,
-            start,
-            len,
-        },
-    )
-}
-
-// A text that failed, for a member: the refusal's number, and the place beside it.
-pub fn write_failed(entries: &mut [u32], w: Written, member: u32, why: Refusal) -> Step
-    ensures { Enters (failed member why) entries.old w entries.new result }
-{
-    let start = refusal::number_of(why);
-    let len = refusal::place_of(why);
-    write_entry(
-        entries,
-        w,
-        Six {
-            kind: FAILED,
-            member,
-            key_start: 0,
-            key_len: 0,
-            start,
-            len,
-        },
-    )
-}
-
-// ---- entries with texts
-
-// An entry, and what two texts that were measured come to, one after the other. Room is tested for all of it together.
-fn write_texts(
-    first: &[u8],
-    n: usize,
-    second: &[u8],
-    m: usize,
-    s: Six,
-    entries: &mut [u32],
-    texts: &mut [u8],
-    w: Written,
-) -> Step
-    requires comes { Comes first.now n }
-    requires comes_2 { Comes second.now m }
-    requires ready { Ready w (n + m) }
-    ensures { Does (entered s (meaning (unescaped first.now) ++ meaning (unescaped second.now)))
-        entries.old texts.old w
-        entries.new texts.new result }
-{
-    let count = w.count;
-    let used = w.used;
-    if has_room(entries.len(), texts.len(), w, n + m) {
-        unescape::fill(first, &mut texts[used..]);
-        let at = used + n;
-        unescape::fill(second, &mut texts[at..]);
-        put_entry(entries, count, s);
-        return Step::Done(Written {
-            count: count + 1,
-            used: at + m,
-        });
+    // Stores an entry, and counts it with its bytes of text.
+    #[tactic(auto, using(crate::proofs::Writing::put_sets))]
+    fn push(&mut self, entry: Entry, len: usize)
+        requires { Fits self.old len }
+        ensures { Pushed entry len self.old self.new }
+    {
+        let at = self.count * 6;
+        self.entries[at..at + 6].copy_from_slice(&entry.numbers());
+        self.count += 1;
+        self.used += len;
     }
-    Step::Refused(Refusal::NoRoom, w)
-}
 
-// A text that was measured, for a member.
-fn write_measured(
-    txt: &[u8],
-    n: usize,
-    member: u32,
-    entries: &mut [u32],
-    texts: &mut [u8],
-    w: Written,
-) -> Step
-    requires comes { Comes txt.now n }
-    requires ready { Ready w n }
-    ensures { Does (measured member txt.now) entries.old texts.old w
-        entries.new texts.new result }
-{
-    let used = w.used;
-    write_texts(
-        txt,
-        n,
-        b"",
-        0,
-        Six {
-            kind: TEXT,
-            member,
-            key_start: 0,
-            key_len: 0,
-            start: used as u32,
-            len: n as u32,
-        },
-        entries,
-        texts,
-        w,
-    )
-}
-
-// The text of a span that begins at `from` in the body, unescaped, or 7: an item of a string list. 7 comes before 10.
-pub fn write_text(
-    txt: &[u8],
-    from: usize,
-    member: u32,
-    entries: &mut [u32],
-    texts: &mut [u8],
-    w: Written,
-) -> Step
-    requires ready { Ready w (length txt.now) }
-    requires small_place { SmallPlace from (length txt.now) }
-    ensures { Does (text member from txt.now) entries.old texts.old w
-        entries.new texts.new result }
-{
-    match unescape::measure(txt) {
-        Unescaped::Length(n) => write_measured(txt, n, member, entries, texts, w),
-        Unescaped::BadReference { at } => Step::Refused(bad_at(from, at), w),
-        // `measure` never answers this: it has no room to run out of.
-        Unescaped::NoRoom => Step::Refused(Refusal::NoRoom, w),
+    // A piece of the body, for a member.
+    pub fn write_piece(&mut self, member: u32, piece: Piece) -> Result<(), Refusal>
+        ensures { Does (put_piece member piece) self.old self.new result }
+    {
+        self.place(0)?;
+        self.push(
+            Entry::keyless(Kind::Piece, member, piece.start, piece.len),
+            0,
+        );
+        Ok(())
     }
-}
 
-// The text of a span that begins at `from` in the body, unescaped, or an entry that says that it failed: a scalar of a structure.
-pub fn write_scalar(
-    txt: &[u8],
-    from: usize,
-    member: u32,
-    entries: &mut [u32],
-    texts: &mut [u8],
-    w: Written,
-) -> Step
-    requires ready { Ready w (length txt.now) }
-    requires small_place { SmallPlace from (length txt.now) }
-    ensures { Does (scalar member from txt.now) entries.old texts.old w
-        entries.new texts.new result }
-{
-    match unescape::measure(txt) {
-        Unescaped::Length(n) => write_measured(txt, n, member, entries, texts, w),
-        Unescaped::BadReference { at } => write_failed(entries, w, member, bad_at(from, at)),
-        Unescaped::NoRoom => Step::Refused(Refusal::NoRoom, w),
+    // A text that failed, for a member: the refusal's number, and the place beside it.
+    pub fn write_failed(&mut self, member: u32, why: Refusal) -> Result<(), Refusal>
+        ensures { Does (put_failed member why) self.old self.new result }
+    {
+        self.place(0)?;
+        let entry = Entry::keyless(Kind::Failed, member, why.number(), why.place());
+        self.push(entry, 0);
+        Ok(())
     }
-}
 
-// A map entry: the key, and a piece as its value. The key was measured as it was met.
-pub fn write_key_piece(
-    key: &[u8],
-    n: usize,
-    start: u32,
-    len: u32,
-    entries: &mut [u32],
-    texts: &mut [u8],
-    w: Written,
-) -> Step
-    requires comes { Comes key.now n }
-    requires ready { Ready w n }
-    ensures { Does (key_piece key.now start len) entries.old texts.old w
-        entries.new texts.new result }
-{
-    let used = w.used;
-    write_texts(
-        key,
-        n,
-        b"",
-        0,
-        Six {
-            kind: PIECE,
+    // A text that was measured, for a member.
+    fn write_measured(&mut self, member: u32, text: Measured) -> Result<(), Refusal>
+        ensures { Does (put_measured member text.entry) self.old self.new result }
+    {
+        let start = self.place(text.len)?;
+        text.fill(&mut self.texts[self.used..]);
+        self.push(
+            Entry::keyless(Kind::Text, member, start, text.len as u32),
+            text.len,
+        );
+        Ok(())
+    }
+
+    // A text, for a member, or 7: an item of a string list. 7 comes before 10.
+    pub fn write_text(&mut self, member: u32, text: Text) -> Result<(), Refusal>
+        ensures { Does (put_text member text.entry) self.old self.new result }
+    {
+        let measured = text.measure()?;
+        self.write_measured(member, measured)
+    }
+
+    // A text, for a member, or an entry that says why there is none: a scalar of a structure.
+    pub fn write_scalar(&mut self, member: u32, text: Result<Text, Refusal>) -> Result<(), Refusal>
+        ensures { Does (put_scalar member text.entry) self.old self.new result }
+    {
+        match text.and_then(Text::measure) {
+            Ok(measured) => self.write_measured(member, measured),
+            Err(why) => self.write_failed(member, why),
+        }
+    }
+
+    // A map entry: the key, and a piece as its value.
+    pub fn write_key_piece(&mut self, key: Measured, piece: Piece) -> Result<(), Refusal>
+        ensures { Does (put_key_piece key.entry piece) self.old self.new result }
+    {
+        let start = self.place(key.len)?;
+        key.fill(&mut self.texts[self.used..]);
+        let entry = Entry {
+            kind: Kind::Piece,
             member: 0,
-            key_start: used as u32,
-            key_len: n as u32,
-            start,
-            len,
-        },
-        entries,
-        texts,
-        w,
-    )
-}
-
-// A map entry: the key, then the value, both measured as they were met.
-pub fn write_key_text(
-    key: &[u8],
-    n: usize,
-    value: &[u8],
-    m: usize,
-    entries: &mut [u32],
-    texts: &mut [u8],
-    w: Written,
-) -> Step
-    requires comes { Comes key.now n }
-    requires comes_2 { Comes value.now m }
-    requires ready { Ready w (n + m) }
-    ensures { Does (key_text key.now value.now) entries.old texts.old w
-        entries.new texts.new result }
-{
-    let used = w.used;
-    write_texts(
-        key,
-        n,
-        value,
-        m,
-        Six {
-            kind: TEXT,
-            member: 0,
-            key_start: used as u32,
-            key_len: n as u32,
-            start: (used + n) as u32,
-            len: m as u32,
-        },
-        entries,
-        texts,
-        w,
-    )
-}
-
-// ---- groups
-
-// Keeps a child of a flattened aggregate member, as the piece after `count` others: it waits for its group.
-pub fn keep(kept: &mut [u32], count: usize, member: u32, start: u32, len: u32)
-    requires { count * 3 + 3 ≤ length kept.old }
-    ensures { kept.new ≡ sets kept.old (count * 3) (member ∷ start ∷ len ∷ []) }
-{
-    let at = count * 3;
-    kept[at] = member;
-    kept[at + 1] = start;
-    kept[at + 2] = len;
-}
-
-// Whether a child of a member is kept.
-pub fn has_group(kept: &[u32], member: u32) -> bool
-    ensures { result ≡ is_kept kept.now member }
-{
-    let mut k = 0;
-    while k < kept.len() / 3 {
-        if kept[k * 3] == member {
-            return true;
-        }
-        k += 1;
-    }
-    false
-}
-
-fn wide(x: u32) -> usize
-    ensures { Wide x result }
-{
-    x as usize
-}
-
-// How many bytes the kept children of a member have together.
-fn group_len(kept: &[u32], member: u32) -> usize
-    requires { length kept.now < 2 ^ 32 }
-    ensures { GroupLen kept.now member result }
-{
-    let mut n = 0;
-    let mut k = 0;
-    while k < kept.len() / 3 {
-        if kept[k * 3] == member {
-            n += wide(kept[k * 3 + 2]);
-            k += 1;
-        } else {
-            k += 1;
-        }
-    }
-    n
-}
-
-// Copies them one after another, and answers the place after them.
-fn put_kept(body: &[u8], kept: &[u32], member: u32, texts: &mut [u8], from: usize) -> usize
-    requires inside { Inside body.now kept.now }
-    requires member_in_bounds { from + length (kept_bytes body.now kept.now member) ≤ length texts.old }
-    ensures { Stored texts.old texts.new from (kept_bytes body.now kept.now member) result }
-{
-    let mut at = from;
-    let mut k = 0;
-    while k < kept.len() / 3 {
-        if kept[k * 3] == member {
-            let start = wide(kept[k * 3 + 1]);
-            let end = start + wide(kept[k * 3 + 2]);
-            at = slices::put(texts, at, &body[start..end]);
-            k += 1;
-        } else {
-            k += 1;
-        }
-    }
-    at
-}
-
-// The bytes of `<__flat>` and `</__flat>`.
-const FLAT_TAGS: usize = 17;
-
-// Copies the group of a member between its two tags, and answers the place after it.
-fn put_flat(body: &[u8], kept: &[u32], member: u32, texts: &mut [u8], from: usize) -> usize
-    requires inside { Inside body.now kept.now }
-    requires member_in_bounds { from + length (flat body.now kept.now member) ≤ length texts.old }
-    ensures { Stored texts.old texts.new from (flat body.now kept.now member) result }
-{
-    let first = slices::put(texts, from, b"<__flat>");
-    let last = put_kept(body, kept, member, texts, first);
-    slices::put(texts, last, b"</__flat>")
-}
-
-// The group of a member: measured first, then copied once.
-pub fn write_group(
-    body: &[u8],
-    kept: &[u32],
-    member: u32,
-    entries: &mut [u32],
-    texts: &mut [u8],
-    w: Written,
-) -> Step
-    requires inside { Inside body.now kept.now }
-    requires kept_len_bound { length kept.now < 2 ^ 32 }
-    requires ready { Ready w (length (flat body.now kept.now member)) }
-    ensures { Does (group member (flat body.now kept.now member)) entries.old texts.old w
-        entries.new texts.new result }
-{
-    let count = w.count;
-    let used = w.used;
-    let n = group_len(kept, member) + FLAT_TAGS;
-    if has_room(entries.len(), texts.len(), w, n) {
-        let end = put_flat(body, kept, member, texts, used);
-        let s = Six {
-            kind: GROUP,
-            member,
-            key_start: 0,
-            key_len: 0,
-            start: used as u32,
-            len: n as u32,
+            key_start: start,
+            key_len: key.len as u32,
+            start: piece.start,
+            len: piece.len,
         };
-        put_entry(entries, count, s);
-        return Step::Done(Written {
-            count: count + 1,
-            used: end,
-        });
+        self.push(entry, key.len);
+        Ok(())
     }
-    Step::Refused(Refusal::NoRoom, w) // the groups before it stay written
+
+    // A map entry: the key, then the value. Room is tested for both together.
+    pub fn write_key_text(&mut self, key: Measured, value: Measured) -> Result<(), Refusal>
+        ensures { Does (put_key_text key.entry value.entry) self.old self.new result }
+    {
+        let both = key.len + value.len;
+        let start = self.place(both)?;
+        key.fill(&mut self.texts[self.used..]);
+        let at = self.used + key.len;
+        value.fill(&mut self.texts[at..]);
+        let entry = Entry {
+            kind: Kind::Text,
+            member: 0,
+            key_start: start,
+            key_len: key.len as u32,
+            start: at as u32,
+            len: value.len as u32,
+        };
+        self.push(entry, both);
+        Ok(())
+    }
+
+    // The group of a member: measured first, then copied once.
+    pub fn write_group(&mut self, body: &[u8], kept: &[Kept], member: u32) -> Result<(), Refusal>
+        requires inside { Inside body.now kept.now }
+        requires kept_len_bound { length kept.now < 2 ^ 32 }
+        ensures { Does (put_group member (flat body.now kept.now member)) self.old self.new result }
+    {
+        let len = flat_len(kept, member);
+        let start = self.place(len)?; // the groups before it stay written
+        put_flat(body, kept, member, self.texts, self.used);
+        self.push(Entry::keyless(Kind::Group, member, start, len as u32), len);
+        Ok(())
+    }
 }

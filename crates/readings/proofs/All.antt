@@ -6,7 +6,7 @@ use Rattle.table.specs.Rules.{last_lt}
 use Rattle.table.specs.Piece.{closing, is_closed}
 use Rattle.table.specs.Test.{dec_table}
 use Rattle.xml.specs.Drain as xml
-use Rattle.document.specs.Names.{before_colon, name_matches}
+use Rattle.table.specs.Names.{before_colon, name_matches}
 use Rattle.document.specs.View.{error_at, view}
 use Rattle.document.specs.Reader.{skip, next}
 use Rattle.document.specs.Scope.{level, children, end_of, children_of, after_children, root_of, piece_of}
@@ -23,7 +23,8 @@ use Rattle.readings.specs.Collection.{is_wanted, item_plan, items_plan, list_pla
 use Rattle.readings.specs.Collection.{list_reading, string_plan, strings_plan, string_list_plan}
 use Rattle.readings.specs.Collection.{string_list_reading, read_field, read_fields, entry_plan, after_entry, entries_of, entries_plan}
 use Rattle.readings.specs.Collection.{map_plan, map_reading}
-use Rattle.readings.specs.Scalar.{boolean_of, integer_of, string_in, scalar_text, boolean_reading, integer_reading, string_reading}
+use Rattle.document.specs.Text.{string_in}
+use Rattle.readings.specs.Scalar.{boolean_of, integer_of, scalar_text, boolean_reading, integer_reading, string_reading}
 use Rattle.readings.specs.Scalar.{whole_text}
 use Rattle.readings.specs.Find.{first_child, find_in, find}
 

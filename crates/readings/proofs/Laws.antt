@@ -9,4 +9,5 @@ pub mod Siblings
 pub mod Fits
 pub mod Bounds
 pub mod Place
+pub mod Room
 pub mod Rising

@@ -1,7 +1,7 @@
 -- What is lent to a reading, and what it is asked.
 use Rattle.std.specs.Prelude.{ℕ, List}
 use Rattle.sheet.specs.declared.ShapeDepth.{ShapeDepth}
-use Rattle.sheet.specs.Settings.{Settings}
+use Rattle.sheet.specs.declared.Settings.{Settings}
 
 -- a body with its token table: the rows, eight numbers each, and "beside it one final position", the end
 pub record Upload : Type 0 where

@@ -4,12 +4,13 @@ use Rattle.std.proofs.Math.Option.{Option, none, some}
 use Rattle.lists.specs.Tests.{pick}
 use Rattle.lists.specs.Bytes.{sameb}
 use Rattle.refusal.specs.Answer.{Answer, gives, refuses, onward}
-use Rattle.document.specs.Names.{name_matches}
+use Rattle.table.specs.Names.{name_matches}
 use Rattle.document.specs.View.{View}
 use Rattle.document.specs.Reader.{Reader, skip}
-use Rattle.document.specs.Scope.{Child, level, level_in, children, children_of, dropping, after_children, Piece, piece_of}
+use Rattle.document.specs.declared.part.Piece.{Piece}
+use Rattle.document.specs.Scope.{Child, level, level_in, children, children_of, dropping, after_children, piece_of}
 use Rattle.document.specs.Text.{text_of}
-use Rattle.sheet.specs.Settings.{Settings}
+use Rattle.sheet.specs.declared.Settings.{Settings}
 use Rattle.sheet.specs.Sheet.{ListSheet, list_of, MapSheet, map_of}
 use Rattle.sheet.specs.Names.{item_name, entry_name, key_name, value_name, value_aggregate}
 use Rattle.readings.specs.Call.{Upload, Call}

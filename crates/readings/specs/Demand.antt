@@ -10,12 +10,13 @@ use Rattle.refusal.specs.Numbers.{number}
 use Rattle.table.specs.Row.{cut, rows_of, toks_of}
 use Rattle.xml.specs.Passed.{Passed}
 use Rattle.xml.specs.Piece.{PieceAt, ElementPiece}
-use Rattle.document.specs.Names.{name_matches}
+use Rattle.table.specs.Names.{name_matches}
 use Rattle.document.specs.View.{whole}
 use Rattle.document.specs.Scope.{Child, children_of, root_of}
 use Rattle.document.specs.Text.{text_of}
 use Rattle.sheet.specs.declared.ShapeDepth.{ShapeDepth}
-use Rattle.sheet.specs.Settings.{Settings, tests_root_name}
+use Rattle.sheet.specs.declared.Settings.{Settings}
+use Rattle.sheet.specs.Settings.{tests_root_name}
 use Rattle.sheet.specs.Sheet.{Structure, structure_of, ListSheet, MapSheet}
 use Rattle.sheet.specs.Names.{root_name, item_name, entry_name, key_name, value_name, value_aggregate}
 use Rattle.readings.specs.Call.{Upload, Call}

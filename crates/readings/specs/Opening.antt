@@ -8,7 +8,8 @@ use Rattle.table.specs.Test.{dec_table}
 use Rattle.document.specs.View.{View, view}
 use Rattle.document.specs.Scope.{Child, root_of}
 use Rattle.sheet.specs.declared.ShapeDepth.{ShapeDepth}
-use Rattle.sheet.specs.Settings.{Settings, is_strict, too_deep}
+use Rattle.sheet.specs.declared.Settings.{Settings}
+use Rattle.sheet.specs.Settings.{is_strict, too_deep}
 use Rattle.readings.specs.Call.{Upload}
 
 -- "1 table", by a decision of the rules

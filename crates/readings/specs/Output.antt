@@ -3,7 +3,7 @@ use Rattle.std.specs.Prelude.{ℕ, ◌+◌, Bool, false, List, [], ◌∷◌, �
 use Rattle.lists.specs.Tests.{pick}
 use Rattle.refusal.specs.declared.Refusal.{Refusal}
 use Rattle.refusal.specs.Numbers.{number, place}
-use Rattle.document.specs.Scope.{Piece}
+use Rattle.document.specs.declared.part.Piece.{Piece}
 
 -- "An entry is six 32-bit numbers: kind, member index (0 for items and map entries), key start and length (0, 0 outside maps), start,
 -- length."

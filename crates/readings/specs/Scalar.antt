@@ -1,20 +1,20 @@
 -- 01, "Scalar": `read_boolean`, `read_integer` and `read_string`, from a body and from a text of an entry; and "Whole text".
-use Rattle.std.specs.Prelude.{ℕ, zero, suc, ◌^◌, ◌-◌, Bool, true, false, List, [], ◌∷◌, eqb, leb, ℤ, pos, negsuc, length}
+use Rattle.std.specs.Prelude.{ℕ, zero, suc, ◌^◌, ◌-◌, Bool, true, false, List, [], ◌∷◌, eqb, leb, ℤ, pos, negsuc, Err, None, Ok, Option}
+use Rattle.std.specs.Prelude.{Result, Some}
 use Rattle.lists.specs.Characters.{plus, hyphen}
 use Rattle.lists.specs.Tests.{pick}
 use Rattle.lists.specs.Bytes.{ascii, sameb}
 use Rattle.refusal.specs.declared.Refusal.{Refusal}
 use Rattle.refusal.specs.Answer.{Answer, gives, refuses, onward}
 use Rattle.reference.specs.Number.{numeral}
-use Rattle.reference.specs.declared.Number.{Number}
-use Rattle.reference.specs.declared.Number.TheVariants.{Value, No}
 use Rattle.table.specs.Row.{rows_of, toks_of}
-use Rattle.xml.specs.declared.Drained.{Drained}
+use Rattle.xml.specs.declared.DrainError.{DrainError}
 use Rattle.xml.specs.Drain.{drained}
 use Rattle.document.specs.Scope.{Child, root_of}
-use Rattle.document.specs.Text.{text_of, whole_of}
+use Rattle.document.specs.Text.{text_of, whole_of, string_in}
 use Rattle.sheet.specs.declared.ShapeDepth.{ShapeDepth}
-use Rattle.sheet.specs.Settings.{Settings, is_strict}
+use Rattle.sheet.specs.declared.Settings.{Settings}
+use Rattle.sheet.specs.Settings.{is_strict}
 use Rattle.readings.specs.Call.{Upload}
 use Rattle.readings.specs.Opening.{Opened, opened, present}
 
@@ -26,8 +26,8 @@ boolean_of text =
     pick (sameb text (ascii "true")) (gives true) (pick (sameb text (ascii "false")) (gives false) (refuses Refusal.NotBoolean))
 
 -- "one or more digits"
-abbrev pub digits_of : List ℕ → Number
-digits_of [] = No
+abbrev pub digits_of : List ℕ → Option ℕ
+digits_of [] = None
 digits_of (b ∷ s) = numeral 10 0 (b ∷ s)
 
 abbrev pub minus : ℕ → ℤ
@@ -35,13 +35,13 @@ minus zero = pos zero
 minus (suc n) = negsuc n
 
 -- "range of 32 bits"
-abbrev pub positive : Number → Answer ℤ
-positive No = refuses Refusal.NotInteger
-positive (Value n) = pick (leb n (2 ^ 31 - 1)) (gives (pos n)) (refuses Refusal.NotInteger)
+abbrev pub positive : Option ℕ → Answer ℤ
+positive None = refuses Refusal.NotInteger
+positive (Some n) = pick (leb n (2 ^ 31 - 1)) (gives (pos n)) (refuses Refusal.NotInteger)
 
-abbrev pub negative : Number → Answer ℤ
-negative No = refuses Refusal.NotInteger
-negative (Value n) = pick (leb n (2 ^ 31)) (gives (minus n)) (refuses Refusal.NotInteger)
+abbrev pub negative : Option ℕ → Answer ℤ
+negative None = refuses Refusal.NotInteger
+negative (Some n) = pick (leb n (2 ^ 31)) (gives (minus n)) (refuses Refusal.NotInteger)
 
 -- "Integers: optional sign, one or more digits, range of 32 bits, nothing trimmed."
 unfoldable pub integer_of : List ℕ → Answer ℤ
@@ -51,10 +51,6 @@ integer_of (b ∷ s) =
     pick (eqb b plus) (positive (digits_of s))
     (pick (eqb b hyphen) (negative (digits_of s))
     (positive (digits_of (b ∷ s))))
-
--- "10 for a string": the text, where there is room for it
-unfoldable pub string_in : ℕ → List ℕ → Answer (List ℕ)
-string_in room text = pick (leb (length text) room) (gives text) (refuses Refusal.NoRoom)
 
 -- ---- from a body
 -- "9 after the rest"
@@ -83,10 +79,10 @@ unfolding scalar_text string_in
 string_reading u settings depth room = onward (scalar_text u settings depth) (string_in room)
 
 -- ---- "Whole text (added, no Rust reference). 1, 9, 4, 6 (any element inside the root), 10, nothing written then."
-abbrev pub passing : {A : Type 0} → Drained → Answer A → Answer A
-passing Drained.Passes a = a
-passing Drained.Table a = refuses Refusal.Table
-passing (Drained.IllFormed row cause) a = refuses Refusal.IllFormed
+abbrev pub passing : {A : Type 0} → Result (Unit {0}) DrainError → Answer A → Answer A
+passing (Ok u) a = a
+passing (Err DrainError.Table) a = refuses Refusal.Table
+passing (Err (DrainError.IllFormed row cause)) a = refuses Refusal.IllFormed
 
 unfoldable pub whole_text : Upload → ℕ → Answer (List ℕ)
 unfolding drained root_of whole_of string_in

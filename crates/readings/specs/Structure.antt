@@ -8,13 +8,15 @@ use Rattle.refusal.specs.Answer.{Answer, gives, refuses}
 use Rattle.table.specs.Row.{cut}
 use Rattle.table.specs.Rules.{last_position}
 use Rattle.table.specs.Piece.{closing, is_closed}
-use Rattle.document.specs.Names.{name_matches}
+use Rattle.table.specs.Names.{name_matches}
 use Rattle.document.specs.View.{View}
 use Rattle.document.specs.Reader.{Attribute}
-use Rattle.document.specs.Scope.{Child, children_of, Piece, piece_to, piece_of}
+use Rattle.document.specs.declared.part.Piece.{Piece}
+use Rattle.document.specs.Scope.{Child, children_of, piece_to, piece_of}
 use Rattle.document.specs.Text.{text_of}
 use Rattle.sheet.specs.declared.ShapeDepth.{ShapeDepth}
-use Rattle.sheet.specs.Settings.{Settings, tests_root_name}
+use Rattle.sheet.specs.declared.Settings.{Settings}
+use Rattle.sheet.specs.Settings.{tests_root_name}
 use Rattle.sheet.specs.Sheet.{Structure, structure_of}
 use Rattle.sheet.specs.Names.{root_name, attribute_name, Indexed, indexed, first_named, members_of, resolve}
 use Rattle.readings.specs.Call.{Upload, Call}

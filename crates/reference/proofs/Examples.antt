@@ -7,14 +7,18 @@ use Rattle.reference.specs.Text.{Out, validated, unescaped, answer}
 use Rattle.reference.specs.Text.Out.{bytes, bad}
 use Rattle.reference.specs.Place.{failing_at}
 use Rattle.reference.proofs.All.{computed}
-use Rattle.reference.specs.declared.Validated.{Validated}
-use Rattle.reference.specs.declared.Validated.TheVariants.{Valid, BadReference}
-use Rattle.reference.specs.declared.Unescaped.{Unescaped}
+use Rattle.reference.specs.declared.BadReference.{BadReference}
+use Rattle.reference.specs.declared.UnescapeError.{UnescapeError}
+use Rattle.std.specs.Prelude.{ℕ, Result, Ok, Err}
 
 infixl 70 ◌gives◌
 -- what both operations answer
 pub data Answers : Type 0 where
-  ◌gives◌ : Validated → Out → Answers
+  ◌gives◌ : Result (Unit {0}) BadReference → Out → Answers
+
+-- a refusal with a place
+abbrev fails : ℕ → Result (Unit {0}) BadReference
+fails at = Err (record { at = at })
 
 abbrev both : String → Answers
 both s = validated (ascii s) gives unescaped (ascii s)
@@ -23,17 +27,17 @@ both s = validated (ascii s) gives unescaped (ascii s)
 pub examples :
     map both ("&#x+41;" ∷ "&#++65;" ∷ "&#+;" ∷ "&#-0;" ∷ "&#+x41;" ∷ "&#X41;" ∷ "&#;" ∷ "&#x;" ∷ "&#0000000000065;" ∷ "&#4294967296;" ∷
     "x&lt;&lt" ∷ [])
-    ≡ (BadReference 0 gives bytes (ascii "A"))
-    ∷ (BadReference 0 gives bad 0)
-    ∷ (BadReference 0 gives bad 0)
-    ∷ (BadReference 0 gives bad 0)
-    ∷ (BadReference 0 gives bad 0)
-    ∷ (BadReference 0 gives bad 0)
-    ∷ (BadReference 0 gives bad 0)
-    ∷ (BadReference 0 gives bad 0)
-    ∷ (Valid gives bytes (ascii "A"))
-    ∷ (BadReference 0 gives bad 0)
-    ∷ (BadReference 5 gives bad 5)
+    ≡ (fails 0 gives bytes (ascii "A"))
+    ∷ (fails 0 gives bad 0)
+    ∷ (fails 0 gives bad 0)
+    ∷ (fails 0 gives bad 0)
+    ∷ (fails 0 gives bad 0)
+    ∷ (fails 0 gives bad 0)
+    ∷ (fails 0 gives bad 0)
+    ∷ (fails 0 gives bad 0)
+    ∷ (Ok tt gives bytes (ascii "A"))
+    ∷ (fails 0 gives bad 0)
+    ∷ (fails 5 gives bad 5)
     ∷ []
 unfolding computed
 examples = refl
@@ -41,13 +45,13 @@ examples = refl
 -- the place is that of the first `&` that fails, and each operation has its own
 pub places :
     map both ("&#+65;&zz;" ∷ "a&b" ∷ "&&amp;" ∷ "&amp;&b;&" ∷ "&lt;b&#65;" ∷ "ab" ∷ "" ∷ [])
-    ≡ (BadReference 0 gives bad 6)
-    ∷ (BadReference 1 gives bad 1)
-    ∷ (BadReference 0 gives bad 0)
-    ∷ (BadReference 5 gives bad 5)
-    ∷ (Valid gives bytes (ascii "<bA"))
-    ∷ (Valid gives bytes (ascii "ab"))
-    ∷ (Valid gives bytes [])
+    ≡ (fails 0 gives bad 6)
+    ∷ (fails 1 gives bad 1)
+    ∷ (fails 0 gives bad 0)
+    ∷ (fails 5 gives bad 5)
+    ∷ (Ok tt gives bytes (ascii "<bA"))
+    ∷ (Ok tt gives bytes (ascii "ab"))
+    ∷ (Ok tt gives bytes [])
     ∷ []
 unfolding computed
 places = refl
@@ -58,6 +62,7 @@ unfolding computed
 told_places = refl
 
 -- what `unescape` answers then, whatever the room
-pub answers_place : map (answer (unescaped (ascii "&#+65;&zz;"))) (0 ∷ 10 ∷ []) ≡ Unescaped.BadReference 6 ∷ Unescaped.BadReference 6 ∷ []
+pub answers_place : map (answer (unescaped (ascii "&#+65;&zz;"))) (0 ∷ 10 ∷ [])
+    ≡ Err (UnescapeError.BadReference 6) ∷ Err (UnescapeError.BadReference 6) ∷ []
 unfolding computed
 answers_place = refl

@@ -21,15 +21,14 @@ use Rattle.reference.specs.Number.{digit, numeral, limited, digits}
 use Rattle.reference.specs.Entity.{named, numeric, only, first, xml_char, reader, allowed, char_of}
 use Rattle.reference.specs.Text.{span, sized, reference, Out, before, decode, verdict, references, validated}
 use Rattle.reference.specs.Text.Out.{bytes, bad}
-use Rattle.reference.proofs.Taken.{no_value, no_char, named_all, only_is}
+use Rattle.reference.proofs.Taken.{no_value, no_char, code_is, len_is, named_all, only_is}
 use Rattle.reference.specs.Place.{FailsAt, NoReferenceAt, Correct}
 use Rattle.reference.proofs.Place.{each_begins, validate_bad_is}
 use Rattle.reference.specs.Xml as xml
 use Rattle.reference.specs.Xml.{Char, Decimal, Hexadecimal, Numeral, CharRef, Predefined, BeginsReference, EachReference}
-use Rattle.reference.specs.declared.Number.{Number}
-use Rattle.reference.specs.declared.Number.TheVariants.{Value, No}
 use Rattle.reference.specs.declared.Reference.{Reference}
-use Rattle.reference.specs.declared.Validated.{Validated}
+use Rattle.reference.specs.declared.BadReference.{BadReference}
+use Rattle.std.specs.Prelude.{Option, None, Some, Result, Ok, Err}
 
 -- ---- Char [2]
 char_sound : (c : ℕ) → xml_char c ≡ true → Char c
@@ -156,47 +155,47 @@ span_clean (clean_byte {b} {s} g h c) r = rw (ne_eqb b 59 g, ne_eqb b 38 h) (ap 
 -- the digits of a numeral: some, clean, and its number
 record IsNumeral (base : ℕ) (s : List ℕ) (n : ℕ) : Type 0 where
   some : 1 ≤ length s
-  value : numeral base 0 s ≡ Value n
+  value : numeral base 0 s ≡ Some n
   clean : Clean s
 
-limited_is : (x : Number) {n : ℕ} → limited x ≡ Value n → x ≡ Value n
+limited_is : (x : Option ℕ) {n : ℕ} → limited x ≡ Some n → x ≡ Some n
 unfolding limited
-limited_is No e = e
-limited_is (Value m) {n} e = go (ltb m (2 ^ 32)) e
+limited_is None e = e
+limited_is (Some m) {n} e = go (ltb m (2 ^ 32)) e
   where
-    go : (t : Bool) → pick t (Value m) No ≡ Value n → Value m ≡ Value n
+    go : (t : Bool) → pick t (Some m) None ≡ Some n → Some m ≡ Some n
     go true e = e
     go false e = no_value e
 
-digits_is : (base : ℕ) (s : List ℕ) {n : ℕ} → digits base s ≡ Value n → numeral base 0 s ≡ Value n
+digits_is : (base : ℕ) (s : List ℕ) {n : ℕ} → digits base s ≡ Some n → numeral base 0 s ≡ Some n
 unfolding digits
 digits_is base s {n} e = go (leb 1 (length s)) e
   where
-    go : (t : Bool) → pick t (limited (numeral base 0 s)) No ≡ Value n → numeral base 0 s ≡ Value n
+    go : (t : Bool) → pick t (limited (numeral base 0 s)) None ≡ Some n → numeral base 0 s ≡ Some n
     go true e = limited_is (numeral base 0 s) e
     go false e = no_value e
 
 -- ---- numerals, over a kind of digit
 module _ (Digit : ℕ → ℕ → Type 0) (base : ℕ) (sound : (b : ℕ) → digit b < base → Digit b (digit b)) where
   -- p is read and comes to acc
-  more_digits : (p s : List ℕ) (acc n : ℕ) → Numeral Digit base p acc → numeral base acc s ≡ Value n → Numeral Digit base (p ++ s) n
+  more_digits : (p s : List ℕ) (acc n : ℕ) → Numeral Digit base p acc → numeral base acc s ≡ Some n → Numeral Digit base (p ++ s) n
   unfolding numeral
   more_digits p [] acc n x e = let q : acc ≡ n = cc in rw (append-nil, ← q) x
   more_digits p (b ∷ s) acc n x e = go (ltb (digit b) base) refl e (more_digits (p ++ (b ∷ [])) s (acc * base + digit b) n)
     where
-      go : (t : Bool) → ltb (digit b) base ≡ t → pick t (numeral base (acc * base + digit b) s) No ≡ Value n
-          → (Numeral Digit base (p ++ (b ∷ [])) (acc * base + digit b) → numeral base (acc * base + digit b) s ≡ Value n
+      go : (t : Bool) → ltb (digit b) base ≡ t → pick t (numeral base (acc * base + digit b) s) None ≡ Some n
+          → (Numeral Digit base (p ++ (b ∷ [])) (acc * base + digit b) → numeral base (acc * base + digit b) s ≡ Some n
           → Numeral Digit base ((p ++ (b ∷ [])) ++ s) n)
           → Numeral Digit base (p ++ (b ∷ s)) n
       go true h e ih = rw append_assoc at (ih (xml.more x (sound b (ltb-true _ _ h))) e)
       go false h e ih = no_value e
 
-  numeral_sound : (s : List ℕ) {n : ℕ} → digits base s ≡ Value n → Numeral Digit base s n
+  numeral_sound : (s : List ℕ) {n : ℕ} → digits base s ≡ Some n → Numeral Digit base s n
   unfolding digits numeral
   numeral_sound [] e = no_value e
   numeral_sound (b ∷ s) {n} e = go (ltb (digit b) base) refl (digits_is base (b ∷ s) e)
     where
-      go : (t : Bool) → ltb (digit b) base ≡ t → pick t (numeral base (0 * base + digit b) s) No ≡ Value n → Numeral Digit base (b ∷ s) n
+      go : (t : Bool) → ltb (digit b) base ≡ t → pick t (numeral base (0 * base + digit b) s) None ≡ Some n → Numeral Digit base (b ∷ s) n
       go true h e =
           let z : 0 * base + digit b ≡ digit b = rw (zero-mul, zero-add) in
           more_digits (b ∷ []) s (digit b) n (xml.one (sound b (ltb-true _ _ h))) (rw z at e)
@@ -204,16 +203,16 @@ module _ (Digit : ℕ → ℕ → Type 0) (base : ℕ) (sound : (b : ℕ) → di
 
 module _ (Digit : ℕ → ℕ → Type 0) (base : ℕ) (complete : (b d : ℕ) → Digit b d → IsDigit base b d) where
   -- one digit more
-  number_snoc : (s : List ℕ) (acc n b d : ℕ) → numeral base acc s ≡ Value n → IsDigit base b d
-      → numeral base acc (s ++ (b ∷ [])) ≡ Value (n * base + d)
+  number_snoc : (s : List ℕ) (acc n b d : ℕ) → numeral base acc s ≡ Some n → IsDigit base b d
+      → numeral base acc (s ++ (b ∷ [])) ≡ Some (n * base + d)
   unfolding numeral
   number_snoc [] acc n b d e i = let q : acc ≡ n = cc in rw (i.value, lt-ltb d base i.less, q)
   number_snoc (x ∷ s) acc n b d e i = go (ltb (digit x) base) e (number_snoc s (acc * base + digit x) n b d)
     where
-      go : (t : Bool) → pick t (numeral base (acc * base + digit x) s) No ≡ Value n
-          → (numeral base (acc * base + digit x) s ≡ Value n → IsDigit base b d
-          → numeral base (acc * base + digit x) (s ++ (b ∷ [])) ≡ Value (n * base + d))
-          → pick t (numeral base (acc * base + digit x) (s ++ (b ∷ []))) No ≡ Value (n * base + d)
+      go : (t : Bool) → pick t (numeral base (acc * base + digit x) s) None ≡ Some n
+          → (numeral base (acc * base + digit x) s ≡ Some n → IsDigit base b d
+          → numeral base (acc * base + digit x) (s ++ (b ∷ [])) ≡ Some (n * base + d))
+          → pick t (numeral base (acc * base + digit x) (s ++ (b ∷ []))) None ≡ Some (n * base + d)
       go true e ih = ih e i
       go false e ih = no_value e
 
@@ -236,37 +235,37 @@ module _ (Digit : ℕ → ℕ → Type 0) (base : ℕ) (complete : (b d : ℕ) �
 entity_front : List ℕ → List ℕ
 entity_front e = 0x26 ∷ (e ++ (0x3B ∷ []))
 
-numeric_sound : (e : List ℕ) {c : ℕ} → numeric digits e ≡ Value c → Char c → CharRef (entity_front e) c
+numeric_sound : (e : List ℕ) {c : ℕ} → numeric digits e ≡ Some c → Char c → CharRef (entity_front e) c
 unfolding numeric entity_front
 numeric_sound [] q k = no_value q
 numeric_sound (x ∷ s) {c} q k = go (eqb x 35) (eqb (get_or s 0 0) 120) refl refl q
   where
-    hex : (s : List ℕ) → get_or s 0 0 ≡ 120 → x ≡ 35 → digits 16 (drop 1 s) ≡ Value c → CharRef (38 ∷ (x ∷ (s ++ (59 ∷ [])))) c
+    hex : (s : List ℕ) → get_or s 0 0 ≡ 120 → x ≡ 35 → digits 16 (drop 1 s) ≡ Some c → CharRef (38 ∷ (x ∷ (s ++ (59 ∷ [])))) c
     hex [] h a q = absurd (omega arith)
     hex (y ∷ s) h a q = xml.hexadecimal s (rw (a, h)) (numeral_sound Hexadecimal 16 hexadecimal_sound s q) k
 
-    go : (t u : Bool) → eqb x 35 ≡ t → eqb (get_or s 0 0) 120 ≡ u → pick t (pick u (digits 16 (drop 1 s)) (digits 10 s)) No ≡ Value c
+    go : (t u : Bool) → eqb x 35 ≡ t → eqb (get_or s 0 0) 120 ≡ u → pick t (pick u (digits 16 (drop 1 s)) (digits 10 s)) None ≡ Some c
         → CharRef (38 ∷ (x ∷ (s ++ (59 ∷ [])))) c
     go true true a b q = hex s (eqb-true _ _ b) (eqb-true _ _ a) q
     go true false a b q = xml.decimal s (rw (eqb-true x 35 a)) (numeral_sound Decimal 10 decimal_sound s q) k
     go false u a b q = no_value q
 
-entity_sound : (e : List ℕ) {c : ℕ} → char_of true e ≡ Value c → xml.Reference (entity_front e) c
+entity_sound : (e : List ℕ) {c : ℕ} → char_of true e ≡ Some c → xml.Reference (entity_front e) c
 unfolding char_of first entity_front allowed reader
 entity_sound e {c} =
     named_all Told e (λ q h. one (xml.lt q) (sym (same h))) (λ q h. one (xml.gt q) (sym (same h))) (λ q h. one (xml.amp q) (sym (same h)))
     (λ q h. one (xml.quot q) (sym (same h))) (λ q h. one (xml.apos q) (sym (same h))) other
   where
-    Told : Number → Type 0
-    Told x = first x (only (allowed true) (numeric (reader true) e)) ≡ Value c → xml.Reference (entity_front e) c
+    Told : Option ℕ → Type 0
+    Told x = first x (only (allowed true) (numeric (reader true) e)) ≡ Some c → xml.Reference (entity_front e) c
 
-    same : {k : ℕ} → Value k ≡ Value c → k ≡ c
+    same : {k : ℕ} → Some k ≡ Some c → k ≡ c
     same h = cc
 
     one : {k : ℕ} → (c ≡ k → Predefined e c) → c ≡ k → xml.Reference (entity_front e) c
     one p h = xml.entity_ref (xml.entity e refl (p h))
 
-    other : only (allowed true) (numeric (reader true) e) ≡ Value c → xml.Reference (entity_front e) c
+    other : only (allowed true) (numeric (reader true) e) ≡ Some c → xml.Reference (entity_front e) c
     other h =
         let k = only_is (allowed true) (numeric (reader true) e) h in
         xml.char_ref (numeric_sound e k.0 (char_sound c k.1))
@@ -289,7 +288,7 @@ clean_test (b ∷ s) e = go (eqb b 59) (eqb b 38) refl refl e (clean_test s)
 
 -- an entity that stands for c, and ends at its `;`
 record IsEntity (e : List ℕ) (c : ℕ) : Type 0 where
-  value : char_of true e ≡ Value c
+  value : char_of true e ≡ Some c
   clean : Clean e
 
 entity_named : {e : List ℕ} {c : ℕ} → Predefined e c → IsEntity e c
@@ -300,24 +299,24 @@ entity_named (xml.amp p q) = record { value = rw (p, q); clean = rw p (clean_tes
 entity_named (xml.apos p q) = record { value = rw (p, q); clean = rw p (clean_test (ascii "apos") refl) }
 entity_named (xml.quot p q) = record { value = rw (p, q); clean = rw p (clean_test (ascii "quot") refl) }
 
-digits_value : (base : ℕ) {s : List ℕ} {c : ℕ} → IsNumeral base s c → Char c → digits base s ≡ Value c
+digits_value : (base : ℕ) {s : List ℕ} {c : ℕ} → IsNumeral base s c → Char c → digits base s ≡ Some c
 unfolding digits limited
 digits_value base {s} {c} m k = rw (le-leb 1 (length s) m.some, m.value, lt-ltb c (2 ^ 32) (char_limit c k))
 
 -- a numeral does not begin with `x`
-no_x : (base : ℕ) (s : List ℕ) {n : ℕ} → base ≤ 16 → numeral base 0 s ≡ Value n → get_or s 0 0 ≡ 120 → ⊥
+no_x : (base : ℕ) (s : List ℕ) {n : ℕ} → base ≤ 16 → numeral base 0 s ≡ Some n → get_or s 0 0 ≡ 120 → ⊥
 unfolding numeral digit
 no_x base [] h e q = omega arith
 no_x base (b ∷ s) {n} h e q = no_value (rw (q, le-ltb 16 base h) at e)
 
-only_char : {x : Number} {c : ℕ} → x ≡ Value c → Char c → only xml_char x ≡ Value c
+only_char : {x : Option ℕ} {c : ℕ} → x ≡ Some c → Char c → only xml_char x ≡ Some c
 unfolding only
 only_char {x} {c} e k = rw (e, char_complete c k)
 
 entity_decimal : (s : List ℕ) {c : ℕ} → IsNumeral 10 s c → Char c → IsEntity (35 ∷ s) c
 unfolding char_of first named sameb numeric reader allowed
 entity_decimal s {c} m k =
-    let n : numeric digits (35 ∷ s) ≡ Value c = rw (ne_eqb (get_or s 0 0) 120 (no_x 10 s (omega arith) m.value)) (digits_value 10 m k) in
+    let n : numeric digits (35 ∷ s) ≡ Some c = rw (ne_eqb (get_or s 0 0) 120 (no_x 10 s (omega arith) m.value)) (digits_value 10 m k) in
     record { value = only_char n k; clean = clean_byte (eqb-false 35 59 refl) (eqb-false 35 38 refl) m.clean }
 
 entity_hexadecimal : (s : List ℕ) {c : ℕ} → IsNumeral 16 s c → Char c → IsEntity (35 ∷ (120 ∷ s)) c
@@ -357,7 +356,7 @@ drop_front [] x r = refl
 drop_front (y ∷ e) x r = drop_front e x r
 
 pub reference_complete : {t : List ℕ} {c : ℕ} → xml.Reference t c → (s r : List ℕ) → 0x26 ∷ s ≡ t ++ r
-    → reference true s ≡ Reference.Char c (length t - 1)
+    → reference true s ≡ Some (record { code = c; len = length t - 1 })
 unfolding reference sized entity_front
 reference_complete {t} {c} x s r q =
     let h = entity_complete x in
@@ -373,27 +372,27 @@ span_take : (s : List ℕ) → get_or s (span s) 0 ≡ 59 → take (span s + 1) 
 unfolding span
 span_take s e = let h = get_d_in s (span s) 58 e in rw (add-one, take-suc s (span s) 0, e)
 
-pub reference_sound : (s : List ℕ) {c n : ℕ} → reference true s ≡ Reference.Char c n → xml.Reference (0x26 ∷ take n s) c
+pub reference_sound : (s : List ℕ) {y : Reference} → reference true s ≡ Some y → xml.Reference (0x26 ∷ take y.len s) y.code
 unfolding reference sized entity_front
-reference_sound s {c} {n} q = go (eqb (get_or s (span s) 0) 59) (char_of true (take (span s) s)) refl refl q
+reference_sound s {y} q = go (eqb (get_or s (span s) 0) 59) (char_of true (take (span s) s)) refl refl q
   where
-    go : (t : Bool) (x : Number) → eqb (get_or s (span s) 0) 59 ≡ t → char_of true (take (span s) s) ≡ x
-        → pick t (sized (span s + 1) x) Reference.Bad ≡ Reference.Char c n → xml.Reference (0x26 ∷ take n s) c
-    go true (Value d) h k q =
-        let a : d ≡ c = cc in
-        let b : span s + 1 ≡ n = cc in
+    go : (t : Bool) (x : Option ℕ) → eqb (get_or s (span s) 0) 59 ≡ t → char_of true (take (span s) s) ≡ x
+        → pick t (sized (span s + 1) x) None ≡ Some y → xml.Reference (0x26 ∷ take y.len s) y.code
+    go true (Some d) h k q =
+        let a : d ≡ y.code = code_is q in
+        let b : span s + 1 ≡ y.len = len_is q in
         rw (← b, span_take s (eqb-true _ _ h)) (entity_sound (take (span s) s) (rw a at k))
-    go true No h k q = no_char q
+    go true None h k q = no_char q
     go false x h k q = no_char q
 
 -- ---- the whole text
 -- a reference that is read begins the text after its `&`
-begins : (s : List ℕ) {c n : ℕ} → reference true s ≡ Reference.Char c n → BeginsReference (0x26 ∷ s)
-begins s {c} {n} q = record {
-  front = 0x26 ∷ take n s;
-  rest = drop n s;
-  cut = ap (λ (l : List ℕ). 0x26 ∷ l) (sym (take-append-drop n s));
-  char = c;
+begins : (s : List ℕ) {y : Reference} → reference true s ≡ Some y → BeginsReference (0x26 ∷ s)
+begins s {y} q = record {
+  front = 0x26 ∷ take y.len s;
+  rest = drop y.len s;
+  cut = ap (λ (l : List ℕ). 0x26 ∷ l) (sym (take-append-drop y.len s));
+  char = y.code;
   is = reference_sound s q;
 }
 
@@ -420,7 +419,7 @@ each_complete at zero (x ∷ s) h = go (eqb x 38) refl (λ k. each_complete (suc
     go : (t : Bool) → eqb x 38 ≡ t → ((k : ℕ) → Whole (decode true (suc at) k s))
         → Whole (elim t [
           | true ↦ elim (reference true s)
-              [ Reference.Char c n ↦ before (encode c) (decode true (suc at) n s) | Reference.Bad ↦ bad at ]
+              [ Some y ↦ before (encode y.code) (decode true (suc at) y.len s) | None ↦ bad at ]
           | false ↦ before (x ∷ [])
               (decode true (suc at) zero s)
         ])
@@ -430,34 +429,34 @@ each_complete at zero (x ∷ s) h = go (eqb x 38) refl (λ k. each_complete (suc
     go false q ih = front (x ∷ []) zero ih
 
 -- ---- `validate` takes a text exactly when each `&` of it begins a Reference
-pub validate_sound : (t : List ℕ) → validated t ≡ Validated.Valid → EachReference t
+pub validate_sound : (t : List ℕ) → validated t ≡ Ok tt → EachReference t
 unfolding validated references verdict
 validate_sound t e = go (decode true 0 0 t) refl e
   where
-    go : (o : Out) → decode true 0 0 t ≡ o → verdict o ≡ Validated.Valid → EachReference t
+    go : (o : Out) → decode true 0 0 t ≡ o → verdict o ≡ Ok tt → EachReference t
     go (bytes l) q e = record { each = λ a b c. each_sound t l q a b c }
     go (bad at) q e = let z : ◌≡◌ {A = ℕ} 0 1 = cc in absurd (omega arith)
 
 -- where there is nothing, nothing is wrong
-pub validated_none : validated [] ≡ Validated.Valid
+pub validated_none : validated [] ≡ Ok tt
 unfolding validated references verdict decode
 validated_none = refl
 
-pub validate_complete : (t : List ℕ) → EachReference t → validated t ≡ Validated.Valid
+pub validate_complete : (t : List ℕ) → EachReference t → validated t ≡ Ok tt
 unfolding validated references verdict
 validate_complete t h = let w = each_complete 0 0 t h.each in rw w.1
 
 -- ---- and it refuses with a place exactly where that is the first `&` which begins no Reference
 -- no Reference begins at an `&` exactly where validation reads none after it
-none_sound : (s : List ℕ) → reference true s ≡ Reference.Bad → BeginsReference (0x26 ∷ s) → ⊥
+none_sound : (s : List ℕ) → reference true s ≡ None → BeginsReference (0x26 ∷ s) → ⊥
 none_sound s q b = no_char (sym q ∙ reference_complete b.is s b.rest b.cut)
 
-none_complete : (s : List ℕ) → (BeginsReference (0x26 ∷ s) → ⊥) → reference true s ≡ Reference.Bad
+none_complete : (s : List ℕ) → (BeginsReference (0x26 ∷ s) → ⊥) → reference true s ≡ None
 none_complete s h = go (reference true s) refl
   where
-    go : (r : Reference) → reference true s ≡ r → r ≡ Reference.Bad
-    go (Reference.Char c n) q = absurd (h (begins s q))
-    go Reference.Bad q = refl
+    go : (r : Option Reference) → reference true s ≡ r → r ≡ None
+    go (Some y) q = absurd (h (begins s q))
+    go None q = refl
 
 module _ (t : List ℕ) (at : ℕ) where
   at_amp : get_or t at 0 ≡ 38 → drop at t ≡ 0x26 ∷ drop (suc at) t
@@ -481,8 +480,8 @@ module _ (t : List ℕ) (at : ℕ) where
       }
 
 -- ---- THE EXACTNESS OF VALIDATION: each answer is given exactly where it is right by XML 1.0
-pub validate_is : (t : List ℕ) (v : Validated) → (validated t ≡ v) ↔ Correct t v
+pub validate_is : (t : List ℕ) (v : Result (Unit {0}) BadReference) → (validated t ≡ v) ↔ Correct t v
 unfolding Correct
-validate_is t Validated.Valid = (validate_sound t, validate_complete t)
-validate_is t (Validated.BadReference at) = let w = validate_bad_is t at in
-    (λ e. fails_sound t at (w.0 e), λ n. w.1 (fails_complete t at n))
+validate_is t (Ok u) = (validate_sound t, validate_complete t)
+validate_is t (Err e) = let w = validate_bad_is t e.at in
+    (λ q. fails_sound t e.at (w.0 q), λ n. w.1 (fails_complete t e.at n))

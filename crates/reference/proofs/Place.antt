@@ -16,12 +16,13 @@ use Rattle.utf8.specs.Encode.{encode}
 use Rattle.reference.specs.Text.{span, reference, Out, before, decode}
 use Rattle.reference.specs.Text.{references, verdict, validated, unescaped, answer}
 use Rattle.reference.specs.Text.Out.{bytes, bad}
-use Rattle.reference.specs.Place.{FailsAt}
+use Rattle.reference.specs.Place.{FailsAt, failing_at}
 use Rattle.reference.proofs.Taken.{no_char, taken, NoAmp, reference_no_amp}
 use Rattle.reference.proofs.Lenient.{before_is, strict_reference}
+use Rattle.reference.specs.declared.BadReference.{BadReference}
 use Rattle.reference.specs.declared.Reference.{Reference}
-use Rattle.reference.specs.declared.Validated.{Validated}
-use Rattle.reference.specs.declared.Unescaped.{Unescaped}
+use Rattle.reference.specs.declared.UnescapeError.{UnescapeError}
+use Rattle.std.specs.Prelude.{Result, Option, None, Some, Ok, Err}
 
 pub no_bytes {ℓ} : {A : Type ℓ} {at : ℕ} {l : List ℕ} → bad at ≡ bytes l → A
 no_bytes e = let z : ◌≡◌ {A = ℕ} 0 1 = cc in absurd (omega arith)
@@ -74,7 +75,7 @@ record FailsFrom (strict : Bool) (at k p : ℕ) (s : List ℕ) : Type 0 where
   front : List ℕ
   decodes : decode strict at k (take more s) ≡ bytes front
   byte : get_or s more 0 ≡ 38
-  none : reference strict (drop (suc more) s) ≡ Reference.Bad
+  none : reference strict (drop (suc more) s) ≡ None
 
 fails_from : (strict : Bool) (at k : ℕ) (s : List ℕ) {p : ℕ} → decode strict at k s ≡ bad p → FailsFrom strict at k p s
 unfolding decode before
@@ -93,25 +94,25 @@ fails_from strict at zero (x ∷ s) {p} e = go (eqb x 38) (reference strict s) r
     Rest : Type 0
     Rest = (k : ℕ) → decode strict (suc at) k s ≡ bad p → FailsFrom strict (suc at) k p s
 
-    go : (t : Bool) (r : Reference) → eqb x 38 ≡ t → reference strict s ≡ r
+    go : (t : Bool) (r : Option Reference) → eqb x 38 ≡ t → reference strict s ≡ r
         → elim t [
-          | true ↦ elim r [ Reference.Char c n ↦ before (encode c) (decode strict (suc at) n s) | Reference.Bad ↦ bad at ]
+          | true ↦ elim r [ Some y ↦ before (encode y.code) (decode strict (suc at) y.len s) | None ↦ bad at ]
           | false ↦
               before (x ∷ []) (decode strict (suc at) zero s)
         ] ≡ bad p
         → Rest → FailsFrom strict at zero p (x ∷ s)
-    go true (Reference.Char c n) q h e ih =
-        let f = ih n (before_bad (encode c) (decode strict (suc at) n s) e) in
-        let r : reference strict (take f.more s) ≡ Reference.Char c n = sym (reference_cut strict s f.more f.byte) ∙ h in
+    go true (Some y) q h e ih =
+        let f = ih y.len (before_bad (encode y.code) (decode strict (suc at) y.len s) e) in
+        let r : reference strict (take f.more s) ≡ Some y = sym (reference_cut strict s f.more f.byte) ∙ h in
         record {
           more = suc f.more;
           place = omega (arith, f.place);
-          front = encode c ++ f.front;
+          front = encode y.code ++ f.front;
           decodes = rw (decode, q, r, f.decodes);
           byte = f.byte;
           none = f.none;
         }
-    go true Reference.Bad q h e ih =
+    go true None q h e ih =
         let z : at ≡ p = cc in
         record { more = 0; place = omega arith; front = []; decodes = refl; byte = eqb-true x 38 q; none = h }
     go false r q h e ih = let f = ih 0 (before_bad (x ∷ []) (decode strict (suc at) 0 s) e) in
@@ -126,7 +127,7 @@ fails_from strict at zero (x ∷ s) {p} e = go (eqb x 38) (reference strict s) r
 
 -- ---- and back: a front that decodes, then an `&` that begins no reference
 fails_back : (strict : Bool) (at k : ℕ) (a b l : List ℕ) → k ≤ length a → decode strict at k a ≡ bytes l
-    → reference strict b ≡ Reference.Bad → decode strict at k (a ++ (38 ∷ b)) ≡ bad (at + length a)
+    → reference strict b ≡ None → decode strict at k (a ++ (38 ∷ b)) ≡ bad (at + length a)
 unfolding decode before
 fails_back strict at zero [] b l h e q = rw (decode, q, add-zero)
 fails_back strict at (suc k) [] b l h e q = absurd (omega arith)
@@ -143,26 +144,25 @@ fails_back strict at zero (x ∷ a) b l h e q =
     Rest = (k : ℕ) (m : List ℕ) → k ≤ length a → decode strict (suc at) k a ≡ bytes m
         → decode strict (suc at) k (a ++ (38 ∷ b)) ≡ bad (suc at + length a)
 
-    go : (t : Bool) (r : Reference) → eqb x 38 ≡ t → reference strict a ≡ r
+    go : (t : Bool) (r : Option Reference) → eqb x 38 ≡ t → reference strict a ≡ r
         → elim t [
-          | true ↦ elim r [ Reference.Char c n ↦ before (encode c) (decode strict (suc at) n a) | Reference.Bad ↦ bad at ]
+          | true ↦ elim r [ Some y ↦ before (encode y.code) (decode strict (suc at) y.len a) | None ↦ bad at ]
           | false ↦
               before (x ∷ []) (decode strict (suc at) zero a)
         ] ≡ bytes l
         → Rest → decode strict at zero (x ∷ (a ++ (38 ∷ b))) ≡ bad (at + suc (length a))
-    go true (Reference.Char c n) g h e ih =
-        let w = before_is (encode c) l (decode strict (suc at) n a) e in
-        rw (decode, g, reference_amp strict a b, h, ih n w.0 (taken strict a h).within w.1, z)
-    go true Reference.Bad g h e ih = no_bytes e
+    go true (Some y) g h e ih =
+        let w = before_is (encode y.code) l (decode strict (suc at) y.len a) e in
+        rw (decode, g, reference_amp strict a b, h, ih y.len w.0 (taken strict a h).within w.1, z)
+    go true None g h e ih = no_bytes e
     go false r g h e ih =
         let w = before_is (x ∷ []) l (decode strict (suc at) 0 a) e in
         rw (decode, g, ih 0 w.0 (omega arith) w.1, z)
 
 -- ---- each `&` of a text that decodes begins a reference
 pub record Begins (strict : Bool) (s : List ℕ) : Type 0 where
-  pub char : ℕ
-  pub size : ℕ
-  pub is : reference strict s ≡ Reference.Char char size
+  pub found : Reference
+  pub is : reference strict s ≡ Some found
 
 -- once k bytes that hold none are passed
 pub each_begins : (strict : Bool) (at k : ℕ) (s l : List ℕ) → NoAmp k s → decode strict at k s ≡ bytes l
@@ -173,11 +173,11 @@ each_begins strict at (suc k) (x ∷ s) l p e zero q = absurd (p 0 (omega arith)
 each_begins strict at (suc k) (x ∷ s) l p e (suc j) q = each_begins strict (suc at) k s l (λ i h. p (suc i) (omega arith)) e j q
 each_begins strict at zero (x ∷ s) l p e zero q = go (reference strict s) refl (rw (decode, q) at e)
   where
-    go : (r : Reference) → reference strict s ≡ r
-        → elim r [ Reference.Char c n ↦ before (encode c) (decode strict (suc at) n s) | Reference.Bad ↦ bad at ] ≡ bytes l
+    go : (r : Option Reference) → reference strict s ≡ r
+        → elim r [ Some y ↦ before (encode y.code) (decode strict (suc at) y.len s) | None ↦ bad at ] ≡ bytes l
         → Begins strict s
-    go (Reference.Char c n) h e = record { char = c; size = n; is = h }
-    go Reference.Bad h e = no_bytes e
+    go (Some y) h e = record { found = y; is = h }
+    go None h e = no_bytes e
 each_begins strict at zero (x ∷ s) l p e (suc j) q =
     go (eqb x 38) (reference strict s) refl e (λ k m p e. each_begins strict (suc at) k s m p e j q)
   where
@@ -185,16 +185,16 @@ each_begins strict at zero (x ∷ s) l p e (suc j) q =
     Rest = (k : ℕ) (m : List ℕ) → ((i : ℕ) → i < k → get_or s i 0 ≡ 38 → ⊥) → decode strict (suc at) k s ≡ bytes m
         → Begins strict (drop (suc j) s)
 
-    go : (t : Bool) (r : Reference) → reference strict s ≡ r
+    go : (t : Bool) (r : Option Reference) → reference strict s ≡ r
         → elim t [
-          | true ↦ elim r [ Reference.Char c n ↦ before (encode c) (decode strict (suc at) n s) | Reference.Bad ↦ bad at ]
+          | true ↦ elim r [ Some y ↦ before (encode y.code) (decode strict (suc at) y.len s) | None ↦ bad at ]
           | false ↦
               before (x ∷ []) (decode strict (suc at) zero s)
         ] ≡ bytes l
         → Rest → Begins strict (drop (suc j) s)
-    go true (Reference.Char c n) h e ih = let w = before_is (encode c) l (decode strict (suc at) n s) e in
-        ih n w.0 (reference_no_amp strict s h) w.1
-    go true Reference.Bad h e ih = no_bytes e
+    go true (Some y) h e ih = let w = before_is (encode y.code) l (decode strict (suc at) y.len s) e in
+        ih y.len w.0 (reference_no_amp strict s h) w.1
+    go true None h e ih = no_bytes e
     go false r h e ih = let w = before_is (x ∷ []) l (decode strict (suc at) zero s) e in ih 0 w.0 (λ i h e. omega arith) w.1
 
 -- ---- THE PLACE
@@ -231,7 +231,7 @@ module _ (strict : Bool) (t : List ℕ) where
       let i : suc k ≤ length p = omega (arith, length-take at t, fails_within f) in
       let q : drop (suc k) t ≡ drop (suc k) p ++ (38 ∷ drop (suc at) t) =
       ap (drop (suc k)) (cut t at f.byte) ∙ drop-append-le (suc k) p (38 ∷ drop (suc at) t) i in
-      record { char = w.char; size = w.size; is = rw (q, reference_amp strict (drop (suc k) p) (drop (suc at) t)) w.is }
+      record { found = w.found; is = rw (q, reference_amp strict (drop (suc k) p) (drop (suc at) t)) w.is }
 
 -- validation fails no later than unescaping
 pub strict_first : (t : List ℕ) {i j : ℕ} → FailsAt true t i → FailsAt false t j → i ≤ j
@@ -240,32 +240,33 @@ strict_first t {i} {j} f g = go (leb i j) refl
     go : (u : Bool) → leb i j ≡ u → i ≤ j
     go true e = leb-true i j e
     go false e = let w = fails_first true t f j (leb-false i j e) g.byte in
-        no_char (sym g.none ∙ strict_reference (drop (suc j) t) w.char w.size w.is)
+        no_char (sym g.none ∙ strict_reference (drop (suc j) t) w.found w.is)
 
 -- ---- the two operations
 -- `validate` refuses with a place exactly where it is that of the first failing `&`
-pub validate_bad_is : (t : List ℕ) (at : ℕ) → (validated t ≡ Validated.BadReference at) ↔ FailsAt true t at
+pub validate_bad_is : (t : List ℕ) (at : ℕ) → (validated t ≡ Err (record { at = at })) ↔ FailsAt true t at
 unfolding validated references verdict
 validate_bad_is t at = (λ e. (bad_is true t at).0 (there (decode true 0 0 t) e), λ f. ap verdict ((bad_is true t at).1 f))
   where
-    there : (o : Out) → verdict o ≡ Validated.BadReference at → o ≡ bad at
+    there : (o : Out) → verdict o ≡ Err (record { at = at }) → o ≡ bad at
     there (bytes l) e = let z : ◌≡◌ {A = ℕ} 0 1 = cc in absurd (omega arith)
-    there (bad k) e = let z : k ≡ at = cc in ap bad z
+    there (bad k) e = ap bad (ap failing_at e)
 
 -- and so does `unescape`, whatever the room
-pub unescape_bad_is : (t : List ℕ) (room at : ℕ) → (answer (unescaped t) room ≡ Unescaped.BadReference at) ↔ FailsAt false t at
+pub unescape_bad_is : (t : List ℕ) (room at : ℕ) → (answer (unescaped t) room ≡ Err (UnescapeError.BadReference at)) ↔ FailsAt false t at
 unfolding unescaped answer
 unescape_bad_is t room at =
     (λ e. (bad_is false t at).0 (there (decode false 0 0 t) e), λ f. ap (λ (o : Out). answer o room) ((bad_is false t at).1 f))
   where
-    there : (o : Out) → answer o room ≡ Unescaped.BadReference at → o ≡ bad at
+    there : (o : Out) → answer o room ≡ Err (UnescapeError.BadReference at) → o ≡ bad at
     there (bytes l) e = go (leb (length l) room) e
       where
-        go : (u : Bool) → pick u (Unescaped.Length (length l)) Unescaped.NoRoom ≡ Unescaped.BadReference at → bytes l ≡ bad at
+        go : (u : Bool) → pick u (Ok (length l)) (Err UnescapeError.NoRoom) ≡ Err (UnescapeError.BadReference at) → bytes l ≡ bad at
         go true e = let z : ◌≡◌ {A = ℕ} 0 1 = cc in absurd (omega arith)
         go false e = let z : ◌≡◌ {A = ℕ} 0 1 = cc in absurd (omega arith)
     there (bad k) e = let z : k ≡ at = cc in ap bad z
 
 -- ---- for callers of `validate`: the place that is told lies in the text
-pub validate_within : (t : List ℕ) {r : Validated} {at : ℕ} → r ≡ validated t → r ≡ Validated.BadReference at → at < length t
-validate_within t {r} {at} q e = fails_within true t ((validate_bad_is t at).0 (sym q ∙ e))
+pub validate_within : (t : List ℕ) {r : Result (Unit {0}) BadReference} {why : BadReference} → r ≡ validated t → r ≡ Err why
+    → why.at < length t
+validate_within t {r} {why} q e = fails_within true t ((validate_bad_is t why.at).0 (sym q ∙ e))

@@ -18,7 +18,7 @@ use Rattle.reference.specs.Text.Out.{bytes, bad}
 use Rattle.reference.proofs.Taken.{taken}
 use Rattle.reference.proofs.Lenient.{before_is}
 use Rattle.reference.specs.declared.Reference.{Reference}
-use Rattle.reference.specs.declared.Validated.{Validated}
+use Rattle.std.specs.Prelude.{Option, None, Some, Ok}
 
 -- ---- a text without `&` is unescaped to itself
 unescaped_plain : (strict : Bool) (at : ℕ) (s : List ℕ) → ((k : ℕ) → get_or s k 0 ≡ 38 → ⊥) → decode strict at 0 s ≡ bytes s
@@ -31,7 +31,7 @@ pub plain_unescapes : (t : List ℕ) → ((k : ℕ) → get_or t k 0 ≡ 38 → 
 unfolding unescaped
 plain_unescapes t p = unescaped_plain false 0 t p
 
-pub plain_valid : (t : List ℕ) → ((k : ℕ) → get_or t k 0 ≡ 38 → ⊥) → validated t ≡ Validated.Valid
+pub plain_valid : (t : List ℕ) → ((k : ℕ) → get_or t k 0 ≡ 38 → ⊥) → validated t ≡ Ok tt
 unfolding validated references verdict
 plain_valid t p = rw (unescaped_plain true 0 t p)
 
@@ -57,18 +57,18 @@ shorter strict at zero (b ∷ s) l h e = go (eqb b 38) (reference strict s) refl
         let x = before_is a l (decode strict (suc at) k s) e in
         omega (arith, ih k x.0 h x.1, ap length x.2, length-append a x.0)
 
-    go : (t : Bool) (r : Reference) → reference strict s ≡ r
+    go : (t : Bool) (r : Option Reference) → reference strict s ≡ r
         → elim t [
-          | true ↦ elim r [ Reference.Char c n ↦ before (encode c) (decode strict (suc at) n s) | Reference.Bad ↦ bad at ]
+          | true ↦ elim r [ Some y ↦ before (encode y.code) (decode strict (suc at) y.len s) | None ↦ bad at ]
           | false ↦
               before (b ∷ []) (decode strict (suc at) zero s)
         ] ≡ bytes l
         → ((k : ℕ) (m : List ℕ) → k ≤ length s → decode strict (suc at) k s ≡ bytes m → length m + k ≤ length s)
         → length l + 0 ≤ suc (length s)
-    go true (Reference.Char c n) q e ih =
+    go true (Some y) q e ih =
         let t = taken strict s q in
-        rest (encode c) n t.within (omega (arith, t.some, encode_most c)) e ih
-    go true Reference.Bad q e ih = let z : ◌≡◌ {A = ℕ} 0 1 = cc in absurd (omega arith)
+        rest (encode y.code) y.len t.within (omega (arith, t.some, encode_most y.code)) e ih
+    go true None q e ih = let z : ◌≡◌ {A = ℕ} 0 1 = cc in absurd (omega arith)
     go false r q e ih = rest (b ∷ []) zero (omega arith) (omega arith) e ih
 
 -- never longer than its input
@@ -113,16 +113,16 @@ utf8_copy b s (r ∷ rs) o h w ih = go (in_range r b) refl w
     go false q w = false_true w
 
 -- a reference is replaced by the bytes of a scalar value
-utf8_reference : (strict : Bool) (s : List ℕ) (rs : List Range) (o : Out) {c n : ℕ} → high rs ≡ true → walk rs (38 ∷ s) ≡ true
-    → reference strict s ≡ Reference.Char c n
-    → (walk [] (drop n s) ≡ true → Fits [] o) → Fits rs (before (encode c) o)
+utf8_reference : (strict : Bool) (s : List ℕ) (rs : List Range) (o : Out) {y : Reference} → high rs ≡ true → walk rs (38 ∷ s) ≡ true
+    → reference strict s ≡ Some y
+    → (walk [] (drop y.len s) ≡ true → Fits [] o) → Fits rs (before (encode y.code) o)
 unfolding is_utf8 high
-utf8_reference strict s rs o {c} {n} h w q ih =
+utf8_reference strict s rs o {y} h w q ih =
     let t = taken strict s q in
     let e : rs ≡ [] = ascii_none rs 38 s w h (lit< tt) in
     let v : walk [] s ≡ true = sym (walk_ascii 38 s (lit< tt)) ∙ rw e at w in
-    let d : walk [] (drop n s) ≡ true = walk_drop_after [] s n refl (omega (arith, t.some)) t.within (rw t.semicolon (lit< tt)) v in
-    rw e (fits_before (encode c) [] [] o (λ m k. utf8_encode c m t.char ∙ k) (ih d))
+    let d : walk [] (drop y.len s) ≡ true = walk_drop_after [] s y.len refl (omega (arith, t.some)) t.within (rw t.semicolon (lit< tt)) v in
+    rw e (fits_before (encode y.code) [] [] o (λ m k. utf8_encode y.code m t.char ∙ k) (ih d))
 
 utf8_decode : (strict : Bool) (at : ℕ) (s : List ℕ) (k : ℕ) (rs : List Range) → high rs ≡ true → walk rs (drop k s) ≡ true
     → Fits rs (decode strict at k s)
@@ -132,15 +132,15 @@ utf8_decode strict at [] (suc k) rs h w = w
 utf8_decode strict at (b ∷ s) (suc k) rs h w = utf8_decode strict (suc at) s k rs h w
 utf8_decode strict at (b ∷ s) zero rs h w = go (eqb b 38) (reference strict s) refl refl (utf8_decode strict (suc at) s)
   where
-    go : (t : Bool) (r : Reference) → eqb b 38 ≡ t → reference strict s ≡ r
+    go : (t : Bool) (r : Option Reference) → eqb b 38 ≡ t → reference strict s ≡ r
         → ((k : ℕ) (rs : List Range) → high rs ≡ true → walk rs (drop k s) ≡ true → Fits rs (decode strict (suc at) k s))
         → Fits rs (elim t [
-          | true ↦ elim r [ Reference.Char c n ↦ before (encode c) (decode strict (suc at) n s) | Reference.Bad ↦ bad at ]
+          | true ↦ elim r [ Some y ↦ before (encode y.code) (decode strict (suc at) y.len s) | None ↦ bad at ]
           | false ↦ before (b ∷ []) (decode strict (suc at) zero s)
         ])
-    go true (Reference.Char c n) e q ih =
-        utf8_reference strict s rs (decode strict (suc at) n s) h (rw (eqb-true b 38 e) at w) q (λ d. ih n [] refl d)
-    go true Reference.Bad e q ih = tt
+    go true (Some y) e q ih =
+        utf8_reference strict s rs (decode strict (suc at) y.len s) h (rw (eqb-true b 38 e) at w) q (λ d. ih y.len [] refl d)
+    go true None e q ih = tt
     go false r e q ih = utf8_copy b s rs (decode strict (suc at) zero s) h w (λ next g v. ih zero next g v)
 
 -- UTF-8 when its input is

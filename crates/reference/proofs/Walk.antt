@@ -16,6 +16,7 @@ use Rattle.reference.specs.Text.{reference, Out, before, decode}
 use Rattle.reference.specs.Text.Out.{bytes, bad}
 use Rattle.reference.proofs.Taken.{taken}
 use Rattle.reference.specs.declared.Reference.{Reference}
+use Rattle.std.specs.Prelude.{Option, None, Some}
 
 pub before_none : (o : Out) → before [] o ≡ o
 unfolding before
@@ -71,19 +72,29 @@ module _ {strict : Bool} {t acc : List ℕ} {i : ℕ} (at : DecodeAt strict t ac
   unfolding decode before
   decode_end h = rw (← at.rest, drop_of_length-le t, append-nil)
 
-  module _ {r : Reference} (h : i < length t) (amp : get_or t i 0 ≡ 38) (q : r ≡ reference strict (drop (i + 1) t)) where
-    pub decode_bad : r ≡ Reference.Bad → decode strict 0 0 t ≡ bad i
+  module _ {r : Option Reference} (h : i < length t) (amp : get_or t i 0 ≡ 38) (q : r ≡ reference strict (drop (i + 1) t)) where
+    pub decode_bad : r ≡ None → decode strict 0 0 t ≡ bad i
     unfolding decode before
     decode_bad e = let k = rw add-one at q in rw (← at.rest, drop-cons t i 0, decode, amp, ← k, e)
 
-    pub decode_ref : {c n : ℕ} → r ≡ Reference.Char c n → DecodeAt strict t (acc ++ encode c) (i + 1 + n)
+    pub decode_ref : {y : Reference} → r ≡ Some y → DecodeAt strict t (acc ++ encode y.code) (i + 1 + y.len)
     unfolding decode
-    decode_ref {c} {n} e =
+    decode_ref {y} e =
         let l = taken strict (drop (i + 1) t) (sym q ∙ e) in
         let k = rw add-one at q in
-        let x : before (encode c) (decode strict (i + 1 + n) 0 (drop (i + 1 + n) t)) ≡ decode strict i 0 (drop i t) =
-        rw (add-one i, drop-cons t i 0, decode, amp, ← k, e, decode_skip strict (suc i) n (drop (suc i) t), drop-drop n (suc i) t) in
+        let x : before (encode y.code) (decode strict (i + 1 + y.len) 0 (drop (i + 1 + y.len) t)) ≡ decode strict i 0 (drop i t) =
+        rw (
+          add-one i,
+          drop-cons t i 0,
+          decode,
+          amp,
+          ← k,
+          e,
+          decode_skip strict (suc i) y.len (drop (suc i) t),
+          drop-drop y.len (suc i) t,
+        ) in
         record {
           within = omega (arith, l.within, length-drop (i + 1) t);
-          rest = sym (before_before acc (encode c) (decode strict (i + 1 + n) 0 (drop (i + 1 + n) t))) ∙ ap (before acc) x ∙ at.rest;
+          rest = sym (before_before acc (encode y.code) (decode strict (i + 1 + y.len) 0 (drop (i + 1 + y.len) t))) ∙ ap (before acc) x
+              ∙ at.rest;
         }

@@ -1,12 +1,11 @@
 -- The place that a refusal of `validate` or `unescape` tells: "the place of the first failing `&`, counted from the start of the text
 -- they got" (change request 1).
-use Rattle.std.specs.Prelude.{ℕ, suc, ◌≡◌, Bool, List, get_or, drop, take}
+use Rattle.std.specs.Prelude.{ℕ, suc, ◌≡◌, Bool, List, get_or, drop, take, None, Result, Ok, Err}
 use Rattle.lists.specs.Characters.{ampersand}
 use Rattle.reference.specs.Text.{reference, decode}
 use Rattle.reference.specs.Text.Out.{bytes}
 use Rattle.reference.specs.Xml.{BeginsReference, EachReference}
-use Rattle.reference.specs.declared.Reference.{Reference}
-use Rattle.reference.specs.declared.Validated.{Validated}
+use Rattle.reference.specs.declared.BadReference.{BadReference}
 
 -- by the definitions: `at` is the place of the first failing `&` of a text that is read strictly (validated) or not (unescaped)
 pub record FailsAt (strict : Bool) (t : List ℕ) (at : ℕ) : Type 0 where
@@ -16,7 +15,7 @@ pub record FailsAt (strict : Bool) (t : List ℕ) (at : ℕ) : Type 0 where
   -- "`&`": the byte there
   pub byte : get_or t at 0 ≡ ampersand
   -- "failing": no reference begins there
-  pub none : reference strict (drop (suc at) t) ≡ Reference.Bad
+  pub none : reference strict (drop (suc at) t) ≡ None
 
 -- by XML 1.0: the same of a text that is validated
 pub record NoReferenceAt (t : List ℕ) (at : ℕ) : Type 0 where
@@ -28,11 +27,11 @@ pub record NoReferenceAt (t : List ℕ) (at : ℕ) : Type 0 where
   pub none : BeginsReference (drop at t) → ⊥
 
 -- what each answer of `validate` says of a text, by XML 1.0
-unfoldable pub Correct : List ℕ → Validated → Type 0
-Correct t Validated.Valid = EachReference t
-Correct t (Validated.BadReference at) = NoReferenceAt t at
+unfoldable pub Correct : List ℕ → Result (Unit {0}) BadReference → Type 0
+Correct t (Ok u) = EachReference t
+Correct t (Err e) = NoReferenceAt t e.at
 
 -- where validating a text fails; 0 where it is valid
-abbrev pub failing_at : Validated → ℕ
-failing_at Validated.Valid = 0
-failing_at (Validated.BadReference at) = at
+abbrev pub failing_at : Result (Unit {0}) BadReference → ℕ
+failing_at (Ok u) = 0
+failing_at (Err e) = e.at

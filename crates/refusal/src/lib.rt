@@ -8,7 +8,7 @@ ghost use Rattle.refusal.specs.Numbers.{number, place, SmallPlace};
 
 // Why an operation refused, in 01's words and in the order of its numbers. A reference has the place of the failing `&`, an offset in the
 // body that was lent: 16 bits hold it, and keep the refusal small enough for every answer that may be one.
-#[derive(Clone, Copy)]
+#[derive(Clone, Copy, PartialEq, Eq, Debug)]
 pub enum Refusal {
     Table,
     Sheet,
@@ -25,54 +25,45 @@ pub enum Refusal {
     NoSuchElement,
 }
 
-// The number of a refusal (01, "Numbers").
-pub fn number_of(why: Refusal) -> u32
-    ensures { result ≡ number why }
-{
-    match why {
-        Refusal::Table => 1,
-        Refusal::Sheet => 2,
-        Refusal::Depth => 3,
-        Refusal::NoRoot => 4,
-        Refusal::RootName => 5,
-        Refusal::ElementInText => 6,
-        Refusal::BadReference { at: _ } => 7,
-        Refusal::TokenError => 8,
-        Refusal::IllFormed => 9,
-        Refusal::NoRoom => 10,
-        Refusal::NotBoolean => 11,
-        Refusal::NotInteger => 12,
-        Refusal::NoSuchElement => 13,
+impl Refusal {
+    // The refusal of a text that begins at `from` in the body and has its first failing `&` at `at` in itself.
+    pub fn bad_at(from: usize, at: usize) -> Refusal
+        requires { SmallPlace from (at + 1) }
+        ensures { result ≡ Refusal.BadReference (from + at) }
+    {
+        Refusal::BadReference {
+            at: (from + at) as u16,
+        }
     }
-}
 
-// The place beside the number: that of the failing `&` where the number is 7, and 0 where it is not.
-pub fn place_of(why: Refusal) -> u32
-    ensures { result ≡ place why }
-{
-    match why {
-        Refusal::Table => 0,
-        Refusal::Sheet => 0,
-        Refusal::Depth => 0,
-        Refusal::NoRoot => 0,
-        Refusal::RootName => 0,
-        Refusal::ElementInText => 0,
-        Refusal::BadReference { at } => at as u32,
-        Refusal::TokenError => 0,
-        Refusal::IllFormed => 0,
-        Refusal::NoRoom => 0,
-        Refusal::NotBoolean => 0,
-        Refusal::NotInteger => 0,
-        Refusal::NoSuchElement => 0,
+    // The number of a refusal (01, "Numbers").
+    pub fn number(self) -> u32
+        ensures { result ≡ number self }
+    {
+        match self {
+            Refusal::Table => 1,
+            Refusal::Sheet => 2,
+            Refusal::Depth => 3,
+            Refusal::NoRoot => 4,
+            Refusal::RootName => 5,
+            Refusal::ElementInText => 6,
+            Refusal::BadReference { at: _ } => 7,
+            Refusal::TokenError => 8,
+            Refusal::IllFormed => 9,
+            Refusal::NoRoom => 10,
+            Refusal::NotBoolean => 11,
+            Refusal::NotInteger => 12,
+            Refusal::NoSuchElement => 13,
+        }
     }
-}
 
-// The refusal of a text that begins at `from` in the body and has its first failing `&` at `at` in itself.
-pub fn bad_at(from: usize, at: usize) -> Refusal
-    requires { SmallPlace from (at + 1) }
-    ensures { result ≡ Refusal.BadReference (from + at) }
-{
-    Refusal::BadReference {
-        at: (from + at) as u16,
+    // The place beside the number: that of the failing `&` where the number is 7, and 0 where it is not.
+    pub fn place(self) -> u32
+        ensures { result ≡ place self }
+    {
+        match self {
+            Refusal::BadReference { at } => at as u32,
+            _ => 0,
+        }
     }
 }

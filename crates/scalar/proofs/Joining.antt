@@ -1,300 +1,424 @@
--- Laws of the loops over the rows of an element: what a row does to its whole text, the length of the text, and its bytes.
-use Prim.Native.Nat.{ℕ, suc, ◌+◌, ◌*◌, ◌≤◌, ◌<◌}
+-- Laws of the texts directly in an element: the walk to the next one, all of them measured, and written.
+use Prim.Native.Nat.{ℕ, suc, ◌+◌, ◌*◌, ◌^◌, ◌≤◌, ◌<◌}
 use mathlib.Core.Path.{◌≡◌, refl, sym, ◌∙◌, ap}
 use mathlib.Core.Bool.{Bool, true, false}
 use mathlib.Core.List.{List, [], ◌++◌, append_assoc, append-nil}
+use mathlib.Core.Option as math
 use native.Mathlib.Numerals.{add-one}
 use native.Mathlib.Omega.{arith}
-use borrow.Author.Rules.{rules}
-use mir.Val.{Fits}
+use borrow.Author.Tests.{le-leb, lt-leb}
 use mir.Syntax.{w64}
+use mir.Val.{Fits}
+use lib.Dec.{leb}
 use lib.ListN.{length, get_or, length-append}
 use lib.Seq.{length-sets}
+use Rattle.std.proofs.lemmas.List.Edits.{sets}
+use Rattle.std.specs.Result.{result_unwrap_or}
+use Rattle.std.specs.Prelude.{Option, Result, Ok, Err, Some, None}
 use Rattle.lists.specs.Tests.{pick}
-use Rattle.lists.specs.Overwrite.{overwritten, Stored}
-use Rattle.lists.proofs.Overwrite.{overwrite_none, overwrite_more}
+use Rattle.lists.specs.Decide.{is_yes}
+use Rattle.lists.proofs.Tests.{false_true}
+use Rattle.lists.specs.Overwrite.{overwritten}
+use Rattle.lists.proofs.Overwrite.{overwrite_none, overwrite_more, rest, back, rest_length, back_stored}
 use Rattle.refusal.specs.declared.Refusal.{Refusal}
-use Rattle.refusal.specs.Answer.{Answer, gives, refuses}
-use Rattle.reference.specs.Text.{Out, bytes, bad, unescaped, meaning}
-use Rattle.reference.proofs.Result.{unescaped_shorter}
-use Rattle.table.specs.Row.{Tok, tok_as}
-use Rattle.table.specs.Flat.{rows_from}
+use Rattle.refusal.specs.Answer.{Answer, gives, refuses, onward}
+use Rattle.table.specs.Row.{Tok, tok_as, rows_of, toks_of}
+use Rattle.table.specs.Rules.{open_count}
+use Rattle.table.specs.Test.{dec_table}
+use Rattle.table.specs.Rows.{name_at, value_at, tok_at}
+use Rattle.table.specs.declared.rows.ValidTable.{ValidTable}
+use Rattle.table.proofs.Classes.{kind_of_lem}
 use Rattle.table.proofs.Flat.{unroll, drop_from}
-use Rattle.document.specs.declared.Depth.{Depth}
-use Rattle.document.specs.Reader.{depth, depth_after, ends_at}
-use Rattle.document.specs.Text.{value_start_at, unescaped_from, text_turn, take_each, joined}
-use Rattle.document.proofs.Laws.Short.{cut_short}
+use Rattle.table.proofs.Valid.{few_rows}
+use Rattle.xml.proofs.First.{walk_not_table}
+use Rattle.xml.specs.declared.DrainError.{DrainError}
+use Rattle.xml.specs.Drain.{walked, drained_by, drained}
+use Rattle.document.specs.declared.part.Text.{Text}
+use Rattle.document.specs.declared.part.Measured.{Measured}
+use Rattle.document.specs.View.{view, strict_view}
+use Rattle.document.specs.View as doc
+use Rattle.document.specs.Reader.{depth, depth_after, Scope, ends_at}
+use Rattle.document.specs.Scope.{Child, scope_of, root_of}
+use Rattle.document.specs.Text.{value_start_at, text_turn, take_each, joined, whole_of, string_in}
+use Rattle.document.specs.Part.{text_at, measured_as, bytes_of, copied_as, length_in, buffer_after, CopyIs}
 use Rattle.document.proofs.Laws.Place.{value_start_lem}
-use Rattle.decode.specs.declared.reader.ScopeRow.{ScopeRow}
+use Rattle.readings.specs.Call.{Upload}
+use Rattle.readings.specs.Opening.{present}
+use Rattle.readings.specs.Scalar.{whole_text}
+use Rattle.decode.specs.declared.element.Element.{Element}
+use Rattle.decode.specs.declared.place.Cursor.{Cursor}
 use Rattle.decode.specs.declared.view.View.{View}
-use Rattle.decode.specs.Rows.{InTable, name_at, value_at, tok_at}
-use Rattle.decode.specs.Reader.{toks_from, scope_at, HasRow, DepthIs}
-use Rattle.decode.specs.View.{Viewed}
-use Rattle.decode.proofs.ByKind.{other}
-use Rattle.decode.proofs.Places.{toks_next, toks_none, tok_is, row_seen}
-use Rattle.scalar.specs.declared.Copied.{Copied}
-use Rattle.scalar.specs.declared.whole.Turn.{Turn}
-use Rattle.scalar.specs.Answers.{length_in, LengthIs, buffer_after}
-use Rattle.scalar.specs.Whole.{prepend, turn_as, join_at, TurnIs, joined_from, JoinRoom, PutRoom}
+use Rattle.decode.specs.Place.{At}
+use Rattle.decode.specs.View.{view_of, ViewIs}
+use Rattle.decode.specs.Element.{toks_from, child_of, RootIs, ValueIs}
+use Rattle.decode.proofs.Known.{toks_next, toks_none, open_low}
+use Rattle.decode.proofs.Skipping.{depth_here}
+use Rattle.decode.proofs.Texts.{passed}
+use Rattle.scalar.specs.Whole.{texts_from, texts_of, prepend, NextText, JoinRoom, text_in}
 
--- ---- what a row does
-module _ (body t : List ℕ) (s : ScopeRow) (d k : ℕ) {kind : ℕ} (g : kind ≡ get_or t (k * 8 + 0) 0) where
-  pub turn_text : kind ≡ 6 → TurnIs body t s d k Turn.Text
-  unfolding tok_as
-  turn_text e = record { is = λ more. rw (tok_is body t k g 6 e) }
+-- ---- the walk to the next text: at depth d and row k what is left gives the whole
+abbrev inside_from : Element → ℕ → ℕ → Answer (List ℕ)
+inside_from e d k =
+    joined (view_of e.view).rows (scope_of (child_of e).start) (depth d) k
+    (toks_from e.view.table.body.now e.view.table.rows.now e.view.count k)
 
-  pub turn_element : kind ≡ 1 → TurnIs body t s d k Turn.Element
-  unfolding tok_as
-  turn_element e = record { is = λ more. rw (tok_is body t k g 1 e) }
+pub record TextsAt (e : Element) (c : Cursor) (d k : ℕ) : Type 0 where
+  pub inner : e.start.closed ≡ false
+  pub low : d ≤ k
+  pub later : c.row ≤ k
+  pub rest : inside_from e d k ≡ texts_from e c
 
-  module _ (a : (kind ≡ 6 → ⊥)) (b : (kind ≡ 1 → ⊥)) {e : ℕ} (x : DepthIs kind d e) {r : Bool}
-      (i : r ≡ ends_at (scope_at body t s) (depth e) (tok_at body t k)) where
-    passed : (more : Depth → Answer (List ℕ)) → join_at body t s d k (tok_at body t k) more ≡ pick r (gives []) (more (depth e))
-    passed more =
-        let y : depth_after (tok_at body t k) (depth d) ≡ depth e = rw (← g) (x.is b (name_at body t k) (value_at body t k)) in
-        let take = take_each (get_or t (k * 8 + 5) 0) in
-        let z = (other kind (name_at body t k) (value_at body t k)).text b a take (scope_at body t s) (depth e) (more (depth e)) in
-        rw (y, i) (rw g at z)
+pub next_closed : (e : Element) (c c' : Cursor) → e.start.closed ≡ true → NextText e c c' (Ok None)
+unfolding texts_from
+next_closed e c c' q = record { is = rw q; moved = tt }
 
-    pub turn_on : r ≡ false → TurnIs body t s d k (Turn.On e)
-    turn_on q = record { is = λ more. rw q at (passed more) }
+-- of an element that did not end in `/>`
+texts_open : (e : Element) (c : Cursor) → e.start.closed ≡ false → texts_from e c ≡ inside_from e c.depth.0 c.row
+unfolding texts_from
+texts_open e c q = rw q
 
-    pub turn_ended : r ≡ true → TurnIs body t s d k Turn.Ended
-    turn_ended q = record { is = λ more. rw q at (passed more) }
+pub next_start : (e : Element) (c : Cursor) → At e.view.count c → e.start.closed ≡ false → TextsAt e c c.depth.0 c.row
+unfolding texts_from
+next_start e c a q = record { inner = q; low = a.low; later = omega arith; rest = rw q }
 
-pub ruleset turn_laws = (rules, turn_text, turn_element, turn_on, turn_ended)
+module _ {e : Element} {c : Cursor} {d k : ℕ} (w : TextsAt e c d k) where
+  abbrev body : List ℕ
+  body = e.view.table.body.now
 
--- ---- the loops: acc are the bytes so far
-pub record JoinAt (body t : List ℕ) (v : View) (s : ScopeRow) (d₀ k₀ : ℕ) (acc : List ℕ) (d k : ℕ) : Type 0 where
-  pub viewed : Viewed body t v
-  pub scope : HasRow t s
-  pub rest : prepend acc (joined_from body t v s d k) ≡ joined_from body t v s d₀ k₀
+  abbrev t : List ℕ
+  t = e.view.table.rows.now
 
-join_start : {body t : List ℕ} {v : View} {s : ScopeRow} (d k : ℕ) → Viewed body t v → HasRow t s
-    → JoinAt body t v s d k [] d k
-join_start {body} {t} {v} {s} d k q h = record { viewed = q; scope = h; rest = prepend_none (joined_from body t v s d k) }
-  where
-    prepend_none : (a : Answer (List ℕ)) → prepend [] a ≡ a
-    prepend_none (gives l) = refl
-    prepend_none (refuses r) = refl
+  abbrev n : ℕ
+  n = e.view.count
+
+  abbrev s : Scope
+  s = scope_of (child_of e).start
+
+  pub next_none : {c' : Cursor} → n ≤ k → NextText e c c' (Ok None)
+  unfolding joined
+  next_none h = record { is = sym w.rest ∙ rw (toks_none body t n k h); moved = tt }
+
+  module _ (h : k < n) where
+    -- where the row's value begins
+    begins : value_start_at (view_of e.view).rows k ≡ get_or t (k * 8 + 5) 0
+    begins =
+        let z : 0 + k ≡ k = omega arith in
+        value_start_lem (view_of e.view).rows k (rw z at (drop_from t 0 k n) ∙ unroll t k n h)
+
+    -- what one row does
+    turned : text_turn (take_each (get_or t (k * 8 + 5) 0)) s (depth_after (tok_at body t k) (depth d)) (tok_at body t k)
+        (joined (view_of e.view).rows s (depth_after (tok_at body t k) (depth d)) (k + 1) (toks_from body t n (k + 1)))
+        ≡ texts_from e c
+    unfolding joined
+    turned =
+        let rows = (view_of e.view).rows in
+        let u = tok_at body t k in
+        let f = depth_after u (depth d) in
+        let x : text_turn (take_each (value_start_at rows k)) s f u (joined rows s f (suc k) (toks_from body t n (k + 1))) ≡ texts_from e c
+        = ap (joined rows s (depth d) k) (sym (toks_next body t n k h)) ∙ w.rest in
+        rw (begins, ← add-one k) at x
+
+    module _ {kind : ℕ} (g : kind ≡ get_or t (k * 8 + 0) 0) where
+      pub next_element : {c' : Cursor} → kind ≡ 1 → NextText e c c' (Err Refusal.ElementInText)
+      unfolding tok_as
+      next_element q = record { is = sym (rw (← g, q) at turned); moved = tt }
+
+      pub next_found : {r : Text} → kind ≡ 6 → ValueIs body t k r → NextText e c (record { row = k + 1; depth = depth d }) (Ok (Some r))
+      unfolding tok_as
+      next_found {r} q x =
+          let m : At n (record { row = k + 1; depth = depth d }) = record { high = omega (arith, h); low = omega (arith, w.low) } in
+          let o = texts_open e (record { row = k + 1; depth = depth d }) w.inner in
+          record { is = rw (x.from, x.bytes, o) (sym (rw (← g, q) at turned)); moved = (omega (arith, w.later), m) }
+
+      module _ (a : (kind ≡ 6 → ⊥)) (b : (kind ≡ 1 → ⊥)) {d' : ℕ} (x : d' ≡ open_count d kind) {r : Bool}
+          (i : r ≡ ends_at s (depth d') (tok_at body t k)) where
+        on : pick r (gives []) (inside_from e d' (k + 1)) ≡ texts_from e c
+        on =
+            let y = kind_of_lem (get_or t (k * 8 + 0) 0) (name_at body t k) (value_at body t k) in
+            let z = passed y (rw g at b) (rw g at a) (take_each (get_or t (k * 8 + 5) 0)) s (depth d') (inside_from e d' (k + 1)) in
+            rw i (sym z ∙ rw (depth_here body t d k g x) at turned)
+
+        pub next_on : r ≡ false → TextsAt e c d' (k + 1)
+        next_on q =
+            record { inner = w.inner; low = rw x (open_low d kind k w.low); later = omega (arith, w.later); rest = rw q at on }
+
+        pub next_ended : {c' : Cursor} → r ≡ true → NextText e c c' (Ok None)
+        next_ended q = record { is = sym (rw q at on); moved = tt }
+
+-- ---- the texts so far in front of the rest
+prepend_none : (a : Answer (List ℕ)) → prepend [] a ≡ a
+prepend_none (gives l) = refl
+prepend_none (refuses r) = refl
 
 prepend_more : (front next : List ℕ) (a : Answer (List ℕ)) → prepend front (prepend next a) ≡ prepend (front ++ next) a
 prepend_more front next (gives l) = ap gives (sym (append_assoc front next l))
 prepend_more front next (refuses r) = refl
 
-module _ {body t : List ℕ} {v : View} {s : ScopeRow} {d₀ k₀ : ℕ} {acc : List ℕ} {d k : ℕ} (w : JoinAt body t v s d₀ k₀ acc d k) where
-  join_done : v.count ≤ k → joined_from body t v s d₀ k₀ ≡ gives acc
-  unfolding joined_from joined
-  join_done h = sym w.rest ∙ rw (toks_none body t v.count k h) (ap gives (append-nil acc))
+pub record JoinAt (e : Element) (acc : List ℕ) (c : Cursor) : Type 0 where
+  pub stands : At e.view.count c
+  pub rest : prepend acc (texts_from e c) ≡ texts_of e
 
-  module _ (h : k < v.count) where
-    pub join_row : InTable t k
-    join_row = row_seen w.viewed.sees h
+join_start : (e : Element) → JoinAt e [] e.at
+join_start e = record { stands = e.outside.at; rest = prepend_none (texts_of e) }
 
-    -- where the row's value begins
-    begins : value_start_at (rows_from t 0 v.count) k ≡ get_or t (k * 8 + 5) 0
-    begins =
-        let z : 0 + k ≡ k = omega arith in
-        value_start_lem (rows_from t 0 v.count) k (rw z at (drop_from t 0 k v.count) ∙ unroll t k v.count h)
+module _ {e : Element} {acc : List ℕ} {c c' : Cursor} (w : JoinAt e acc c) where
+  join_done : NextText e c c' (Ok None) → texts_of e ≡ gives acc
+  join_done x = sym w.rest ∙ (ap (prepend acc) x.is ∙ ap gives (append-nil acc))
 
-    abbrev after : Depth → Answer (List ℕ)
-    after e = joined (rows_from t 0 v.count) (scope_at body t s) e (k + 1) (toks_from body t v.count (k + 1))
+  join_stop : {why : Refusal} → NextText e c c' (Err why) → texts_of e ≡ refuses why
+  join_stop x = sym w.rest ∙ ap (prepend acc) x.is
 
-    -- what its value comes to
-    abbrev value : Answer (List ℕ)
-    value = unescaped_from (get_or t (k * 8 + 5) 0) (unescaped (value_at body t k))
+  module _ {t : Text} (x : NextText e c c' (Ok (Some t))) where
+    turn : prepend acc (onward (text_at t) (λ (front : List ℕ). prepend front (texts_from e c'))) ≡ texts_of e
+    turn = ap (prepend acc) (sym x.is) ∙ w.rest
 
-    step : prepend acc (join_at body t s d k (tok_at body t k) after) ≡ joined_from body t v s d₀ k₀
-    unfolding joined_from joined
-    step =
-        let rows = rows_from t 0 v.count in
-        let u = tok_at body t k in
-        let e = depth_after u (depth d) in
-        let x : prepend acc (text_turn (take_each (value_start_at rows k)) (scope_at body t s) e u
-        (joined rows (scope_at body t s) e (suc k) (toks_from body t v.count (k + 1)))) ≡ joined_from body t v s d₀ k₀
-        = ap (λ (l : List Tok). prepend acc (joined rows (scope_at body t s) (depth d) k l)) (sym (toks_next body t v.count k h))
-        ∙ w.rest in
-        rw (begins, ← add-one k) at x
+    join_bad : {why : Refusal} → text_at t ≡ refuses why → texts_of e ≡ refuses why
+    join_bad q = sym (rw q at turn)
 
-    module _ {r : Turn} (x : TurnIs body t s d k r) where
-      turned : (u : Turn) → r ≡ u → prepend acc (turn_as body t d k after u) ≡ joined_from body t v s d₀ k₀
-      turned u e = ap (prepend acc) (sym (x.is after ∙ ap (turn_as body t d k after) e)) ∙ step
+    join_on : (l : List ℕ) → text_at t ≡ gives l → JoinAt e (acc ++ l) c'
+    join_on l q = record { stands = x.moved.1; rest = sym (prepend_more acc l (texts_from e c')) ∙ rw q at turn }
 
-      join_element : r ≡ Turn.Element → joined_from body t v s d₀ k₀ ≡ refuses Refusal.ElementInText
-      join_element e = sym (turned Turn.Element e)
+-- ---- measured
+pub record MeasureAt (e : Element) (c : Cursor) (size : ℕ) : Type 0 where
+  pub acc : List ℕ
+  pub at : JoinAt e acc c
+  pub counted : size ≡ length acc
+  pub small : size ≤ 65536 * c.row
 
-      join_ended : r ≡ Turn.Ended → joined_from body t v s d₀ k₀ ≡ gives acc
-      join_ended e = sym (turned Turn.Ended e) ∙ ap gives (append-nil acc)
+pub measure_start : (e : Element) → MeasureAt e e.at 0
+measure_start e = record { acc = []; at = join_start e; counted = refl; small = omega arith }
 
-      join_on : {e : ℕ} → r ≡ Turn.On e → JoinAt body t v s d₀ k₀ acc e (k + 1)
-      unfolding joined_from
-      join_on {e} q = record { viewed = w.viewed; scope = w.scope; rest = turned (Turn.On e) q }
+module _ {e : Element} {c c' : Cursor} {size : ℕ} (w : MeasureAt e c size) where
+  pub measure_done : NextText e c c' (Ok None) → gives size ≡ length_in (texts_of e)
+  measure_done x = rw (join_done w.at x) (ap gives w.counted)
 
-      join_text : (l : List ℕ) → r ≡ Turn.Text → value ≡ gives l → JoinAt body t v s d₀ k₀ (acc ++ l) d (k + 1)
-      unfolding joined_from
-      join_text l e q =
+  pub measure_stop : {why : Refusal} → NextText e c c' (Err why) → refuses why ≡ length_in (texts_of e)
+  measure_stop x = rw (join_stop w.at x)
+
+  module _ {t : Text} (x : NextText e c c' (Ok (Some t))) where
+    pub measure_bad : {why : Refusal} → measured_as (Err why) ≡ text_at t → refuses why ≡ length_in (texts_of e)
+    measure_bad q = rw (join_bad w.at x (sym q))
+
+    module _ (m : Measured) (q : measured_as (Ok m) ≡ text_at t) where
+      pub measure_on : MeasureAt e c' (size + m.len)
+      measure_on =
           record {
-            viewed = w.viewed;
-            scope = w.scope;
-            rest = sym (prepend_more acc l (after (depth d))) ∙ rw q at (turned Turn.Text e);
+            acc = w.acc ++ bytes_of m;
+            at = join_on w.at x (bytes_of m) (sym q);
+            counted = omega (arith, w.counted, m.size, length-append w.acc (bytes_of m));
+            small = omega (arith, w.small, m.short, x.moved.0);
           }
 
-      join_bad : {why : Refusal} → r ≡ Turn.Text → value ≡ refuses why → joined_from body t v s d₀ k₀ ≡ refuses why
-      join_bad e q = sym (rw q at (turned Turn.Text e))
+      pub measure_fits : Fits w64 (size + m.len)
+      measure_fits = record { fits = omega (arith, w.small, m.short, w.at.stands.high, e.view.seen, few_rows e.view.table.obeys) }
 
--- ---- what the length of a value tells
-refused_as : {a : Answer (List ℕ)} {why : Refusal} → refuses why ≡ length_in a → a ≡ refuses why
-refused_as {a = gives l} q = let z : ◌≡◌ {A = ℕ} 0 1 = cc in absurd (omega arith)
-refused_as {a = refuses r} {why} q = let z : r ≡ why = cc in ap refuses z
+-- ---- written
+sets_over : (old acc l : List ℕ) {out : List ℕ} {size : ℕ} → out ≡ overwritten old acc → size ≡ length acc → length (acc ++ l) ≤ length old
+    → sets out size l ≡ overwritten old (acc ++ l)
+sets_over old acc l p q h = rw (p, q) (overwrite_more old acc l h)
 
-length_refused : {a : Answer (List ℕ)} {y : Copied} {why : Refusal} → LengthIs y a → y ≡ Copied.Refused why → a ≡ refuses why
-length_refused x z = refused_as (rw z at x.same)
-
-length_gives : (from : ℕ) (o : Out) {y : Copied} {m : ℕ} → LengthIs y (unescaped_from from o) → y ≡ Copied.Length m
-    → (l : List ℕ) × (o ≡ bytes l) × (length l ≡ m)
-length_gives from o {y} {m} x z = go o (rw z at x.same)
-  where
-    go : (o : Out) → gives m ≡ length_in (unescaped_from from o) → (l : List ℕ) × (o ≡ bytes l) × (length l ≡ m)
-    go (bytes l) q = let k : length l ≡ m = cc in (l, refl, k)
-    go (bad at) q = let z : ◌≡◌ {A = ℕ} 0 1 = cc in absurd (omega arith)
-
--- ---- the length
-pub record LengthAt (body t : List ℕ) (v : View) (s : ScopeRow) (d₀ k₀ d k size : ℕ) : Type 0 where
+pub record FillAt (e : Element) (old out : List ℕ) (c : Cursor) (size : ℕ) : Type 0 where
   pub acc : List ℕ
-  pub at : JoinAt body t v s d₀ k₀ acc d k
-  pub counted : size ≡ length acc
-  pub small : size ≤ 65536 * k
-
-pub length_start : {body t : List ℕ} {v : View} {s : ScopeRow} (d k : ℕ) → Viewed body t v → HasRow t s
-    → LengthAt body t v s d k d k 0
-length_start d k q h = record { acc = []; at = join_start d k q h; counted = refl; small = omega arith }
-
-module _ {body t : List ℕ} {v : View} {s : ScopeRow} {d₀ k₀ d k size : ℕ} (w : LengthAt body t v s d₀ k₀ d k size) where
-  pub length_done : v.count ≤ k → LengthIs (Copied.Length size) (joined_from body t v s d₀ k₀)
-  length_done h = record { same = rw (join_done w.at h) (ap gives w.counted) }
-
-  module _ (h : k < v.count) where
-    module _ {r : Turn} (x : TurnIs body t s d k r) where
-      pub length_element : r ≡ Turn.Element → LengthIs (Copied.Refused Refusal.ElementInText) (joined_from body t v s d₀ k₀)
-      length_element e = record { same = rw (join_element w.at h x e) }
-
-      pub length_ended : r ≡ Turn.Ended → LengthIs (Copied.Length size) (joined_from body t v s d₀ k₀)
-      length_ended e = record { same = rw (join_ended w.at h x e) (ap gives w.counted) }
-
-      pub length_on : {e : ℕ} → r ≡ Turn.On e → LengthAt body t v s d₀ k₀ e (k + 1) size
-      length_on q = record { acc = w.acc; at = join_on w.at h x q; counted = w.counted; small = omega (arith, w.small) }
-
-      module _ (e : r ≡ Turn.Text) {y : Copied}
-          (sized : LengthIs y (unescaped_from (get_or t (k * 8 + 5) 0) (unescaped (value_at body t k)))) where
-        pub length_bad : {why : Refusal} → y ≡ Copied.Refused why → LengthIs (Copied.Refused why) (joined_from body t v s d₀ k₀)
-        length_bad z = record { same = rw (join_bad w.at h x e (length_refused sized z)) }
-
-        module _ {m : ℕ} (z : y ≡ Copied.Length m) where
-          short : m ≤ 65536
-          short =
-              let b = length_gives (get_or t (k * 8 + 5) 0) (unescaped (value_at body t k)) sized z in
-              let l = cut_short body (get_or t (k * 8 + 5) 0) (get_or t (k * 8 + 6) 0) in
-              omega (arith, b.2, unescaped_shorter (value_at body t k) b.0 b.1, l, w.at.viewed.small)
-
-          pub length_text : LengthAt body t v s d₀ k₀ d (k + 1) (size + m)
-          length_text =
-              let b = length_gives (get_or t (k * 8 + 5) 0) (unescaped (value_at body t k)) sized z in
-              record {
-                acc = w.acc ++ b.0;
-                at = join_text w.at h x b.0 e (ap (unescaped_from (get_or t (k * 8 + 5) 0)) b.1);
-                counted = omega (arith, w.counted, b.2, length-append w.acc b.0);
-                small = omega (arith, w.small, short);
-              }
-
-          pub length_fits : Fits w64 (size + m)
-          length_fits = record { fits = omega (arith, w.small, short, w.at.viewed.few) }
-
-pub ruleset length_laws = (
-  rules,
-  length_start,
-  join_row,
-  length_done,
-  length_element,
-  length_ended,
-  length_on,
-  length_bad,
-  length_fits,
-)
-
--- ---- the bytes
-pub record FillAt (body t : List ℕ) (v : View) (s : ScopeRow) (d₀ k₀ : ℕ) (old out : List ℕ) (d k size : ℕ) : Type 0 where
-  pub acc : List ℕ
-  pub at : JoinAt body t v s d₀ k₀ acc d k
-  pub room : JoinRoom (joined_from body t v s d₀ k₀) (length old)
+  pub at : JoinAt e acc c
+  pub room : JoinRoom (texts_of e) (length old)
   pub counted : size ≡ length acc
   pub is : out ≡ overwritten old acc
   pub same : length out ≡ length old
 
-pub fill_start : {body t : List ℕ} {v : View} {s : ScopeRow} (d k : ℕ) (old : List ℕ) → Viewed body t v → HasRow t s
-    → JoinRoom (joined_from body t v s d k) (length old)
-    → FillAt body t v s d k old old d k 0
-fill_start d k old q h m =
-    record { acc = []; at = join_start d k q h; room = m; counted = refl; is = sym (overwrite_none old); same = refl }
+pub fill_start : (e : Element) (old : List ℕ) → JoinRoom (texts_of e) (length old) → FillAt e old old e.at 0
+fill_start e old m =
+    record { acc = []; at = join_start e; room = m; counted = refl; is = sym (overwrite_none old); same = refl }
+
+pub some_next : (r : Result (Option Text) Refusal) {t : Text} → result_unwrap_or r None ≡ Some t → r ≡ Ok (Some t)
+some_next (Ok o) e = ap Ok e
+some_next (Err why) e = let z : ◌≡◌ {A = ℕ} 0 1 = cc in absurd (omega arith)
 
 -- no answer is both
 never {ℓ} : {A : Type ℓ} {l : List ℕ} {r : Refusal} → gives l ≡ refuses r → A
 never e = let z : ◌≡◌ {A = ℕ} 0 1 = cc in absurd (omega arith)
 
-module _ {body t : List ℕ} {v : View} {s : ScopeRow} {d₀ k₀ : ℕ} {old out : List ℕ} {d k size : ℕ}
-    (w : FillAt body t v s d₀ k₀ old out d k size) where
-  pub fill_done : v.count ≤ k → out ≡ buffer_after (joined_from body t v s d₀ k₀) old
-  fill_done h = rw (join_done w.at h) w.is
-
+module _ {e : Element} {old out : List ℕ} {c : Cursor} {size : ℕ} (w : FillAt e old out c size) where
   -- what is written so far is a front of the whole
-  front : {acc : List ℕ} {d k : ℕ} → JoinAt body t v s d₀ k₀ acc d k → length acc ≤ length old
-  front {acc} {d} {k} j = go (joined_from body t v s d k) (j.rest ∙ w.room.is)
+  front : {acc : List ℕ} {c : Cursor} → JoinAt e acc c → length acc ≤ length old
+  front {acc} {c} j = go (texts_from e c) (j.rest ∙ w.room.is)
     where
       go : (a : Answer (List ℕ)) → prepend acc a ≡ gives w.room.text → length acc ≤ length old
-      go (gives l) q =
-          let z : acc ++ l ≡ w.room.text = cc in omega (arith, ap length z, length-append acc l, w.room.fits)
+      go (gives l) q = let z : acc ++ l ≡ w.room.text = cc in omega (arith, ap length z, length-append acc l, w.room.fits)
       go (refuses r) q = never (sym q)
 
-  module _ (h : k < v.count) where
-    module _ {r : Turn} (x : TurnIs body t s d k r) where
-      pub fill_element : r ≡ Turn.Element → out ≡ buffer_after (joined_from body t v s d₀ k₀) old
-      fill_element e = never (sym w.room.is ∙ join_element w.at h x e)
+  pub fill_low : size ≤ length out
+  fill_low = omega (arith, w.counted, w.same, front w.at)
 
-      pub fill_ended : r ≡ Turn.Ended → out ≡ buffer_after (joined_from body t v s d₀ k₀) old
-      fill_ended e = rw (join_ended w.at h x e) w.is
+  fill_done : {c' : Cursor} → NextText e c c' (Ok None) → out ≡ buffer_after (texts_of e) old
+  fill_done x = rw (join_done w.at x) w.is
 
-      pub fill_on : {e : ℕ} → r ≡ Turn.On e → FillAt body t v s d₀ k₀ old out e (k + 1) size
-      fill_on q =
-          record { acc = w.acc; at = join_on w.at h x q; room = w.room; counted = w.counted; is = w.is; same = w.same }
+  fill_stop : {c' : Cursor} {why : Refusal} → NextText e c c' (Err why) → out ≡ buffer_after (texts_of e) old
+  fill_stop x = never (sym w.room.is ∙ join_stop w.at x)
 
-      module _ (e : r ≡ Turn.Text) where
-        abbrev text : List ℕ
-        text = meaning (unescaped (value_at body t k))
+  pub fill_end : {c' : Cursor} (r : Result (Option Text) Refusal) → NextText e c c' r → result_unwrap_or r None ≡ None
+      → out ≡ buffer_after (texts_of e) old
+  fill_end (Ok o) x q = fill_done (rw q at x)
+  fill_end (Err why) x q = fill_stop x
 
-        -- the text is no bad one
-        is_bytes_lem : unescaped (value_at body t k) ≡ bytes text
-        is_bytes_lem = good (unescaped (value_at body t k)) refl
-          where
-            good : (o : Out) → unescaped (value_at body t k) ≡ o → o ≡ bytes (meaning o)
-            good (bytes l) q = refl
-            good (bad at) q =
-                never {r = Refusal.BadReference (get_or t (k * 8 + 5) 0 + at)} (sym w.room.is ∙ join_bad w.at h x e (rw q))
+  module _ {c' : Cursor} {t : Text} (x : NextText e c c' (Ok (Some t))) where
+    -- the text is no bad one
+    text_good : (l : List ℕ) × (text_at t ≡ gives l)
+    text_good = go (text_at t) refl
+      where
+        go : (a : Answer (List ℕ)) → text_at t ≡ a → (l : List ℕ) × (text_at t ≡ gives l)
+        go (gives l) q = (l, q)
+        go (refuses why) q = never (sym w.room.is ∙ join_bad w.at x q)
 
-        next : JoinAt body t v s d₀ k₀ (w.acc ++ text) d (k + 1)
-        next = join_text w.at h x text e (rw is_bytes_lem)
+    module _ {ys : List ℕ} {r : Result ℕ Refusal}
+        (y : CopyIs (onward (text_at t) (string_in (length (rest out size)))) (rest out size) ys r) where
+      abbrev l : List ℕ
+      l = text_good.0
 
-        pub fill_room : PutRoom out size (unescaped (value_at body t k))
-        fill_room = record { is = is_bytes_lem; fits = omega (arith, w.counted, w.same, front next, length-append w.acc text) }
+      next : JoinAt e (w.acc ++ l) c'
+      next = join_on w.at x l text_good.1
 
-        pub fill_text : {now : List ℕ} {m : ℕ} → Stored out now size text m → FillAt body t v s d₀ k₀ old now d (k + 1) m
-        fill_text {now} {m} z =
-            record {
-              acc = w.acc ++ text;
-              at = next;
-              room = w.room;
-              counted = omega (arith, z.next, w.counted, length-append w.acc text);
-              is = z.is ∙ rw (w.is, w.counted) (overwrite_more old w.acc text (front next));
-              same = rw z.is (length-sets out size text ∙ w.same);
-            }
+      fits : size + length l ≤ length out
+      fits = omega (arith, w.counted, w.same, front next, length-append w.acc l)
 
-pub ruleset fill_laws =
-    (rules, join_row, fill_start, fill_done, fill_element, fill_ended, fill_on, fill_room)
+      took : onward (text_at t) (string_in (length (rest out size))) ≡ gives l
+      unfolding string_in
+      took = rw (text_good.1, le-leb (length l) (length (rest out size)) (omega (arith, fits, rest_length out size)))
+
+      fill_length : r ≡ Ok (length l)
+      fill_length = go r (rw took at y.number)
+        where
+          go : (r : Result ℕ Refusal) → copied_as r ≡ gives (length l) → r ≡ Ok (length l)
+          go (Ok n) q = let z : n ≡ length l = cc in ap Ok z
+          go (Err f) q = let z : ◌≡◌ {A = ℕ} 0 1 = cc in absurd (omega arith)
+
+      fill_on : FillAt e old (back out size ys) c' (size + length l)
+      fill_on =
+          let b = back_stored out size l fits (rw took at y.buffer) in
+          record {
+            acc = w.acc ++ l;
+            at = next;
+            room = w.room;
+            counted = omega (arith, w.counted, length-append w.acc l);
+            is = b ∙ sets_over old w.acc l w.is w.counted (front next);
+            same = ap length b ∙ (length-sets out size l ∙ w.same);
+          }
+
+      module _ {n : ℕ} (z : n ≡ result_unwrap_or r 0) where
+        took_size : n ≡ length l
+        took_size = z ∙ ap (λ (r : Result ℕ Refusal). result_unwrap_or r 0) fill_length
+
+        pub fill_next : FillAt e old (back out size ys) c' (size + n)
+        fill_next = rw took_size fill_on
+
+        pub fill_fits : length out < 2 ^ 64 → Fits w64 (size + n)
+        fill_fits h = record { fits = omega (arith, h, fits, took_size) }
+
+-- ---- measured, and written if it fits
+module _ (a : Answer (List ℕ)) (old : List ℕ) where
+  pub copy_refused : {why : Refusal} → refuses why ≡ length_in a → CopyIs (text_in (length old) a) old old (Err why)
+  copy_refused {why} e = go a e
+    where
+      go : (a : Answer (List ℕ)) → refuses why ≡ length_in a → CopyIs (text_in (length old) a) old old (Err why)
+      go (gives l) q = let z : ◌≡◌ {A = ℕ} 0 1 = cc in absurd (omega arith)
+      go (refuses r) q = let k : why ≡ r = cc in rw k (record { number = refl; buffer = refl })
+
+  module _ {n : ℕ} (e : gives n ≡ length_in a) where
+    measured : (l : List ℕ) × (a ≡ gives l) × (length l ≡ n)
+    measured = go a e
+      where
+        go : (a : Answer (List ℕ)) → gives n ≡ length_in a → (l : List ℕ) × (a ≡ gives l) × (length l ≡ n)
+        go (gives l) e = let k : length l ≡ n = cc in (l, refl, k)
+        go (refuses r) e = let z : ◌≡◌ {A = ℕ} 0 1 = cc in absurd (omega arith)
+
+    pub copy_room : n ≤ length old → JoinRoom a (length old)
+    copy_room h = let m = measured in record { text = m.0; is = m.1; fits = omega (arith, m.2) }
+
+    pub copy_put : {new : List ℕ} → n ≤ length old → new ≡ buffer_after a old → CopyIs (text_in (length old) a) old new (Ok n)
+    unfolding string_in
+    copy_put {new} h q =
+        let m = measured in
+        let f : leb (length m.0) (length old) ≡ true = le-leb (length m.0) (length old) (omega (arith, m.2)) in
+        record { number = rw (m.1, f, m.2); buffer = rw (m.1, f) (rw m.1 at q) }
+
+    pub copy_none : length old < n → CopyIs (text_in (length old) a) old old (Err Refusal.NoRoom)
+    unfolding string_in
+    copy_none h =
+        let m = measured in
+        let f : leb (length m.0) (length old) ≡ false = lt-leb (length m.0) (length old) (omega (arith, m.2)) in
+        record { number = rw (m.1, f); buffer = rw (m.1, f) }
+
+-- ---- of a body: the strict view of one that passes the drain has all rows
+no_table : {P : Type 0} (d : Dec P) (l : List Tok) → is_yes d ≡ false → drained_by d l ≡ Err DrainError.Table
+no_table (yes p) l q = false_true (sym q)
+no_table (no b) l q = refl
+
+good_table : {P : Type 0} (d : Dec P) (l : List Tok) → is_yes d ≡ true → drained_by d l ≡ walked l
+good_table (yes p) l q = refl
+good_table (no b) l q = false_true q
+
+texts_whole : (e : Element) → texts_of e ≡ whole_of (view_of e.view).rows (child_of e)
+unfolding texts_from whole_of
+texts_whole e = refl
+
+module _ (u : Upload) where
+  pub whole_table : is_yes (dec_table u.body u.rows u.end) ≡ false → (old : List ℕ)
+      → CopyIs (whole_text u (length old)) old old (Err Refusal.Table)
+  unfolding whole_text drained
+  whole_table e old =
+      rw (no_table (dec_table u.body u.rows u.end) (toks_of u.body (rows_of u.rows)) e) (record { number = refl; buffer = refl })
+
+  module _ (v : ValidTable) (x : (v.body.now ≡ u.body) × (v.rows.now ≡ u.rows) × (v.end ≡ u.end)) {w : View}
+      (y : ViewIs v (view true v.body.now (rows_of v.rows.now) v.end) w) where
+    abbrev walk : Result (Unit {0}) DrainError
+    walk = walked (toks_of u.body (rows_of u.rows))
+
+    valid : drained u.body u.rows u.end ≡ walk
+    unfolding drained
+    valid =
+        let q : is_yes (dec_table u.body u.rows u.end) ≡ true = rw (x.0, x.1, x.2) at v.obeys.is in
+        good_table (dec_table u.body u.rows u.end) (toks_of u.body (rows_of u.rows)) q
+
+    seen : view_of w ≡ strict_view u.body (rows_of u.rows) u.end walk
+    unfolding view
+    seen = rw (x.0, x.1, x.2) at y.same
+
+    ill : (r : Result (Unit {0}) DrainError) → walk ≡ r → w.ill_formed ≡ true
+        → (room : ℕ) → whole_text u room ≡ refuses Refusal.IllFormed
+    unfolding whole_text
+    ill (Ok o) q h room = false_true (sym (rw q at (ap (λ (s : doc.View). s.ill_formed) seen)) ∙ h)
+    ill (Err DrainError.Table) q h room = false_true (sym (rw q at (ap (λ (s : doc.View). s.ill_formed) seen)) ∙ h)
+    ill (Err (DrainError.IllFormed k cause)) q h room = rw (valid, q)
+
+    pub whole_ill : w.ill_formed ≡ true → (old : List ℕ) → CopyIs (whole_text u (length old)) old old (Err Refusal.IllFormed)
+    whole_ill h old = rw (ill walk refl h (length old)) (record { number = refl; buffer = refl })
+
+    -- without a fault all rows are seen
+    abbrev rest_of : ℕ → Answer (List ℕ)
+    rest_of room =
+        onward (present Refusal.NoRoot (root_of (toks_of u.body (view_of w).rows)))
+        (λ (c : Child). onward (whole_of (view_of w).rows c) (string_in room))
+
+    well : (r : Result (Unit {0}) DrainError) → walk ≡ r → w.ill_formed ≡ false → (room : ℕ) → whole_text u room ≡ rest_of room
+    unfolding whole_text
+    well (Ok o) q h room =
+        let s : view_of w ≡ doc.whole (rows_of u.rows) u.end = rw q at seen in
+        rw (valid, q, ap (λ (s : doc.View). s.rows) s)
+    well (Err DrainError.Table) q h room = absurd (walk_not_table (toks_of u.body (rows_of u.rows)) q)
+    well (Err (DrainError.IllFormed k cause)) q h room = false_true (sym h ∙ rw q at (ap (λ (s : doc.View). s.ill_formed) seen))
+
+    body_is : w.table.body.now ≡ u.body
+    body_is = ap (λ (t : ValidTable). t.body.now) y.table ∙ x.0
+
+    module _ (h : w.ill_formed ≡ false) where
+      pub whole_rootless : RootIs w None → (old : List ℕ) → CopyIs (whole_text u (length old)) old old (Err Refusal.NoRoot)
+      whole_rootless z old =
+          let q : math.none ≡ root_of (toks_of u.body (view_of w).rows) = rw body_is at z.is in
+          rw (well walk refl h (length old), ← q) (record { number = refl; buffer = refl })
+
+      pub whole_rooted : {e : Element} → RootIs w (Some e) → {old new : List ℕ} {r : Result ℕ Refusal}
+          → CopyIs (text_in (length old) (texts_of e)) old new r → CopyIs (whole_text u (length old)) old new r
+      whole_rooted {e} z {old} g =
+          let q : math.some (child_of e) ≡ root_of (toks_of u.body (view_of w).rows) = rw body_is at z.is in
+          let t : texts_of e ≡ whole_of (view_of w).rows (child_of e) =
+          texts_whole e ∙ ap (λ (v : View). whole_of (view_of v).rows (child_of e)) z.view in
+          rw (well walk refl h (length old), ← q) (rw t at g)

@@ -1,184 +1,174 @@
 -- Laws of the search for the part of a body that has a name.
-use Prim.Native.Nat.{ℕ, ◌+◌, ◌-◌}
-use mathlib.Core.Path.{◌≡◌, refl, sym, ◌∙◌, ap}
+use Prim.Native.Nat.{ℕ, ◌+◌, ◌≤◌}
+use mathlib.Core.Path.{◌≡◌, refl, sym, ◌∙◌, ap, subst}
 use mathlib.Core.Bool.{Bool, true, false}
-use mathlib.Core.List.{List}
+use mathlib.Core.List.{List, []}
 use mathlib.Core.Option.{Option, none, some}
 use native.Mathlib.Omega.{arith}
-use borrow.Author.Rules.{rules}
-use borrow.Author.Tests.{eq-eqb, ne_eqb}
+use lib.Dec.{eqb}
 use lib.ListN.{length, take, drop}
+use lib.Pointwise.{pointwise}
+use Rattle.std.specs.Prelude.{Result, Ok, Err}
 use Rattle.lists.specs.Tests.{pick}
 use Rattle.lists.specs.Bytes.{sameb}
 use Rattle.refusal.specs.declared.Refusal.{Refusal}
 use Rattle.refusal.specs.Answer.{Answer, gives, refuses, onward}
 use Rattle.refusal.specs.Numbers.{number}
 use Rattle.table.specs.Row.{cut, rows_of, toks_of}
-use Rattle.table.specs.Rules.{TableRules}
 use Rattle.table.specs.Test.{dec_table}
+use Rattle.table.specs.declared.rows.ValidTable.{ValidTable}
+use Rattle.lists.specs.Decide.{is_yes}
+use Rattle.lists.proofs.Tests.{false_true}
+use Rattle.document.specs.declared.part.Piece.{Piece}
 use Rattle.document.specs.View.{view}
-use Rattle.document.specs.Scope.{Child, children, children_of, piece_of, root_of}
-use Rattle.document.specs.Scope as scope
-use Rattle.readings.specs.Call.{uploaded}
-use Rattle.readings.specs.Opening.{Opened, with_table, present, opened}
+use Rattle.document.specs.View.{View as Seen}
+use Rattle.document.specs.Scope.{Child, children_of, piece_of, root_of}
+use Rattle.readings.specs.Call.{Upload}
+use Rattle.readings.specs.Opening.{Opened, with_table, present, rooted}
 use Rattle.readings.specs.Find.{first_child, find_in, find, part_of, refusal_of}
-use Rattle.readings.proofs.Laws.Find.{part_within}
-use Rattle.decode.specs.declared.reader.ScopeRow.{ScopeRow}
-use Rattle.decode.specs.declared.reader.Cursor.{Cursor}
-use Rattle.decode.specs.declared.reader.Past.{Past}
-use Rattle.decode.specs.declared.reader.StartRow.{StartRow}
-use Rattle.decode.specs.declared.reader.Next.{Next}
+use Rattle.decode.specs.declared.place.Past.{Past as PastAt}
+use Rattle.decode.specs.declared.place.Start.{Start}
 use Rattle.decode.specs.declared.view.View.{View}
-use Rattle.decode.specs.declared.piece.Piece.{Piece}
-use Rattle.decode.specs.Rows.{Readable, name_at}
-use Rattle.decode.specs.Reader.{Outside, NextIs, child_at, DroppedIs}
-use Rattle.decode.specs.View.{view_at, Viewed}
-use Rattle.decode.specs.Piece.{PieceIs, piece_at}
-use Rattle.decode.proofs.Names.{local_span}
-use Rattle.decode.proofs.Places.{start_scope}
-use Rattle.opening.specs.declared.Opening.{Opening}
-use Rattle.opening.specs.Opening.{OpeningIs}
-use Rattle.opening.specs.Level.{left}
-use Rattle.opening.proofs.Level.{found_start, found_outside, none_left, one_left, less_left}
-use Rattle.scalar.specs.declared.Finding.{Finding}
-use Rattle.scalar.specs.Answers.{FindingIs}
-use Rattle.scalar.specs.Find.{first_piece, absent_as, PartIs}
-use Rattle.scalar.proofs.Opened.{opened_laws, opened_why, opened_is}
+use Rattle.decode.specs.declared.element.Element.{Element}
+use Rattle.decode.specs.View.{view_of}
+use Rattle.decode.specs.Element.{child_of, NextIs, DroppedIs, FoundAt, PieceIs}
+use Rattle.opening.specs.Opening.{body_of, OpeningIs}
+use Rattle.scalar.specs.Find.{first_piece, FindingIs}
+use Rattle.scalar.proofs.Bytes.{same_pointwise}
+use Rattle.decode.proofs.Scope.{child_at, no_more, one_more}
 
--- ---- whether a row has a local name
-pub local_is : (body t : List ℕ) (k : ℕ) (name : List ℕ) {x : List ℕ} {r : Bool} → x ≡ (name_at body t k).local → r ≡ sameb x name
-    → r ≡ sameb (name_at body t k).local name
-local_is body t k name e h = rw (← e) h
+-- ---- whether a name is the one
+pub local_is : (a name : List ℕ) {n : List ℕ} {u : Bool} → a ≡ n → u ≡ pointwise eqb a name → u ≡ sameb n name
+local_is a name e h = h ∙ (same_pointwise a name ∙ ap (λ (l : List ℕ). sameb l name) e)
 
-pub ruleset local_laws = (rules, local_span, local_is)
+-- ---- the loop: the elements of `scope` have the same first piece as those of the root
+module _ (root : Element) (name : List ℕ) where
+  abbrev body : List ℕ
+  body = body_of root
 
-pub view_readable : {body t : List ℕ} {v : View} → Viewed body t v → Readable body t
-view_readable x = x.sees.readable
+  abbrev the_piece : Answer Piece
+  the_piece = first_piece body (view_of root.view) name (children_of (child_of root))
 
--- ---- the loop: the elements from place c on have the same first piece as those from c₀ on
-pub record FindAt (body t : List ℕ) (v : View) (name : List ℕ) (s : ScopeRow) (c₀ c : Cursor) : Type 0 where
-  pub stands : Outside body t v.count c.depth.0 c.row
-  pub rest : first_piece body (view_at t v) name (left body t v.count s c)
-      ≡ first_piece body (view_at t v) name (left body t v.count s c₀)
+  pub record FindAt (scope : Element) : Type 0 where
+    pub view : scope.view ≡ root.view
+    pub start : scope.start ≡ root.start
+    pub rest : first_piece body (view_of root.view) name (children_of (child_of scope)) ≡ the_piece
 
-module _ {body t : List ℕ} {v : View} {name : List ℕ} {s : ScopeRow} {c₀ c : Cursor} (w : FindAt body t v name s c₀ c) {r : Next}
-    (x : NextIs body t v.count s c.depth.0 c.row r) where
-  abbrev answer : Answer scope.Piece
-  answer = first_piece body (view_at t v) name (left body t v.count s c₀)
+  pub find_start : FindAt root
+  find_start = record { view = refl; start = refl; rest = refl }
 
-  pub find_gone : {p : Past} → r ≡ Next.Gone p → FindingIs (Finding.Refused Refusal.NoSuchElement) answer
-  unfolding first_child
-  find_gone e = record { same = rw (none_left x e) at w.rest }
-
-  module _ {st : StartRow} {i : Cursor} (e : r ≡ Next.Found st i) {p : Past} (y : DroppedIs body t v.count st i p) {u : Bool}
-      (q : u ≡ sameb (name_at body t st.row).local name) where
-    turned : onward (present Refusal.NoSuchElement
-        (pick u (some (child_at body t v.count st i)) (first_child name (left body t v.count s p.at))))
-        (λ (c : Child). gives (piece_of body (view_at t v) c))
-        ≡ answer
+  module _ {scope : Element} (w : FindAt scope) where
+    pub find_gone : {p : PastAt} → NextIs scope (Err p) → FindingIs body the_piece (Err Refusal.NoSuchElement)
     unfolding first_child
-    turned = rw q (rw (one_left x e y) at w.rest)
+    find_gone n = record { is = rw (no_more n) at w.rest; inside = tt }
 
-    pub find_here : {z : Piece} → u ≡ true → PieceIs body t v st i z → FindingIs (Finding.Part z) answer
-    find_here h z = record { same = ap gives z.is ∙ rw h at turned }
+    module _ {child : Element} {past : PastAt} (n : NextIs scope (Ok child)) (d : DroppedIs child past) {u : Bool}
+        (q : u ≡ sameb (child_of child).start.name.local name) where
+      abbrev after : List Child
+      after = children_of (child_at scope.view scope.start past.at)
 
-    pub find_on : u ≡ false → FindAt body t v name s c₀ p.at
-    find_on h = record { stands = y.stands; rest = rw h at turned }
+      turned : onward (present Refusal.NoSuchElement (pick u (some (child_of child)) (first_child name after)))
+          (λ (c : Child). gives (piece_of body (view_of root.view) c))
+          ≡ the_piece
+      unfolding first_child
+      turned = rw q (rw (one_more n d) at w.rest)
 
-pub ruleset find_laws =
-    (rules, view_readable, start_scope, found_start, found_outside, find_gone, find_here, find_on, less_left)
+      pub find_here : {p : Piece} → u ≡ true → PieceIs child p → FindingIs body the_piece (Ok p)
+      find_here {p} h z =
+          let v : child.view ≡ root.view = n.met.view ∙ w.view in
+          let i : p.start + p.len ≤ length body = subst (λ (v : View). p.start + p.len ≤ length v.table.body.now) v z.inside in
+          record {
+            is = ap gives (z.is ∙ ap (λ (v : View). piece_of v.table.body.now (view_of v) (child_of child)) v) ∙ rw h at turned;
+            inside = i;
+          }
 
--- ---- of an element
-module _ (body t : List ℕ) (v : View) (name : List ℕ) (s : StartRow) (c : Cursor) where
-  pub child_closed : s.closed ≡ true
-      → FindingIs (Finding.Refused Refusal.NoSuchElement) (first_piece body (view_at t v) name (children_of (child_at body t v.count s c)))
-  unfolding children_of children first_child
-  child_closed e = record { same = rw e }
+      pub find_on : {scope' : Element} → u ≡ false → FoundAt root.view root.start past.at scope' → FindAt scope'
+      find_on {scope'} h f =
+          let e : child_at scope.view scope.start past.at ≡ child_of scope' =
+          ap (λ (v : View). child_at v scope.start past.at) (w.view ∙ sym f.view)
+          ∙ (ap (λ (s : Start). child_at scope'.view s past.at) (w.start ∙ sym f.start)
+          ∙ ap (child_at scope'.view scope'.start) (sym f.at)) in
+          record { view = f.view; start = f.start; rest = rw e at (rw h at turned) }
 
-  pub child_inside : {r : Finding} → s.closed ≡ false
-      → FindingIs r (first_piece body (view_at t v) name (left body t v.count (ScopeRow.Element s.depth s.row) c))
-      → FindingIs r (first_piece body (view_at t v) name (children_of (child_at body t v.count s c)))
-  unfolding children_of
-  child_inside e x = record { same = rw e x.same }
-
-  module _ {u : Bool} (q : u ≡ sameb (name_at body t s.row).local name) where
-    pub in_whole : u ≡ true
-        → FindingIs (Finding.Part (record { start = 0; len = length body })) (find_in body (view_at t v) name (child_at body t v.count s c))
+  -- ---- of the root
+  module _ {u : Bool} (q : u ≡ sameb (child_of root).start.name.local name) where
+    pub in_whole : u ≡ true → FindingIs body (find_in body (view_of root.view) name (child_of root))
+        (Ok (record { start = 0; len = length body }))
     unfolding find_in
-    in_whole h = record { same = rw (← q, h) }
+    in_whole h = record { is = rw (← q, h); inside = omega arith }
 
-    pub in_child : {r : Finding} → u ≡ false
-        → FindingIs r (first_piece body (view_at t v) name (children_of (child_at body t v.count s c)))
-        → FindingIs r (find_in body (view_at t v) name (child_at body t v.count s c))
+    pub in_child : {r : Result Piece Refusal} → u ≡ false → FindingIs body the_piece r
+        → FindingIs body (find_in body (view_of root.view) name (child_of root)) r
     unfolding find_in
-    in_child h x = record { same = rw (← q, h) x.same }
-
-pub ruleset child_laws = (opened_laws, child_closed, child_inside, in_whole, in_child)
+    in_child h x = record { is = rw (← q, h) x.is; inside = x.inside }
 
 -- ---- of a body: 4 is 13 here
-pub absent_table : (why : Refusal) {n : ℕ} → n ≡ number why → n ≡ 1 → Refusal.Table ≡ absent_as why
-absent_table why {n} e h = rw (eq-eqb (number why) 1 (sym e ∙ h))
+same_root : {a b t s : List ℕ} {e f : ℕ} → a ≡ b → t ≡ s → e ≡ f
+    → rooted a (view false a (rows_of t) e) ≡ rooted b (view false b (rows_of s) f)
+same_root p q r = rw (p, q, r)
 
-pub absent_other : (why : Refusal) {n : ℕ} → n ≡ number why → (n ≡ 1 → ⊥) → Refusal.NoSuchElement ≡ absent_as why
-absent_other why {n} e h = rw (ne_eqb (number why) 1 (λ z. h (e ∙ z)))
+no_table : {P : Type 0} (d : Dec P) → is_yes d ≡ false → (a : Answer Piece) → with_table d a ≡ refuses Refusal.Table
+no_table (yes p) q a = false_true (sym q)
+no_table (no b) q a = refl
 
-pub ruleset absent_laws = (rules, absent_table, absent_other)
+good_table : {P : Type 0} (d : Dec P) → is_yes d ≡ true → (a : Answer Piece) → with_table d a ≡ a
+good_table (yes p) q a = refl
+good_table (no b) q a = false_true q
 
-abbrev searched : List ℕ → List ℕ → Answer Opened → Answer scope.Piece
-searched body name (gives o) = find_in body o.seen name o.root
-searched body name (refuses why) = refuses (absent_as why)
+-- what is found, by what was opened
+abbrev found_of : List ℕ → List ℕ → Answer Opened → Answer Piece
+found_of bytes name (gives o) = find_in bytes o.seen name o.root
+found_of bytes name (refuses why) = refuses Refusal.NoSuchElement
 
-module _ (body t : List ℕ) (final : ℕ) (name : List ℕ) where
-  find_opened : find (uploaded body t final) name ≡ searched body name (opened false (uploaded body t final))
-  unfolding find opened
-  find_opened = go (dec_table body t final) (root_of (toks_of body (view false body (rows_of t) final).rows))
-    where
-      go : (d : Dec (TableRules body t final)) (r : Option Child)
-          → with_table d (onward (present Refusal.NoSuchElement r) (find_in body (view false body (rows_of t) final) name))
-          ≡ searched body name (with_table d
-          (onward (present Refusal.NoRoot r) (λ (c : Child). gives (record { seen = view false body (rows_of t) final; root = c }))))
-      go (yes a) none = refl
-      go (yes a) (some c) = refl
-      go (no a) r = refl
+module _ (u : Upload) (name : List ℕ) where
+  abbrev seen : Seen
+  seen = view false u.body (rows_of u.rows) u.end
 
-  module _ {r : Opening} (x : OpeningIs body t (opened false (uploaded body t final)) r) where
-    pub find_refused : {why f : Refusal} → r ≡ Opening.Refused why → f ≡ absent_as why
-        → FindingIs (Finding.Refused f) (find (uploaded body t final) name)
-    find_refused e q = record { same = rw (find_opened, opened_why x e, q) }
+  abbrev searched : Answer Piece
+  searched = onward (present Refusal.NoSuchElement (root_of (toks_of u.body seen.rows))) (find_in u.body seen name)
 
-    pub find_found : {v : View} {s : StartRow} {c : Cursor} {a : Finding} → r ≡ Opening.Found v s c
-        → FindingIs a (find_in body (view_at t v) name (child_at body t v.count s c))
-        → FindingIs a (find (uploaded body t final) name)
-    find_found e z = record { same = rw (find_opened, opened_is x e) z.same }
+  pub find_table : is_yes (dec_table u.body u.rows u.end) ≡ false → FindingIs u.body (find u name) (Err Refusal.Table)
+  unfolding find
+  find_table e = record { is = sym (no_table (dec_table u.body u.rows u.end) e searched); inside = tt }
 
-pub ruleset finding_laws = (opened_laws, find_refused, find_found)
+  module _ (v : ValidTable) (x : (v.body.now ≡ u.body) × (v.rows.now ≡ u.rows) × (v.end ≡ u.end)) where
+    found_is : find u name ≡ found_of u.body name (rooted v.body.now (view false v.body.now (rows_of v.rows.now) v.end))
+    unfolding find
+    found_is =
+        let q : is_yes (dec_table u.body u.rows u.end) ≡ true = rw (x.0, x.1, x.2) at v.obeys.is in
+        good_table (dec_table u.body u.rows u.end) q searched
+        ∙ (through (root_of (toks_of u.body seen.rows)) ∙ ap (found_of u.body name) (sym (same_root x.0 x.1 x.2)))
+      where
+        through : (r : Option Child) → onward (present Refusal.NoSuchElement r) (find_in u.body seen name)
+            ≡ found_of u.body name (onward (present Refusal.NoRoot r) (λ (c : Child). gives (record { seen = seen; root = c })))
+        through none = refl
+        through (some c) = refl
 
--- ---- its part and its number
-module _ (body t : List ℕ) (final : ℕ) (name : List ℕ) {x : Finding} (y : FindingIs x (find (uploaded body t final) name)) where
-  module _ {p : Piece} (e : x ≡ Finding.Part p) where
-    some_part : gives (piece_at p) ≡ find (uploaded body t final) name
-    some_part = rw e at y.same
+    pub find_rootless : {why : Refusal} → OpeningIs v.body.now (rooted v.body.now (view false v.body.now (rows_of v.rows.now) v.end))
+        (Err why)
+        → FindingIs u.body (find u name) (Err Refusal.NoSuchElement)
+    find_rootless {why} o = record { is = sym (found_is ∙ ap (found_of u.body name) (sym o.is)); inside = tt }
 
-    pub part_some : PartIs body p (part_of (find (uploaded body t final) name))
-    part_some = record { start = rw (← some_part); len = rw (← some_part); within = part_within (uploaded body t final) name }
+    pub find_found : {root : Element} → OpeningIs v.body.now (rooted v.body.now (view false v.body.now (rows_of v.rows.now) v.end))
+        (Ok root)
+        → {r : Result Piece Refusal}
+        → FindingIs (body_of root) (find_in (body_of root) (view_of root.view) name (child_of root)) r
+        → FindingIs u.body (find u name) r
+    find_found {root} o {r} y =
+        let z = subst (λ (b : List ℕ). FindingIs b (find_in b (view_of root.view) name (child_of root)) r) (o.of_body ∙ x.0) y in
+        record { is = z.is ∙ sym (found_is ∙ ap (found_of u.body name) (sym o.is)); inside = z.inside }
 
-    pub number_some : 0 ≡ refusal_of (find (uploaded body t final) name)
-    number_some = rw (← some_part)
+  -- ---- its part and its number
+  module _ {r : Result Piece Refusal} (y : FindingIs u.body (find u name) r) where
+    pub part_some : {p : Piece} → r ≡ Ok p
+        → take p.len (drop p.start u.body) ≡ cut u.body (part_of (find u name)).start (part_of (find u name)).len
+    part_some {p} e = let z : gives p ≡ find u name = rw e at y.is in rw (← z)
 
-  module _ {f : Refusal} (e : x ≡ Finding.Refused f) where
-    no_part : refuses f ≡ find (uploaded body t final) name
-    no_part = rw e at y.same
+    pub part_none : {why : Refusal} → r ≡ Err why → [] ≡ cut u.body (part_of (find u name)).start (part_of (find u name)).len
+    part_none {why} e = let z : refuses why ≡ find u name = rw e at y.is in rw (← z)
 
-    pub part_none : PartIs body (record { start = 0; len = 0 }) (part_of (find (uploaded body t final) name))
-    part_none = record { start = rw (← no_part); len = rw (← no_part); within = part_within (uploaded body t final) name }
+    pub number_some : {p : Piece} → r ≡ Ok p → 0 ≡ refusal_of (find u name)
+    number_some {p} e = let z : gives p ≡ find u name = rw e at y.is in rw (← z)
 
-    pub number_none : {n : ℕ} → n ≡ number f → n ≡ refusal_of (find (uploaded body t final) name)
-    number_none q = rw (← no_part) q
-
-pub ruleset part_laws = (rules, part_some, part_none, number_some, number_none)
-
-module _ {body : List ℕ} {r : Piece} {is : scope.Piece} (x : PartIs body r is) where
-  pub slice_is : take (r.start + r.len - r.start) (drop r.start body) ≡ cut body is.start is.len
-  slice_is = let z : r.start + r.len - r.start ≡ r.len = omega arith in rw (z, x.start, x.len)
-
-pub ruleset slice_laws = (rules, slice_is)
+    pub number_none : {why : Refusal} → r ≡ Err why → {n : ℕ} → n ≡ number why → n ≡ refusal_of (find u name)
+    number_none {why} e q = let z : refuses why ≡ find u name = rw e at y.is in rw (← z) q

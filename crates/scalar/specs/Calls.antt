@@ -4,9 +4,9 @@ use Rattle.std.specs.Prelude.{ℕ, ◌≡◌, Bool, List, ℤ}
 use Rattle.lists.specs.Tests.{yes_no}
 use Rattle.refusal.specs.Answer.{Answer, gives, refuses}
 use Rattle.refusal.specs.Numbers.{number, place}
-use Rattle.document.specs.Scope as doc
+use Rattle.document.specs.declared.part.Piece.{Piece}
 use Rattle.readings.specs.Find.{part_of, refusal_of}
-use Rattle.scalar.specs.Answers.{length_in, buffer_after}
+use Rattle.document.specs.Part.{length_in, buffer_after}
 
 abbrev pub number_of : {A : Type 0} → Answer A → ℕ
 number_of (gives a) = 0
@@ -71,7 +71,7 @@ pub record StringRead (is : Answer (List ℕ)) (old new : List ℕ) (n p r : ℕ
   pub place : p ≡ place_of is
 
 -- ---- a part of the body; 0 and 0 where it is refused
-pub record FindCall (is : Answer doc.Piece) (from size r : ℕ) : Type 0 where
+pub record FindCall (is : Answer Piece) (from size r : ℕ) : Type 0 where
   pub number : r ≡ refusal_of is
   pub start : from ≡ (part_of is).start
   pub len : size ≡ (part_of is).len

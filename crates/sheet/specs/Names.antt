@@ -3,7 +3,7 @@ use Rattle.std.specs.Prelude.{ℕ, zero, suc, Bool, false, List, [], ◌∷◌}
 use Rattle.std.proofs.Math.Option.{Option, none, some, get_or}
 use Rattle.lists.specs.Tests.{pick}
 use Rattle.lists.specs.Bytes.{ascii, sameb}
-use Rattle.sheet.specs.Settings.{Settings}
+use Rattle.sheet.specs.declared.Settings.{Settings}
 use Rattle.sheet.specs.Sheet.{Member, Structure, Item, ListSheet, Value, MapSheet}
 
 -- the first of two names that is there

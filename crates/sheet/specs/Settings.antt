@@ -1,13 +1,8 @@
 -- Settings (01, src/codec.rs: "only the maximum depth and the three flags"), and what they ask at a shape depth.
-use Rattle.std.specs.Prelude.{ℕ, Bool, false, eqb, leb}
+use Rattle.std.specs.Prelude.{Bool, false, eqb, leb}
 use Rattle.lists.specs.Tests.{pick}
 use Rattle.sheet.specs.declared.ShapeDepth.{ShapeDepth}
-
-pub record Settings : Type 0 where
-  pub max_depth : ℕ
-  pub validate_document : Bool
-  pub validate_root_name : Bool
-  pub strict_collection_element_names : Bool
+use Rattle.sheet.specs.declared.Settings.{Settings}
 
 abbrev pub outermost : ShapeDepth → Bool
 outermost depth = eqb depth.0 0

@@ -1,3 +1,1 @@
-pub mod Comparing
-pub mod Scan
-pub mod Copy
+mod Library

@@ -1,7 +1,6 @@
-pub mod Loops
+pub mod Members
 pub mod Asking
-pub mod Taking
 pub mod Gathering
-pub mod Alone
+pub mod Taking
+pub mod Ending
 pub mod Whole
-pub mod Called

@@ -1,82 +1,77 @@
--- The children of a root: what is written of them, and what is kept of them.
-use Rattle.std.specs.Prelude.{ℕ, ◌+◌, ◌*◌, ◌≤◌, ◌≡◌, Bool, List, [], ◌∷◌, length, take}
+-- The children of a root: what is written of them, and what is kept of them for the groups.
+use Rattle.std.specs.Prelude.{ℕ, ◌+◌, ◌≤◌, ◌≡◌, List, [], ◌∷◌, ◌++◌, Result, Ok, Err, length, take}
 use Rattle.std.proofs.Math.Option.{Option, none, some}
-use Rattle.std.proofs.lemmas.List.Edits.{sets}
-use Rattle.lists.specs.Tests.{pick}
-use Rattle.refusal.specs.Answer.{Answer}
-use Rattle.document.specs.View as doc
-use Rattle.document.specs.Scope.{Child, piece_of}
-use Rattle.document.specs.Text.{text_of}
+use Rattle.lists.specs.Every.{Every}
+use Rattle.refusal.specs.declared.Refusal.{Refusal}
+use Rattle.document.specs.declared.part.Piece.{Piece}
+use Rattle.document.specs.Scope.{Child, children_of, piece_of}
 use Rattle.sheet.specs.Sheet.{Structure}
-use Rattle.readings.specs.Output.{piece_entry}
-use Rattle.readings.specs.Plan.{Plan, end, one, one_by_one}
-use Rattle.readings.specs.Structure.{scalar_plan, child_plan}
-use Rattle.decode.specs.declared.reader.StartRow.{StartRow}
-use Rattle.decode.specs.declared.reader.Cursor.{Cursor}
-use Rattle.decode.specs.declared.view.View.{View}
-use Rattle.decode.specs.Reader.{child_at}
-use Rattle.decode.specs.View.{view_at}
-use Rattle.output.specs.declared.Written.{Written}
-use Rattle.output.specs.declared.Step.{Step}
-use Rattle.output.specs.Held.{Does, Adds}
-use Rattle.structure.specs.declared.children.Taken.{Taken}
-use Rattle.structure.specs.Steps.{Begins, after_children}
-use Rattle.structure.specs.Groups.{KeptIn, GroupsKept}
+use Rattle.sheet.specs.Names.{Indexed}
+use Rattle.readings.specs.Plan.{one_by_one}
+use Rattle.readings.specs.Structure.{member_plan, child_plan, flat_member, group_of, has_group}
+use Rattle.decode.specs.declared.place.Cursor.{Cursor}
+use Rattle.decode.specs.declared.view.View.{View as Seen}
+use Rattle.decode.specs.declared.element.Element.{Element}
+use Rattle.decode.specs.View.{view_of}
+use Rattle.decode.specs.Element.{child_of}
+use Rattle.output.specs.declared.Output.{Output}
+use Rattle.output.specs.declared.kept.Kept.{Kept}
+use Rattle.output.specs.Kept.{is_kept, flat, InBody, Inside}
+use Rattle.output.specs.Held.{Does}
+use Rattle.structure.specs.Structure.{body_of}
 
--- ---- what is written
--- a scalar's text, or that it failed
-unfoldable pub scalar_of : ℕ → Answer (List ℕ) → Plan
-scalar_of index a = scalar_plan index a
+-- ---- what is kept of a root: the pieces of its groups, each in the body
+pub record KeepsAll (root : Element) (s : Structure) (kept : List Kept) : Type 0 where
+  pub flat : (i : ℕ) → flat (body_of root) kept i ≡ group_of (body_of root) (view_of root.view) s (children_of (child_of root)) i
+  pub has : (i : ℕ) → is_kept kept i ≡ has_group s i (children_of (child_of root))
+  pub inside : Inside (body_of root) kept
+  pub few : length kept ≤ 4096
 
--- a child of a member with these flags: nothing yet, a piece, or a text
-unfoldable pub member_of : List ℕ → doc.View → Child → ℕ → Bool → Bool → Plan
-member_of body v c index aggregate flattened =
-    let piece = one (piece_entry index (piece_of body v c)) [] in
-    let text = scalar_plan index (text_of v c) in
-    pick aggregate (pick flattened end piece) text
+-- ---- an answer that tells how many are kept
+abbrev pub done : {A : Type 0} → Result A Refusal → Result (Unit {0}) Refusal
+done (Ok a) = Ok tt
+done (Err r) = Err r
 
--- ---- what is answered: a step, and how many are kept
-abbrev pub taken_of : Step → ℕ → Taken
-taken_of (Step.Done w) count = Taken.Done w count
-taken_of (Step.Refused why w) count = Taken.Refused why w
+-- where it is given, the fact about the number
+abbrev pub Counted : Result ℕ Refusal → (ℕ → Type 0) → Type 0
+Counted (Ok n) P = P n
+Counted (Err r) P = Unit {0}
 
-abbrev pub step_of : Taken → Step
-step_of (Taken.Done w count) = Step.Done w
-step_of (Taken.Refused why w) = Step.Refused why w
+-- ---- one child of a view, of a member
+-- a piece that waits for a member's group
+abbrev pub waiting : Option ℕ → Piece → List Kept
+waiting none p = []
+waiting (some i) p = record { member = i; piece = p } ∷ []
 
--- ---- what is kept
--- there is room for one more
-pub record KeptRoom (l : List ℕ) (count : ℕ) : Type 0 where
-  pub room : count * 3 + 3 ≤ length l
-  pub few : count ≤ 4096
+-- of a child, by its member
+abbrev pub kept_of : Seen → Child → Option Indexed → List Kept
+kept_of v c m = waiting (flat_member m) (piece_of v.table.body.now (view_of v) c)
 
--- the member that a child of a member with these flags waits for
-abbrev pub flat_if : Bool → Bool → ℕ → Option ℕ
-flat_if aggregate flattened index = pick aggregate (pick flattened (some index) none) none
+-- the first n of `l'` are the first `count` of `l`, and the child if it is kept
+pub record KeptMore (v : Seen) (c : Child) (m : Option Indexed) (l : List Kept) (count : ℕ) (l' : List Kept) (n : ℕ) : Type 0 where
+  pub is : take n l' ≡ take count l ++ kept_of v c m
+  pub inside : Every (InBody v.table.body.now) (kept_of v c m)
+  pub few : n ≤ count + 1
 
--- a child that waits for the group of member o, if it does, is three numbers more
-pub data Keeping (body : List ℕ) (v : doc.View) (c : Child) (o : Option ℕ) (l : List ℕ) (count : ℕ) (l' : List ℕ)
-    (count' : ℕ) : Type 0 where
-  passed : o ≡ none → l' ≡ l → count' ≡ count → Keeping body v c o l count l' count'
-  kept : (j : ℕ) → o ≡ some j → l' ≡ sets l (count * 3) (j ∷ (piece_of body v c).start ∷ (piece_of body v c).len ∷ []) → count' ≡ count + 1
-      → (piece_of body v c).start + (piece_of body v c).len ≤ length body → Keeping body v c o l count l' count'
+-- and its plan is done
+pub record Taken (v : Seen) (c : Child) (m : Option Indexed) (l : List Kept) (count : ℕ) (l' : List Kept) (b b' : Output)
+    (r : Result ℕ Refusal) : Type 0 where
+  pub does : Does (member_plan v.table.body.now (view_of v) c m) b b' (done r)
+  pub keeps : Counted r (KeptMore v c m l count l')
 
--- ---- one child: its plan is done, and where it goes on, the child is kept for member o, if it is for one
-pub record TakenAs (body t : List ℕ) (v : View) (s : StartRow) (c : Cursor) (plan : Plan) (o : Option ℕ)
-    (e x : List ℕ) (w : Written) (l : List ℕ) (count : ℕ) (e' x' l' : List ℕ) (r : Taken) : Type 0 where
-  pub does : Does plan e x w e' x' (step_of r)
-  pub adds : Adds plan 65536
-  pub keeps : (w' : Written) (n : ℕ) → r ≡ Taken.Done w' n → Keeping body (view_at t v) (child_at body t v.count s c) o l count l' n
+-- ---- all of them
+-- the first n of `l` are what is kept
+pub record AllKept (root : Element) (s : Structure) (l : List Kept) (n : ℕ) : Type 0 where
+  pub room : n ≤ length l
+  pub all : KeepsAll root s (take n l)
 
--- ---- all children: where they are done, the first n * 3 numbers of l are those of the groups
-pub record AllTaken (body t : List ℕ) (v : View) (st : Structure) (kids : List Child) (e x : List ℕ) (w : Written) (l : List ℕ)
-    (n : ℕ) : Type 0 where
-  pub begins : Begins after_children e x w
-  pub room : n * 3 ≤ length l
-  pub inside : KeptIn body (take (n * 3) l)
-  pub groups : GroupsKept body (view_at t v) st kids (take (n * 3) l)
+-- and their plans are done, one after another
+pub record ChildrenTaken (root : Element) (s : Structure) (l : List Kept) (b b' : Output) (r : Result ℕ Refusal) : Type 0 where
+  pub does : Does (one_by_one (child_plan (body_of root) (view_of root.view) s) (children_of (child_of root))) b b' (done r)
+  pub keeps : Counted r (AllKept root s l)
 
-pub record ChildrenTaken (body t : List ℕ) (v : View) (st : Structure) (kids : List Child) (e x : List ℕ) (w : Written) (e' x' l' : List ℕ)
-    (r : Taken) : Type 0 where
-  pub does : Does (one_by_one (child_plan body (view_at t v) st) kids) e x w e' x' (step_of r)
-  pub done : (w' : Written) (n : ℕ) → r ≡ Taken.Done w' n → AllTaken body t v st kids e' x' w' l' n
+-- an element whose reader stands at another place
+pub record ResumedAt (e : Element) (c : Cursor) (r : Element) : Type 0 where
+  pub view : r.view ≡ e.view
+  pub start : r.start ≡ e.start
+  pub at : r.at ≡ c

@@ -5,7 +5,9 @@ pub mod Moved
 pub mod Element
 pub mod Test
 pub mod Examples
-pub mod SpanLaws
-pub mod ByteLaws
-pub mod OrderLaws
+pub mod Valid
+pub mod Scan
+pub mod KindLaws
 pub mod Pass
+pub mod NameLaws
+pub mod Names

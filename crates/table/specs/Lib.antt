@@ -7,3 +7,7 @@ pub mod Spans
 pub mod Bytes
 pub mod Order
 pub mod Pass
+pub mod Kinds
+pub mod Names
+pub mod Rows
+pub mod Held

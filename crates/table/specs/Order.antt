@@ -1,5 +1,5 @@
 -- The rules on the order of kinds as the code tests them, and the place after a row.
-use Rattle.std.specs.Prelude.{ℕ, ◌+◌, ◌≤◌, ◌<◌, ◌≡◌, Bool, true, false, eqb}
+use Rattle.std.specs.Prelude.{ℕ, ◌≤◌, ◌<◌, ◌≡◌, Bool, true, false, eqb}
 use Rattle.lists.specs.Tests.{pick}
 use Rattle.table.specs.Rules.{open_count, most_open, most_kind, ends_tag, in_tag_only, may_be_in_tag, may_follow_root, needs_element, Place}
 
@@ -23,9 +23,6 @@ pub record Order (in_tag : Bool) (nesting : ℕ) (rooted : Bool) (kind left : �
   pub last : kind ≡ 8 → left ≡ 0
 
 -- ---- the place after a row
-abbrev pub place : ℕ → Bool → ℕ → Bool → Place
-place a b c d = record { position = a; in_tag = b; nesting = c; rooted = d }
-
 -- `after` by the row's kind and position
 abbrev pub step_to : Place → ℕ → ℕ → Place
 step_to p kind own =
@@ -35,7 +32,3 @@ step_to p kind own =
       nesting = open_count p.nesting kind;
       rooted = pick (eqb kind 1) true p.rooted;
     }
-
-pub record StepsTo (p : Place) (kind own : ℕ) (q : Place) : Type 0 where
-  pub is : q ≡ step_to p kind own
-  pub more : q.nesting ≤ p.nesting + 1

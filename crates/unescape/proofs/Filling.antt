@@ -26,8 +26,10 @@ use Rattle.reference.proofs.Walk.{DecodeAt, decode_start, decode_plain, decode_e
 use Rattle.unescape.specs.Loops.{size_of}
 use Rattle.unescape.proofs.Loops.{seek_laws, next_fits, next_less, run_less}
 use Rattle.reference.specs.declared.Reference.{Reference}
-use Rattle.reference.specs.declared.Unescaped.{Unescaped}
+use Rattle.reference.specs.declared.BadReference.{BadReference}
+use Rattle.reference.specs.declared.UnescapeError.{UnescapeError}
 use Rattle.unescape.specs.Fill.{Room}
+use Rattle.std.specs.Prelude.{IsSome, Option, None, Some, Result, Ok, Err}
 
 -- what is written so far stays within the room that the whole has
 stays : {t acc : List ℕ} {i m : ℕ} → DecodeAt false t acc i → Room (unescaped t) m → length acc ≤ m
@@ -49,7 +51,7 @@ scalar_below c e = go (leb c 0xD7FF) (leb 0xE000 c) (leb c 0x10FFFF) refl refl e
     go false true false p q e = let z : ◌≡◌ {A = ℕ} 0 1 = cc in absurd (omega arith)
     go false false false p q e = let z : ◌≡◌ {A = ℕ} 0 1 = cc in absurd (omega arith)
 
-pub small_reference : (s : List ℕ) {r : Reference} {c n : ℕ} → r ≡ reference false s → r ≡ Reference.Char c n → c < 0x110000
+pub small_reference : (s : List ℕ) {r : Option Reference} {y : Reference} → r ≡ reference false s → r ≡ Some y → y.code < 0x110000
 small_reference s q e = scalar_below _ (taken false s (sym q ∙ e)).char
 
 -- ---- filling: old is what stood in the room, out what stands there now, n how many bytes have been written
@@ -91,16 +93,22 @@ module _ {t old out : List ℕ} {n i : ℕ} (f : FillAt t old out n i) (room : R
       let d = decode_end f.at h in
       rw (d, le-leb (length f.acc) (length old) (stays f.at room)) f.is
 
-  module _ {r : Reference} (h : i < length t) (amp : get_or t i 0 ≡ 38) (q : r ≡ reference false (drop (i + 1) t)) where
-    pub fill_bad : r ≡ Reference.Bad → out ≡ filled (unescaped t) old
+  module _ {r : Option Reference} (h : i < length t) (amp : get_or t i 0 ≡ 38) (q : r ≡ reference false (drop (i + 1) t)) where
+    -- each `&` of a text that has room begins a reference
+    pub fill_some : IsSome r
     unfolding unescaped Room
-    fill_bad e = absurd (rw (decode_bad f.at h amp q e) at room)
+    fill_some = go r refl
+      where
+        go : (x : Option Reference) → r ≡ x → IsSome x
+        go None e = absurd (rw (decode_bad f.at h amp q e) at room)
+        go (Some y) e = refl
 
-    pub fill_ref : {c k d : ℕ} {out' : List ℕ} → r ≡ Reference.Char c k → Stored out out' n (encode c) d → FillAt t old out' d (i + 1 + k)
-    fill_ref {c} e p = rw (p.next, p.is) (more (encode c) (decode_ref f.at h amp q e))
+    pub fill_ref : {y : Reference} {d : ℕ} {out' : List ℕ} → r ≡ Some y → Stored out out' n (encode y.code) d
+        → FillAt t old out' d (i + 1 + y.len)
+    fill_ref {y} e p = rw (p.next, p.is) (more (encode y.code) (decode_ref f.at h amp q e))
 
-    pub fill_room : {c k : ℕ} → r ≡ Reference.Char c k → n + length (encode c) ≤ length out
-    fill_room {c} {k} e = more_room (encode c) (decode_ref f.at h amp q e)
+    pub fill_room : {y : Reference} → r ≡ Some y → n + length (encode y.code) ≤ length out
+    fill_room {y} e = more_room (encode y.code) (decode_ref f.at h amp q e)
 
 pub ruleset fill_laws = (
   seek_laws,
@@ -108,7 +116,7 @@ pub ruleset fill_laws = (
   fill_plain,
   fill_plain_room,
   fill_end,
-  fill_bad,
+  fill_some,
   fill_ref,
   fill_room,
   small_reference,
@@ -118,51 +126,47 @@ pub ruleset fill_laws = (
 )
 
 -- ---- the answer, from what measuring found
-length_is : (o : Out) {r : Unescaped} {n : ℕ} → r ≡ size_of o → r ≡ Unescaped.Length n → (l : List ℕ) × (o ≡ bytes l) × (length l ≡ n)
+length_is : (o : Out) {r : Result ℕ BadReference} {n : ℕ} → r ≡ size_of o → r ≡ Ok n → (l : List ℕ) × (o ≡ bytes l) × (length l ≡ n)
 unfolding size_of
 length_is (bytes l) {r} {n} q e = let k : length l ≡ n = cc in (l, refl, k)
 length_is (bad at) {r} {n} q e = let z : ◌≡◌ {A = ℕ} 0 1 = cc in absurd (omega arith)
 
-place_is : (o : Out) {r : Unescaped} {k : ℕ} → r ≡ size_of o → r ≡ Unescaped.BadReference k → o ≡ bad k
+place_is : (o : Out) {r : Result ℕ BadReference} {why : BadReference} → r ≡ size_of o → r ≡ Err why → o ≡ bad why.at
 unfolding size_of
 place_is (bytes l) q e = let z : ◌≡◌ {A = ℕ} 0 1 = cc in absurd (omega arith)
-place_is (bad at) {r} {k} q e = let z : at ≡ k = cc in ap bad z
+place_is (bad at) {r} {why} q e = ap bad (ap place (sym q ∙ e))
+  where
+    place : Result ℕ BadReference → ℕ
+    place (Ok n) = 0
+    place (Err x) = x.at
 
-never : (o : Out) {r : Unescaped} → r ≡ size_of o → r ≡ Unescaped.NoRoom → ⊥
-unfolding size_of
-never (bytes l) q e = let z : ◌≡◌ {A = ℕ} 0 1 = cc in omega arith
-never (bad at) q e = let z : ◌≡◌ {A = ℕ} 0 1 = cc in omega arith
-
-module _ (t : List ℕ) {r : Unescaped} (q : r ≡ size_of (unescaped t)) where
-  pub measured_room : {n m : ℕ} → r ≡ Unescaped.Length n → n ≤ m → Room (unescaped t) m
+module _ (t : List ℕ) {r : Result ℕ BadReference} (q : r ≡ size_of (unescaped t)) where
+  pub measured_room : {n m : ℕ} → r ≡ Ok n → n ≤ m → Room (unescaped t) m
   unfolding Room
   measured_room e h = let x = length_is (unescaped t) q e in rw x.1 (omega (arith, x.2))
 
-  pub measured_length : {n : ℕ} {old new : List ℕ} → r ≡ Unescaped.Length n → n ≤ length old → new ≡ filled (unescaped t) old
-      → Unescape t old new (Unescaped.Length n)
+  pub measured_length : {n : ℕ} {old new : List ℕ} → r ≡ Ok n → n ≤ length old → new ≡ filled (unescaped t) old
+      → Unescape t old new (Ok n)
   unfolding answer
   measured_length {n} {old} e h k = let x = length_is (unescaped t) q e in
       record { number = rw (x.1, x.2, le-leb n (length old) h); buffer = k }
 
-  pub measured_none : {n : ℕ} {old : List ℕ} → r ≡ Unescaped.Length n → length old < n → Unescape t old old Unescaped.NoRoom
+  pub measured_none : {n : ℕ} {old : List ℕ} → r ≡ Ok n → length old < n → Unescape t old old (Err UnescapeError.NoRoom)
   unfolding answer filled
   measured_none {n} {old} e h =
       let x = length_is (unescaped t) q e in
       record { number = rw (x.1, x.2, lt-leb n (length old) h); buffer = rw (x.1, x.2, lt-leb n (length old) h) }
 
-  pub measured_bad : {k : ℕ} {old : List ℕ} → r ≡ Unescaped.BadReference k → Unescape t old old (Unescaped.BadReference k)
+  pub measured_bad : {why : BadReference} {old : List ℕ} → r ≡ Err why → Unescape t old old (Err (UnescapeError.BadReference why.at))
   unfolding answer filled
   measured_bad e = let x = place_is (unescaped t) q e in record { number = rw x; buffer = rw x }
 
   -- the place lies in the text
-  pub measured_within : {k : ℕ} → r ≡ Unescaped.BadReference k → k < length t
+  pub measured_within : {why : BadReference} → r ≡ Err why → why.at < length t
   unfolding unescaped
   measured_within e = fails_within false t ((bad_is false t _).0 (place_is (unescaped t) q e))
 
-  pub measured_never : {old : List ℕ} → r ≡ Unescaped.NoRoom → Unescape t old old Unescaped.NoRoom
-  measured_never e = absurd (never (unescaped t) q e)
-
-pub ruleset answer_laws = (rules, measured_room, measured_length, measured_none, measured_bad, measured_never)
+pub ruleset answer_laws = (rules, measured_room, measured_length, measured_none, measured_bad)
 
 -- ---- a text without `&` is copied
 pub whole : {t : List ℕ} {r : ℕ} → NextAt t 38 0 r → r ≡ length t → NextAt t 38 0 (length t)
@@ -172,14 +176,14 @@ module _ {t : List ℕ} (x : NextAt t 38 0 (length t)) where
   plain_is : unescaped t ≡ bytes t
   plain_is = plain_unescapes t (λ k e. x.clear.none k (omega arith) (get_d_in t k 37 e) e)
 
-  pub plain_length : {old new : List ℕ} {k : ℕ} → length t ≤ length old → Stored old new 0 t k → Unescape t old new (Unescaped.Length k)
+  pub plain_length : {old new : List ℕ} {k : ℕ} → length t ≤ length old → Stored old new 0 t k → Unescape t old new (Ok k)
   unfolding answer filled overwritten
   plain_length {old} {new} {k} h s =
       let e : new ≡ t ++ drop (length t) old = s.is ∙ rw zero-add at (sets-eq t old 0 (omega arith)) in
       let n : k ≡ length t = omega (arith, s.next) in
       record { number = rw (plain_is, le-leb (length t) (length old) h, n); buffer = rw (plain_is, le-leb (length t) (length old) h) e }
 
-  pub plain_none : {old : List ℕ} → length old < length t → Unescape t old old Unescaped.NoRoom
+  pub plain_none : {old : List ℕ} → length old < length t → Unescape t old old (Err UnescapeError.NoRoom)
   unfolding answer filled
   plain_none {old} h = record {
     number = rw (plain_is, lt-leb (length t) (length old) h);

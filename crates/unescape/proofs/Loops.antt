@@ -18,9 +18,8 @@ use Rattle.reference.specs.Text.{reference, references, verdict, validated, unes
 use Rattle.reference.proofs.Taken.{taken, reference_no_amp}
 use Rattle.reference.proofs.Walk.{DecodeAt, decode_start, decode_plain, decode_end, decode_bad, decode_ref}
 use Rattle.reference.specs.declared.Reference.{Reference}
-use Rattle.reference.specs.declared.Validated.{Validated}
-use Rattle.reference.specs.declared.Unescaped.{Unescaped}
 use Rattle.unescape.specs.Loops.{size_of}
+use Rattle.std.specs.Prelude.{Option, None, Some, Ok, Err}
 
 -- what `&t[i..r]` holds
 pub part_length : {t : List ℕ} {i r : ℕ} → Clear t 38 i r → length (part t i r) ≡ r - i
@@ -38,17 +37,17 @@ pub run_less : {t : List ℕ} {i r : ℕ} → i < length t → (get_or t i 0 ≡
 run_less h n x = omega (arith, run_some h n x)
 
 -- the place after a reference fits a `usize`, and less is left there
-module _ {strict : Bool} {t acc : List ℕ} {i : ℕ} (at : DecodeAt strict t acc i) {r : Reference} {c n : ℕ} (h : i < length t)
-    (q : r ≡ reference strict (drop (i + 1) t)) (e : r ≡ Reference.Char c n) where
-  pub next_in : (3 ≤ n) × (i + 1 + n ≤ length t)
+module _ {strict : Bool} {t acc : List ℕ} {i : ℕ} (at : DecodeAt strict t acc i) {r : Option Reference} {y : Reference} (h : i < length t)
+    (q : r ≡ reference strict (drop (i + 1) t)) (e : r ≡ Some y) where
+  pub next_in : (3 ≤ y.len) × (i + 1 + y.len ≤ length t)
   next_in =
       let l = taken strict (drop (i + 1) t) (sym q ∙ e) in
       (l.some, omega (arith, l.within, length-drop (i + 1) t))
 
-  pub next_fits : length t < 2 ^ 64 → Fits w64 (i + 1 + n)
+  pub next_fits : length t < 2 ^ 64 → Fits w64 (i + 1 + y.len)
   next_fits g = record { fits = omega (arith, next_in.1) }
 
-  pub next_less : length t - (i + 1 + n) < length t - i
+  pub next_less : length t - (i + 1 + y.len) < length t - i
   next_less = omega (arith, next_in.0, next_in.1)
 
 -- ---- where to look for the next `&` from: right after the last one, whatever stands there, so that the search waits for no reference
@@ -67,10 +66,11 @@ seek_next {t} {seek} {i} {r} c h n x =
     go true q = leb-true i r q
     go false q = absurd (c.none r x.clear.low (leb-false i r q) (x.found (omega (arith, leb-false i r q))))
 
-pub seek_ref : (strict : Bool) {t : List ℕ} {i : ℕ} {r : Reference} {c n : ℕ} → i < length t → r ≡ reference strict (drop (i + 1) t)
-    → r ≡ Reference.Char c n
-    → Clear t 38 (i + 1) (i + 1 + n)
-seek_ref strict {t} {i} {r} {c} {n} h q e =
+pub seek_ref : (strict : Bool) {t : List ℕ} {i : ℕ} {r : Option Reference} {y : Reference} → i < length t
+    → r ≡ reference strict (drop (i + 1) t)
+    → r ≡ Some y
+    → Clear t 38 (i + 1) (i + 1 + y.len)
+seek_ref strict {t} {i} {r} {y} h q e =
     let l = taken strict (drop (i + 1) t) (sym q ∙ e) in
     let a = reference_no_amp strict (drop (i + 1) t) (sym q ∙ e) in
     record {
@@ -97,16 +97,16 @@ module _ {t : List ℕ} {i : ℕ} (v : ValidAt t i) where
   pub valid_plain : {r : ℕ} → NextAt t 38 i r → ValidAt t r
   valid_plain x = record { acc = _; at = decode_plain v.at x.clear }
 
-  pub valid_end : length t ≤ i → Validated.Valid ≡ validated t
+  pub valid_end : length t ≤ i → Ok tt ≡ validated t
   unfolding validated verdict references
   valid_end h = rw (decode_end v.at h)
 
-  module _ {r : Reference} (h : i < length t) (amp : get_or t i 0 ≡ 38) (q : r ≡ reference true (drop (i + 1) t)) where
-    pub valid_bad : r ≡ Reference.Bad → Validated.BadReference i ≡ validated t
+  module _ {r : Option Reference} (h : i < length t) (amp : get_or t i 0 ≡ 38) (q : r ≡ reference true (drop (i + 1) t)) where
+    pub valid_bad : r ≡ None → Err (record { at = i }) ≡ validated t
     unfolding validated verdict references
     valid_bad e = rw (decode_bad v.at h amp q e)
 
-    pub valid_ref : {c n : ℕ} → r ≡ Reference.Char c n → ValidAt t (i + 1 + n)
+    pub valid_ref : {y : Reference} → r ≡ Some y → ValidAt t (i + 1 + y.len)
     valid_ref e = record { acc = _; at = decode_ref v.at h amp q e }
 
 pub ruleset valid_laws = (seek_laws, valid_start, valid_plain, valid_end, valid_bad, valid_ref, next_fits, next_less, run_less)
@@ -134,25 +134,25 @@ module _ {t : List ℕ} {n i : ℕ} (m : MeasureAt t n i) where
   pub measure_run_fits : {r : ℕ} → NextAt t 38 i r → length t < 2 ^ 64 → Fits w64 (n + (r - i))
   measure_run_fits {r} x g = record { fits = omega (arith, m.small, x.clear.low, x.clear.high) }
 
-  pub measure_end : length t ≤ i → Unescaped.Length n ≡ size_of (unescaped t)
+  pub measure_end : length t ≤ i → Ok n ≡ size_of (unescaped t)
   unfolding unescaped size_of
   measure_end h = rw (decode_end m.at h, ← m.size)
 
-  module _ {r : Reference} (h : i < length t) (amp : get_or t i 0 ≡ 38) (q : r ≡ reference false (drop (i + 1) t)) where
-    pub measure_bad : r ≡ Reference.Bad → Unescaped.BadReference i ≡ size_of (unescaped t)
+  module _ {r : Option Reference} (h : i < length t) (amp : get_or t i 0 ≡ 38) (q : r ≡ reference false (drop (i + 1) t)) where
+    pub measure_bad : r ≡ None → Err (record { at = i }) ≡ size_of (unescaped t)
     unfolding unescaped size_of
     measure_bad e = rw (decode_bad m.at h amp q e)
 
-    pub measure_ref : {c k d : ℕ} → r ≡ Reference.Char c k → EncodedLen c d → MeasureAt t (n + d) (i + 1 + k)
-    measure_ref {c} {k} {d} e w =
+    pub measure_ref : {y : Reference} {d : ℕ} → r ≡ Some y → EncodedLen y.code d → MeasureAt t (n + d) (i + 1 + y.len)
+    measure_ref {y} {d} e w =
         record {
           acc = _;
           at = decode_ref m.at h amp q e;
-          size = omega (arith, m.size, w.is, length-append m.acc (encode c));
+          size = omega (arith, m.size, w.is, length-append m.acc (encode y.code));
           small = omega (arith, m.small, w.high, (next_in m.at h q e).0);
         }
 
-    pub measure_fits : {c k d : ℕ} → r ≡ Reference.Char c k → EncodedLen c d → length t < 2 ^ 64 → Fits w64 (n + d)
+    pub measure_fits : {y : Reference} {d : ℕ} → r ≡ Some y → EncodedLen y.code d → length t < 2 ^ 64 → Fits w64 (n + d)
     measure_fits e w g = record { fits = omega (arith, (measure_ref e w).small, (next_in m.at h q e).1) }
 
 pub ruleset measure_laws = (

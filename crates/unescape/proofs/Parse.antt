@@ -1,7 +1,7 @@
 -- Laws of the functions that read one reference: one for each way through a turn of a loop and each way out, at `drop i`.
 use Prim.Native.Nat.{ℕ, zero, suc, ◌+◌, ◌-◌, ◌*◌, ◌/◌, ◌%◌, ◌^◌, ◌≤◌, ◌<◌}
 use mathlib.Core.Path.{◌≡◌, refl, sym, ◌∙◌, ap}
-use mathlib.Core.Bool.{Bool, true, false}
+use mathlib.Core.Bool.{Bool, true, false, ◌&&◌}
 use mathlib.Core.List.{List, [], ◌∷◌, ◌++◌}
 use native.Mathlib.Nat.{mul-le-mul_left, zero-add, add-zero}
 use native.Mathlib.Numerals.{add-one}
@@ -9,12 +9,12 @@ use native.Mathlib.Omega.{arith}
 use borrow.Author.Tests.{le-leb, lt-leb, le-ltb, lt-ltb, eqb-true, eqb-false, eq-eqb, ne_eqb}
 use borrow.Author.Rules.{rules}
 use mir.Val.{Fits}
-use mir.Syntax.{w64}
+use mir.Syntax.{w8, w64}
 use lib.Dec.{ltb, leb, eqb}
-use lib.ListN.{length, get_or, drop, take, drop_of_length-le, length-take, length-drop}
+use lib.ListN.{length, get_or, drop, take, drop_of_length-le, length-take}
 use lib.Seq.{drop-cons}
 use Rattle.lists.specs.Tests.{pick}
-use Rattle.lists.proofs.Tests.{pick_same, pick_all, false_true}
+use Rattle.lists.proofs.Tests.{pick_same, pick_all, false_true, flags}
 use Rattle.lists.specs.Bytes.{ascii, sameb}
 use Rattle.lists.proofs.Bytes.{same_is}
 use Rattle.lists.proofs.Parts.{get_d_in}
@@ -22,10 +22,11 @@ use Rattle.reference.proofs.Grammar.{Clean, clean_none, clean_byte}
 use Rattle.reference.specs.Number.{digit, numeral, limited, digits, plus_digits}
 use Rattle.reference.specs.Entity.{named, numeric, only, first, reader, allowed, char_of}
 use Rattle.reference.specs.Text.{span, sized, reference}
-use Rattle.reference.specs.declared.Number.{Number}
-use Rattle.reference.specs.declared.Number.TheVariants.{Value, No}
 use Rattle.reference.specs.declared.Reference.{Reference}
-use Rattle.unescape.specs.Parse.{spelt, PastSign, only_ref, begins, named_ref, packed, Byte, Three, name_value}
+use Rattle.std.specs.List.{starts_with}
+use Rattle.std.proofs.Common.{nat_eq}
+use Rattle.unescape.specs.Parse.{spelt, PastSign, only_ref, begins, some_char, named_ref, packed, name_value}
+use Rattle.std.specs.Prelude.{Option, None, Some}
 
 -- ---- an entity that is read by f, up to its `;`, where n bytes of the reference stand before it
 pub reference_spelt : (strict : Bool) (s : List ℕ) → reference strict s ≡ spelt (char_of strict) 0 s
@@ -33,24 +34,24 @@ unfolding reference spelt
 reference_spelt strict s = rw zero-add
 
 -- by another reader that reads the same there
-spelt_same : (f g : List ℕ → Number) (n : ℕ) (s : List ℕ) → f (take (span s) s) ≡ g (take (span s) s) → spelt f n s ≡ spelt g n s
+spelt_same : (f g : List ℕ → Option ℕ) (n : ℕ) (s : List ℕ) → f (take (span s) s) ≡ g (take (span s) s) → spelt f n s ≡ spelt g n s
 unfolding spelt
 spelt_same f g n s e = rw e
 
-spelt_no : (f : List ℕ → Number) (n : ℕ) (s : List ℕ) → f (take (span s) s) ≡ No → spelt f n s ≡ Reference.Bad
+spelt_no : (f : List ℕ → Option ℕ) (n : ℕ) (s : List ℕ) → f (take (span s) s) ≡ None → spelt f n s ≡ None
 unfolding spelt sized
 spelt_no f n s e = rw (e, pick_same)
 
 -- a byte of the entity is passed
-spelt_byte : (f g : List ℕ → Number) (n b : ℕ) (u : List ℕ) → (b ≡ 59 → ⊥) → (b ≡ 38 → ⊥) → f (b ∷ take (span u) u) ≡ g (take (span u) u)
+spelt_byte : (f g : List ℕ → Option ℕ) (n b : ℕ) (u : List ℕ) → (b ≡ 59 → ⊥) → (b ≡ 38 → ⊥) → f (b ∷ take (span u) u) ≡ g (take (span u) u)
     → spelt f n (b ∷ u) ≡ spelt g (n + 1) u
 unfolding spelt span
 spelt_byte f g n b u h k e =
     let q : n + suc (span u) + 1 ≡ n + 1 + span u + 1 = omega arith in
     rw (ne_eqb b 59 h, ne_eqb b 38 k, e, q)
 
-module _ (f : List ℕ → Number) (n : ℕ) (t : List ℕ) (i : ℕ) where
-  spelt_at : (g : List ℕ → Number) → i < length t → (get_or t i 0 ≡ 59 → ⊥) → (get_or t i 0 ≡ 38 → ⊥)
+module _ (f : List ℕ → Option ℕ) (n : ℕ) (t : List ℕ) (i : ℕ) where
+  spelt_at : (g : List ℕ → Option ℕ) → i < length t → (get_or t i 0 ≡ 59 → ⊥) → (get_or t i 0 ≡ 38 → ⊥)
       → f (get_or t i 0 ∷ take (span (drop (i + 1) t)) (drop (i + 1) t)) ≡ g (take (span (drop (i + 1) t)) (drop (i + 1) t))
       → spelt f n (drop i t) ≡ spelt g (n + 1) (drop (i + 1) t)
   spelt_at g h p q e =
@@ -61,41 +62,41 @@ module _ (f : List ℕ → Number) (n : ℕ) (t : List ℕ) (i : ℕ) where
   unfolding spelt span
   spelt_semi h e = rw (drop-cons t i 0, e, add-zero)
 
-  spelt_amp : i < length t → get_or t i 0 ≡ 38 → spelt f n (drop i t) ≡ Reference.Bad
+  spelt_amp : i < length t → get_or t i 0 ≡ 38 → spelt f n (drop i t) ≡ None
   unfolding spelt span
   spelt_amp h e = rw (drop-cons t i 0, e)
 
-  spelt_end : length t ≤ i → spelt f n (drop i t) ≡ Reference.Bad
+  spelt_end : length t ≤ i → spelt f n (drop i t) ≡ None
   unfolding spelt span
   spelt_end h = rw (drop_of_length-le t)
 
 -- ---- a numeral
 -- a number that has passed 32 bits stays so
-number_big : (base acc : ℕ) (s : List ℕ) → 1 ≤ base → 2 ^ 32 ≤ acc → limited (numeral base acc s) ≡ No
+number_big : (base acc : ℕ) (s : List ℕ) → 1 ≤ base → 2 ^ 32 ≤ acc → limited (numeral base acc s) ≡ None
 unfolding numeral limited
 number_big base acc [] hb h = rw (le-ltb acc (2 ^ 32) h)
 number_big base acc (b ∷ s) hb h =
     either (ltb (digit b) base) (numeral base (acc * base + digit b) s)
     (number_big base (acc * base + digit b) s hb (omega (arith, mul-le-mul_left acc hb)))
   where
-    either : (t : Bool) (x : Number) → limited x ≡ No → limited (pick t x No) ≡ No
+    either : (t : Bool) (x : Option ℕ) → limited x ≡ None → limited (pick t x None) ≡ None
     either true x e = e
     either false x e = refl
 
 -- the rest of a numeral of which k digits have come to acc
-unfoldable pub more : ℕ → ℕ → ℕ → List ℕ → Number
-more base acc k s = pick (leb 1 (k + length s)) (limited (numeral base acc s)) No
+unfoldable pub more : ℕ → ℕ → ℕ → List ℕ → Option ℕ
+more base acc k s = pick (leb 1 (k + length s)) (limited (numeral base acc s)) None
 
 more_digit : (base acc k b d : ℕ) (s : List ℕ) → d ≡ digit b → d < base → more base acc k (b ∷ s) ≡ more base (acc * base + d) (k + 1) s
 unfolding more numeral
 more_digit base acc k b d s e h =
     rw (← e, lt-ltb d base h, le-leb 1 (k + suc (length s)) (omega arith), le-leb 1 (k + 1 + length s) (omega arith))
 
-more_bad : (base acc k b d : ℕ) (s : List ℕ) → d ≡ digit b → base ≤ d → more base acc k (b ∷ s) ≡ No
+more_bad : (base acc k b d : ℕ) (s : List ℕ) → d ≡ digit b → base ≤ d → more base acc k (b ∷ s) ≡ None
 unfolding more numeral limited
 more_bad base acc k b d s e h = rw (← e, le-ltb d base h, pick_same)
 
-more_over : (base acc k : ℕ) (s : List ℕ) → 1 ≤ base → 2 ^ 32 ≤ acc → more base acc k s ≡ No
+more_over : (base acc k : ℕ) (s : List ℕ) → 1 ≤ base → 2 ^ 32 ≤ acc → more base acc k s ≡ None
 unfolding more
 more_over base acc k s hb h = rw (number_big base acc s hb h, pick_same)
 
@@ -142,35 +143,35 @@ module _ {base : ℕ} {t : List ℕ} {from start acc i : ℕ} (at : DigitsAt bas
       rest = digits_pass;
     }
 
-    pub digits_over : 1 ≤ base → 2 ^ 32 ≤ acc * base + d → Reference.Bad ≡ spelt (digits base) (start - from) (drop start t)
+    pub digits_over : 1 ≤ base → 2 ^ 32 ≤ acc * base + d → None ≡ spelt (digits base) (start - from) (drop start t)
     digits_over b s = sym (digits_pass
         ∙ spelt_no (more base (acc * base + d) (i + 1 - start)) (i + 1 - from) (drop (i + 1) t) (more_over base _ _ _ b s))
 
   pub digits_value : i < length t → get_or t i 0 ≡ 59 → (i ≡ start → ⊥)
-      → Reference.Char acc (i - from + 1) ≡ spelt (digits base) (start - from) (drop start t)
+      → some_char acc (i - from + 1) ≡ spelt (digits base) (start - from) (drop start t)
   unfolding more numeral limited sized
   digits_value h e n =
       let k : 1 ≤ i - start + 0 = omega (arith, at.low) in
       sym (at.rest ∙ spelt_semi (more base acc (i - start)) (i - from) t i h e
       ∙ rw (le-leb 1 (i - start + 0) k, lt-ltb acc (2 ^ 32) at.small))
 
-  pub digits_none : i < length t → get_or t i 0 ≡ 59 → i ≡ start → Reference.Bad ≡ spelt (digits base) (start - from) (drop start t)
+  pub digits_none : i < length t → get_or t i 0 ≡ 59 → i ≡ start → None ≡ spelt (digits base) (start - from) (drop start t)
   unfolding more sized
   digits_none h e n =
       sym (at.rest ∙ spelt_semi (more base acc (i - start)) (i - from) t i h e ∙ rw (lt-leb 1 (i - start + 0) (omega arith)))
 
   pub digits_bad : {d : ℕ} → i < length t → d ≡ digit (get_or t i 0) → base ≤ d → (get_or t i 0 ≡ 59 → ⊥)
-      → Reference.Bad ≡ spelt (digits base) (start - from) (drop start t)
+      → None ≡ spelt (digits base) (start - from) (drop start t)
   digits_bad {d} h e l n = sym (at.rest ∙ go (eqb (get_or t i 0) 38) refl)
     where
-      go : (v : Bool) → eqb (get_or t i 0) 38 ≡ v → spelt (more base acc (i - start)) (i - from) (drop i t) ≡ Reference.Bad
+      go : (v : Bool) → eqb (get_or t i 0) 38 ≡ v → spelt (more base acc (i - start)) (i - from) (drop i t) ≡ None
       go true q = spelt_amp (more base acc (i - start)) (i - from) t i h (eqb-true _ _ q)
       go false q =
-          spelt_at (more base acc (i - start)) (i - from) t i (λ e. No) h n (eqb-false _ _ q)
+          spelt_at (more base acc (i - start)) (i - from) t i (λ e. None) h n (eqb-false _ _ q)
           (more_bad base acc (i - start) (get_or t i 0) d _ e l)
-          ∙ spelt_no (λ e. No) (i - from + 1) (drop (i + 1) t) refl
+          ∙ spelt_no (λ e. None) (i - from + 1) (drop (i + 1) t) refl
 
-  pub digits_end : length t ≤ i → Reference.Bad ≡ spelt (digits base) (start - from) (drop start t)
+  pub digits_end : length t ≤ i → None ≡ spelt (digits base) (start - from) (drop start t)
   digits_end h = sym (at.rest ∙ spelt_end (more base acc (i - start)) (i - from) t i h)
 
 pub scaled : (acc base : ℕ) → acc < 2 ^ 32 → base ≤ 16 → acc * base < 2 ^ 36
@@ -249,17 +250,18 @@ pub ruleset sign_laws = (rules, sign_strict, sign_end, sign_other, sign_plus)
 -- ---- the number of an entity that begins with `#`
 module _ (strict : Bool) (t : List ℕ) (from : ℕ) (hash : get_or t from 0 ≡ 35) (some : from < length t) where
   -- after the `#`
-  after : List ℕ → Number
+  after : List ℕ → Option ℕ
   after e = pick (eqb (get_or e 0 0) 120) (reader strict 16 (drop 1 e)) (reader strict 10 e)
 
   past_hash : spelt (numeric (reader strict)) 0 (drop from t) ≡ spelt after 1 (drop (from + 1) t)
   unfolding numeric after
   past_hash = spelt_at (numeric (reader strict)) 0 t from after some (λ x. omega (arith, x, hash)) (λ x. omega (arith, x, hash)) (rw hash)
 
-  pub numeric_end : from + 1 ≡ length t → Reference.Bad ≡ spelt (numeric (reader strict)) 0 (drop from t)
+  pub numeric_end : from + 1 ≡ length t → None ≡ spelt (numeric (reader strict)) 0 (drop from t)
   numeric_end h = sym (past_hash ∙ spelt_end after 1 t (from + 1) (omega arith))
 
-  pub numeric_hex : {s : ℕ} {r : Reference} → (from + 1 ≡ length t → ⊥) → get_or t (from + 1) 0 ≡ 120 → PastSign strict t (from + 2) s
+  pub numeric_hex : {s : ℕ} {r : Option Reference} → (from + 1 ≡ length t → ⊥) → get_or t (from + 1) 0 ≡ 120
+      → PastSign strict t (from + 2) s
       → r ≡ spelt (digits 16) (s - from) (drop s t) → r ≡ spelt (numeric (reader strict)) 0 (drop from t)
   unfolding after
   numeric_hex {s} g e p q =
@@ -269,7 +271,7 @@ module _ (strict : Bool) (t : List ℕ) (from : ℕ) (hash : get_or t from 0 ≡
       let x = spelt_at after 1 t (from + 1) (reader strict 16) h (λ x. omega (arith, x, e)) (λ x. omega (arith, x, e)) (rw e) in
       q ∙ sym (past_hash ∙ (rw k at x) ∙ (rw m at (p.same 16 2)))
 
-  pub numeric_decimal : {s : ℕ} {r : Reference} → (from + 1 ≡ length t → ⊥) → (get_or t (from + 1) 0 ≡ 120 → ⊥)
+  pub numeric_decimal : {s : ℕ} {r : Option Reference} → (from + 1 ≡ length t → ⊥) → (get_or t (from + 1) 0 ≡ 120 → ⊥)
       → PastSign strict t (from + 1) s
       → r ≡ spelt (digits 10) (s - from) (drop s t) → r ≡ spelt (numeric (reader strict)) 0 (drop from t)
   unfolding after
@@ -284,72 +286,53 @@ module _ (strict : Bool) (t : List ℕ) (from : ℕ) (hash : get_or t from 0 ≡
 pub ruleset numeric_laws = (rules, numeric_end, numeric_hex, numeric_decimal)
 
 -- ---- only the codes that are allowed
-spelt_only : (f : ℕ → Bool) (g : List ℕ → Number) (n : ℕ) (s : List ℕ) → spelt (λ e. only f (g e)) n s ≡ only_ref f (spelt g n s)
+spelt_only : (f : ℕ → Bool) (g : List ℕ → Option ℕ) (n : ℕ) (s : List ℕ) → spelt (λ e. only f (g e)) n s ≡ only_ref f (spelt g n s)
 unfolding spelt sized only only_ref
 spelt_only f g n s = go (eqb (get_or s (span s) 0) 59) (g (take (span s) s)) (n + span s + 1)
   where
-    one : (c m : ℕ) (t : Bool) → f c ≡ t → sized m (only f (Value c)) ≡ only_ref f (sized m (Value c))
+    one : (c m : ℕ) (t : Bool) → f c ≡ t → sized m (only f (Some c)) ≡ only_ref f (sized m (Some c))
     one c m true e = rw e
     one c m false e = rw e
 
-    go : (t : Bool) (x : Number) (m : ℕ) → pick t (sized m (only f x)) Reference.Bad ≡ only_ref f (pick t (sized m x) Reference.Bad)
-    go true (Value c) m = one c m (f c) refl
-    go true No m = refl
+    go : (t : Bool) (x : Option ℕ) (m : ℕ) → pick t (sized m (only f x)) None ≡ only_ref f (pick t (sized m x) None)
+    go true (Some c) m = one c m (f c) refl
+    go true None m = refl
     go false x m = refl
 
-module _ (f : ℕ → Bool) {x : Reference} where
-  pub only_yes : {c n : ℕ} {t : Bool} → x ≡ Reference.Char c n → t ≡ f c → t ≡ true → Reference.Char c n ≡ only_ref f x
+module _ (f : ℕ → Bool) {x : Option Reference} where
+  pub only_yes : {y : Reference} {t : Bool} → x ≡ Some y → t ≡ f y.code → t ≡ true → Some y ≡ only_ref f x
   unfolding only_ref
   only_yes e q h = rw (e, ← q, h)
 
-  pub only_no : {c n : ℕ} {t : Bool} → x ≡ Reference.Char c n → t ≡ f c → t ≡ false → Reference.Bad ≡ only_ref f x
+  pub only_no : {y : Reference} {t : Bool} → x ≡ Some y → t ≡ f y.code → t ≡ false → None ≡ only_ref f x
   unfolding only_ref
   only_no e q h = rw (e, ← q, h)
 
-  pub only_bad : x ≡ Reference.Bad → Reference.Bad ≡ only_ref f x
+  pub only_bad : x ≡ None → None ≡ only_ref f x
   unfolding only_ref
   only_bad e = rw e
 
 pub ruleset only_laws = (rules, only_yes, only_no, only_bad)
 
 -- ---- names
-pub record BeginsAt (name t : List ℕ) (from k : ℕ) : Type 0 where
-  pub within : k ≤ length name
-  pub rest : begins (drop k name) (drop (from + k) t) ≡ begins name (drop from t)
-
-pub begins_start : (name t : List ℕ) (from : ℕ) → BeginsAt name t from 0
-begins_start name t from = record { within = omega arith; rest = rw add-zero }
-
-module _ {name t : List ℕ} {from k : ℕ} (at : BeginsAt name t from k) where
-  pub begins_turn : from ≤ length t → length name ≤ length t - from → k < length name → get_or t (from + k) 0 ≡ get_or name k 0
-      → BeginsAt name t from (k + 1)
-  unfolding begins
-  begins_turn f l h e =
-      let g : from + k < length t = omega arith in
-      let q : from + (k + 1) ≡ suc (from + k) = omega arith in
-      record { within = omega arith; rest = rw (q, add-one k, ← at.rest, drop-cons name k 0, drop-cons t (from + k) 0, eq-eqb _ _ e) }
-
-  pub begins_differ : from ≤ length t → length name ≤ length t - from → k < length name → (get_or t (from + k) 0 ≡ get_or name k 0 → ⊥)
-      → false ≡ begins name (drop from t)
-  unfolding begins
-  begins_differ f l h e =
-      let g : from + k < length t = omega arith in
-      rw (← at.rest, drop-cons name k 0, drop-cons t (from + k) 0, ne_eqb _ _ e)
-
-  pub begins_end : length name ≤ k → true ≡ begins name (drop from t)
-  unfolding begins
-  begins_end h = rw (← at.rest, drop_of_length-le name)
-
-pub begins_short : (name t : List ℕ) (from : ℕ) → length t - from < length name → false ≡ begins name (drop from t)
+-- std's word for a slice that begins with another
+pub starts_begins : (s name : List ℕ) → starts_with nat_eq s name ≡ begins name s
 unfolding begins
-begins_short name t from h = sym (go name (drop from t) (omega (arith, length-drop from t)))
+starts_begins s [] = refl
+starts_begins [] (x ∷ n) = refl
+starts_begins (b ∷ s) (x ∷ n) = go (eqb b x) refl (starts_begins s n)
   where
-    go : (name s : List ℕ) → length s < length name → begins name s ≡ false
-    go [] s h = absurd (omega arith)
-    go (x ∷ n) [] h = refl
-    go (x ∷ n) (b ∷ s) h = rw (go n s (omega arith), pick_same)
+    go : (u : Bool) {v w : Bool} → eqb b x ≡ u → v ≡ w → (eqb x b && v) ≡ pick u w false
+    go true e q = rw (eq-eqb x b (sym (eqb-true b x e))) q
+    go false e q = rw (ne_eqb x b (λ p. eqb-false b x e (sym p)))
 
-pub ruleset begins_laws = (rules, begins_start, begins_turn, begins_differ, begins_end, begins_short)
+pub starts_yes : (name s : List ℕ) {t : Bool} → t ≡ starts_with nat_eq s name → t ≡ true → begins name s ≡ true
+starts_yes name s e h = sym (starts_begins s name) ∙ sym e ∙ h
+
+pub starts_no : (name s : List ℕ) {t : Bool} → t ≡ starts_with nat_eq s name → t ≡ false → begins name s ≡ false
+starts_no name s e h = sym (starts_begins s name) ∙ sym e ∙ h
+
+pub ruleset starts_laws = (flags, starts_yes, starts_no)
 
 cleanb : List ℕ → Bool
 cleanb [] = true
@@ -412,22 +395,22 @@ named_spelt s =
     e = take (span s) s
 
     go : (t : Bool) → eqb (get_or s (span s) 0) 59 ≡ t
-        → pick (pick t (sameb e (ascii "lt")) false) (Reference.Char 60 3)
-        (pick (pick t (sameb e (ascii "gt")) false) (Reference.Char 62 3)
-        (pick (pick t (sameb e (ascii "amp")) false) (Reference.Char 38 4)
-        (pick (pick t (sameb e (ascii "quot")) false) (Reference.Char 34 5)
-        (pick (pick t (sameb e (ascii "apos")) false) (Reference.Char 39 5)
-        Reference.Bad))))
-        ≡ pick t (sized (span s + 1) (named e)) Reference.Bad
+        → pick (pick t (sameb e (ascii "lt")) false) (some_char 60 3)
+        (pick (pick t (sameb e (ascii "gt")) false) (some_char 62 3)
+        (pick (pick t (sameb e (ascii "amp")) false) (some_char 38 4)
+        (pick (pick t (sameb e (ascii "quot")) false) (some_char 34 5)
+        (pick (pick t (sameb e (ascii "apos")) false) (some_char 39 5)
+        None))))
+        ≡ pick t (sized (span s + 1) (named e)) None
     go false q = refl
     go true q = one (ascii "lt") 60 _ _
         (one (ascii "gt") 62 _ _ (one (ascii "amp") 38 _ _ (one (ascii "quot") 34 _ _ (one (ascii "apos") 39 _ _ refl))))
       where
-        one : (name : List ℕ) (c : ℕ) (x : Number) (r : Reference) → r ≡ sized (span s + 1) x
-            → pick (sameb e name) (Reference.Char c (length name + 1)) r ≡ sized (span s + 1) (pick (sameb e name) (Value c) x)
+        one : (name : List ℕ) (c : ℕ) (x : Option ℕ) (r : Option Reference) → r ≡ sized (span s + 1) x
+            → pick (sameb e name) (some_char c (length name + 1)) r ≡ sized (span s + 1) (pick (sameb e name) (Some c) x)
         one name c x r h = pass (sameb e name) refl
           where
-            pass : (t : Bool) → sameb e name ≡ t → pick t (Reference.Char c (length name + 1)) r ≡ sized (span s + 1) (pick t (Value c) x)
+            pass : (t : Bool) → sameb e name ≡ t → pick t (some_char c (length name + 1)) r ≡ sized (span s + 1) (pick t (Some c) x)
             pass true p =
                 let l : span s ≡ length name =
                 omega (arith, get_d_in s (span s) 58 (eqb-true _ _ q), length-take (span s) s, ap length (same_is e name p)) in
@@ -435,11 +418,6 @@ named_spelt s =
             pass false p = h
 
 -- ---- names by their bytes: a character c and a length n as one number, or 0
-pub three_is : (t : List ℕ) (from : ℕ) {a b c : ℕ} → Byte (get_or t from 0) a → Byte (get_or t (from + 1) 0) b
-    → Byte (get_or t (from + 2) 0) c
-    → Three t from (a + 256 * (b + 256 * c))
-three_is t from x y z = record { first = _; second = _; third = _; one = x; two = y; three = z; is = refl }
-
 two_eqb : (b m x n : ℕ) → b < 256 → x < 256 → eqb (b + 256 * m) (x + 256 * n) ≡ pick (eqb b x) (eqb m n) false
 two_eqb b m x n g h = go (eqb b x) (eqb m n) refl refl
   where
@@ -465,8 +443,8 @@ module _ (a b c d e : ℕ) (u : List ℕ) (ha : a < 256) (hb : b < 256) (hc : c 
       shift true false h = refl
       shift false g h = refl
 
-  next : (t v : Bool) (w c n x : ℕ) (r : Reference) → t ≡ v → w ≡ c + 256 * n → x ≡ packed r
-      → pick t w x ≡ packed (pick v (Reference.Char c n) r)
+  next : (t v : Bool) (w c n x : ℕ) (r : Option Reference) → t ≡ v → w ≡ c + 256 * n → x ≡ packed r
+      → pick t w x ≡ packed (pick v (some_char c n) r)
   unfolding packed
   next t true w c n x r p q h = rw (p, q)
   next t false w c n x r p q h = rw p h
@@ -506,23 +484,19 @@ five t i h =
     again : (k : ℕ) → i + k < length t → drop (i + k) t ≡ get_or t (i + k) 0 ∷ drop (i + (k + 1)) t
     again k h = let e : i + (k + 1) ≡ i + k + 1 = omega arith in rw e (next (i + k) h)
 
-pub name_is : (t : List ℕ) (from : ℕ) {w b c r : ℕ} → 5 ≤ length t - from → Three t from w → Byte (get_or t (from + 3) 0) b
-    → Byte (get_or t (from + 4) 0) c
-    → r ≡ name_value w b (b + 256 * c) → r ≡ packed (named_ref (drop from t))
-name_is t from h w x y q =
-    let o = w.one in
-    let p = w.two in
-    let s = w.three in
+pub name_is : (t : List ℕ) (from : ℕ) {r : ℕ} → ((k : ℕ) → Fits w8 (get_or t k 0)) → 5 ≤ length t - from
+    → r ≡ name_value (get_or t from 0 + 256 * (get_or t (from + 1) 0 + 256 * get_or t (from + 2) 0)) (get_or t (from + 3) 0)
+    (get_or t (from + 3) 0 + 256 * get_or t (from + 4) 0)
+    → r ≡ packed (named_ref (drop from t))
+name_is t from byte h q =
     q
-    ∙ rw (w.is, five t from h, ← o.is, ← p.is, ← s.is, ← x.is, ← y.is)
-    (name_list _ _ _ _ _ (drop (from + 5) t) o.small p.small s.small x.small)
-
-pub ruleset name_laws = (rules, three_is, name_is)
+    ∙ rw (five t from h)
+    (name_list _ _ _ _ _ (drop (from + 5) t) (byte from).fits (byte (from + 1)).fits (byte (from + 2)).fits (byte (from + 3)).fits)
 
 -- what holds of the five and of none holds of a reference by name
-named_ref_all : (P : Reference → Type 0) (s : List ℕ)
-    → P (Reference.Char 60 3) → P (Reference.Char 62 3) → P (Reference.Char 38 4) → P (Reference.Char 34 5) → P (Reference.Char 39 5)
-    → P Reference.Bad → P (named_ref s)
+named_ref_all : (P : Option Reference → Type 0) (s : List ℕ)
+    → P (some_char 60 3) → P (some_char 62 3) → P (some_char 38 4) → P (some_char 34 5) → P (some_char 39 5)
+    → P None → P (named_ref s)
 unfolding named_ref
 named_ref_all P s lt gt amp quot apos none =
     pick_all P (begins (ascii "lt;") s) _ _ lt
@@ -532,34 +506,35 @@ named_ref_all P s lt gt amp quot apos none =
     (pick_all P (begins (ascii "apos;") s) _ _ apos none))))
 
 module _ (s : List ℕ) {r : ℕ} (q : r ≡ packed (named_ref s)) where
-  pub packed_bad : r ≡ 0 → Reference.Bad ≡ named_ref s
+  pub packed_bad : r ≡ 0 → None ≡ named_ref s
   unfolding packed
-  packed_bad e = named_ref_all (λ (x : Reference). r ≡ packed x → Reference.Bad ≡ x) s (no 60 2) (no 62 2) (no 38 3) (no 34 4) (no 39 4)
+  packed_bad e = named_ref_all (λ (x : Option Reference). r ≡ packed x → None ≡ x) s (no 60 2) (no 62 2) (no 38 3) (no 34 4) (no 39 4)
       (λ q. refl) q
     where
-      no : (c n : ℕ) {x : Reference} → r ≡ c + 256 * suc n → Reference.Bad ≡ x
+      no : (c n : ℕ) {x : Option Reference} → r ≡ c + 256 * suc n → None ≡ x
       no c n h = absurd (omega arith)
 
-  pub packed_char : (r ≡ 0 → ⊥) → Reference.Char (r % 256) (r / 256) ≡ named_ref s
+  pub packed_char : (r ≡ 0 → ⊥) → some_char (r % 256) (r / 256) ≡ named_ref s
   unfolding packed
   packed_char n =
-      named_ref_all (λ (x : Reference). r ≡ packed x → Reference.Char (r % 256) (r / 256) ≡ x) s (λ q. rw q) (λ q. rw q) (λ q. rw q)
+      named_ref_all (λ (x : Option Reference). r ≡ packed x → some_char (r % 256) (r / 256) ≡ x) s (λ q. rw q) (λ q. rw q) (λ q. rw q)
       (λ q. rw q) (λ q. rw q)
       (λ q. absurd (n q)) q
 
 pub ruleset packed_laws = (rules, packed_bad, packed_char)
 
 -- ---- a reference
-first_none : (x : Number) → first x No ≡ x
+first_none : (x : Option ℕ) → first x None ≡ x
 unfolding first
-first_none (Value n) = refl
-first_none No = refl
+first_none (Some n) = refl
+first_none None = refl
 
 module _ (strict : Bool) (t : List ℕ) (from : ℕ) where
-  pub reference_end : from ≡ length t → Reference.Bad ≡ reference strict (drop from t)
+  pub reference_end : from ≡ length t → None ≡ reference strict (drop from t)
   reference_end h = sym (reference_spelt strict (drop from t) ∙ spelt_end (char_of strict) 0 t from (omega arith))
 
-  pub reference_named : {r : Reference} → from ≤ length t → (from ≡ length t → ⊥) → (get_or t from 0 ≡ 35 → ⊥) → r ≡ named_ref (drop from t)
+  pub reference_named : {r : Option Reference} → from ≤ length t → (from ≡ length t → ⊥) → (get_or t from 0 ≡ 35 → ⊥)
+      → r ≡ named_ref (drop from t)
       → r ≡ reference strict (drop from t)
   unfolding char_of numeric only
   reference_named {r} g f n q =
@@ -569,7 +544,7 @@ module _ (strict : Bool) (t : List ℕ) (from : ℕ) where
       let k : eqb (get_or (take (span s) s) 0 0) 35 ≡ false = ne_eqb _ 35 (not_front (span s) 34 s m) in
       q ∙ named_spelt s ∙ sym (reference_spelt strict s ∙ spelt_same (char_of strict) named 0 s (rw (k, first_none)))
 
-  pub reference_numeric : {x r : Reference} → from ≤ length t → (from ≡ length t → ⊥) → get_or t from 0 ≡ 35
+  pub reference_numeric : {x r : Option Reference} → from ≤ length t → (from ≡ length t → ⊥) → get_or t from 0 ≡ 35
       → x ≡ spelt (numeric (reader strict)) 0 (drop from t)
       → r ≡ only_ref (allowed strict) x → r ≡ reference strict (drop from t)
   unfolding char_of first named sameb span

@@ -10,7 +10,7 @@ ghost use Rattle.reference.specs.Text.{reference, unescaped, validated, filled, 
 ghost use Rattle.lists.specs.Characters.{ampersand, hash};
 ghost use Rattle.lists.specs.Tests.{pick, within};
 ghost use Rattle.lists.specs.Find.{NextAt};
-ghost use Rattle.unescape.specs.Parse.{spelt, PastSign, only_ref, begins, named_ref, packed, name_value, Byte, Three};
+ghost use Rattle.unescape.specs.Parse.{spelt, PastSign, only_ref, named_ref, packed, name_value};
 ghost use Rattle.unescape.specs.Loops.{size_of};
 ghost use Rattle.unescape.specs.Fill.{Room};
 
@@ -20,20 +20,18 @@ use crate::name::{
     AMP, AMP_BYTES, AMP_VALUE, APO_BYTES, APOS, APOS_VALUE, END_BYTE, GT, GT_END_BYTES, GT_VALUE,
     LT, LT_END_BYTES, LT_VALUE, QUO_BYTES, QUOT, QUOT_VALUE, S_END_BYTES, T_END_BYTES,
 };
-use reference::{Reference, Unescaped, Validated};
+use reference::{BadReference, Reference, UnescapeError};
 
 // A digit of a range, less what is before the range's digits; or the other value.
 fn digit_in(d: u64, low: u64, high: u64, less: u64, other: u64) -> u64
     requires { less ≤ low }
     ensures { result ≡ pick (within low high d) (d - less) other }
 {
-    if d < low {
-        return other;
+    if low <= d && d <= high {
+        d - less
+    } else {
+        other
     }
-    if d <= high {
-        return d - less;
-    }
-    other
 }
 
 // The value of a digit, or 16: with no branch, since the digits of a text follow no rule.
@@ -47,33 +45,28 @@ fn digit_of(b: u8) -> u64
 }
 
 // The digits of a base from a place on up to a `;`, of a reference that begins at another place.
-fn digits_at(text: &[u8], from: usize, start: usize, base: u64) -> Reference
+fn digits_at(text: &[u8], from: usize, start: usize, base: u64) -> Option<Reference>
     requires { (from ≤ start) × (start ≤ length text.now) × (1 ≤ base) × (base ≤ 16) }
     ensures { result ≡ spelt (digits base) (start - from) (drop start text.now) }
 {
     let mut acc: u64 = 0;
-    let mut i = start;
-    while i < text.len() {
+    for i in start..text.len() {
         let d = digit_of(text[i]);
         if d >= base {
-            if text[i] != b';' {
-                return Reference::Bad;
+            if text[i] != b';' || i == start {
+                return None;
             }
-            if i == start {
-                return Reference::Bad;
-            }
-            return Reference::Char {
+            return Some(Reference {
                 code: acc as u32,
                 len: i - from + 1,
-            };
+            });
         }
         acc = acc * base + d;
         if acc > 0xffff_ffff {
-            return Reference::Bad;
+            return None;
         }
-        i += 1;
     }
-    Reference::Bad
+    None
 }
 
 // Past a `+`, if one may stand there.
@@ -81,25 +74,20 @@ fn past_sign(strict: bool, text: &[u8], start: usize) -> usize
     requires { start ≤ length text.now }
     ensures { PastSign strict text.now start result }
 {
-    if strict {
-        return start;
+    if !strict && start < text.len() && text[start] == b'+' {
+        start + 1
+    } else {
+        start
     }
-    if start == text.len() {
-        return start;
-    }
-    if text[start] == b'+' {
-        return start + 1;
-    }
-    start
 }
 
 // The reference by number, from its `#` on.
-fn numeric_at(strict: bool, text: &[u8], from: usize) -> Reference
+fn numeric_at(strict: bool, text: &[u8], from: usize) -> Option<Reference>
     requires { (from < length text.now) × (get_or text.now from 0 ≡ hash) }
     ensures { result ≡ spelt (numeric (reader strict)) 0 (drop from text.now) }
 {
     if from + 1 == text.len() {
-        return Reference::Bad;
+        return None;
     }
     if text[from + 1] == b'x' {
         let hex = past_sign(strict, text, from + 2);
@@ -113,31 +101,7 @@ fn numeric_at(strict: bool, text: &[u8], from: usize) -> Reference
 fn is_xml_char(n: u32) -> bool
     ensures { result ≡ xml_char n }
 {
-    if n == 9 {
-        return true;
-    }
-    if n == 10 {
-        return true;
-    }
-    if n == 13 {
-        return true;
-    }
-    if n < 0x20 {
-        return false;
-    }
-    if n <= 0xd7ff {
-        return true;
-    }
-    if n < 0xe000 {
-        return false;
-    }
-    if n <= 0xfffd {
-        return true;
-    }
-    if n < 0x10000 {
-        return false;
-    }
-    n <= 0x10ffff
+    matches!(n, 9 | 10 | 13 | 0x20..=0xd7ff | 0xe000..=0xfffd | 0x10000..=0x10ffff)
 }
 
 fn is_allowed(strict: bool, n: u32) -> bool
@@ -151,67 +115,32 @@ fn is_allowed(strict: bool, n: u32) -> bool
 }
 
 // A reference, if its character is allowed.
-fn only_allowed(strict: bool, x: Reference) -> Reference
+fn only_allowed(strict: bool, x: Option<Reference>) -> Option<Reference>
     ensures { result ≡ only_ref (allowed strict) x }
 {
     match x {
-        Reference::Char { code, len } => {
-            if is_allowed(strict, code) {
-                Reference::Char { code, len }
-            } else {
-                Reference::Bad
-            }
-        }
-        Reference::Bad => Reference::Bad,
+        Some(r) if is_allowed(strict, r.code) => x,
+        _ => None,
     }
 }
 
-// Whether a name stands at a place.
-fn begins_at(text: &[u8], from: usize, name: &[u8]) -> bool
-    requires { from ≤ length text.now }
-    ensures { result ≡ begins name.now (drop from text.now) }
+// The reference by name that a few last bytes begin with.
+fn named_last(rest: &[u8]) -> Option<Reference>
+    ensures { result ≡ named_ref rest.now }
 {
-    if text.len() - from < name.len() {
-        return false;
+    if rest.starts_with(b"lt;") {
+        Some(Reference { code: LT, len: 3 })
+    } else if rest.starts_with(b"gt;") {
+        Some(Reference { code: GT, len: 3 })
+    } else if rest.starts_with(b"amp;") {
+        Some(Reference { code: AMP, len: 4 })
+    } else if rest.starts_with(b"quot;") {
+        Some(Reference { code: QUOT, len: 5 })
+    } else if rest.starts_with(b"apos;") {
+        Some(Reference { code: APOS, len: 5 })
+    } else {
+        None
     }
-    let mut k = 0;
-    while k < name.len() {
-        if text[from + k] != name[k] {
-            return false;
-        }
-        k += 1;
-    }
-    true
-}
-
-// The reference by name at one of the last places.
-fn named_last(text: &[u8], from: usize) -> Reference
-    requires { from ≤ length text.now }
-    ensures { result ≡ named_ref (drop from text.now) }
-{
-    if begins_at(text, from, b"lt;") {
-        return Reference::Char { code: LT, len: 3 };
-    }
-    if begins_at(text, from, b"gt;") {
-        return Reference::Char { code: GT, len: 3 };
-    }
-    if begins_at(text, from, b"amp;") {
-        return Reference::Char { code: AMP, len: 4 };
-    }
-    if begins_at(text, from, b"quot;") {
-        return Reference::Char { code: QUOT, len: 5 };
-    }
-    if begins_at(text, from, b"apos;") {
-        return Reference::Char { code: APOS, len: 5 };
-    }
-    Reference::Bad
-}
-
-// A byte as a number.
-fn wide(b: u8) -> u64
-    ensures { Byte b result }
-{
-    b as u64
 }
 
 // A value, if a number is another; or the other value.
@@ -225,10 +154,7 @@ fn when(w: u64, name: u64, value: u64, other: u64) -> u64
 fn when_both(w: u64, name: u64, v: u64, end: u64, value: u64, other: u64) -> u64
     ensures { result ≡ pick (pick (eqb w name) (eqb v end) false) value other }
 {
-    if w == name {
-        return when(v, end, value, other);
-    }
-    other
+    if w == name && v == end { value } else { other }
 }
 
 // The character and the length of a name as one number, its code and 256 times the length, or 0: with no branch, since the names of a text
@@ -243,50 +169,41 @@ fn name_value(w: u64, b: u64, v: u64) -> u64
     when(w, LT_END_BYTES, LT_VALUE, gt)
 }
 
-// Three bytes as a number.
-fn three_at(text: &[u8], from: usize) -> u64
-    requires { 5 ≤ length text.now - from }
-    ensures { Three text.now from result }
-{
-    wide(text[from]) + 256 * (wide(text[from + 1]) + 256 * wide(text[from + 2]))
-}
-
 // The reference by name at a place, as one number.
 fn name_at(text: &[u8], from: usize) -> u64
     requires { 5 ≤ length text.now - from }
     ensures { result ≡ packed (named_ref (drop from text.now)) }
 {
-    let w = three_at(text, from);
-    let b = wide(text[from + 3]);
-    let c = wide(text[from + 4]);
-    name_value(w, b, b + 256 * c)
+    let w = text[from] as u64 + 256 * (text[from + 1] as u64 + 256 * text[from + 2] as u64);
+    let b = text[from + 3] as u64;
+    name_value(w, b, b + 256 * text[from + 4] as u64)
 }
 
 // The reference by name at a place.
-fn named_at(text: &[u8], from: usize) -> Reference
+fn named_at(text: &[u8], from: usize) -> Option<Reference>
     requires { from ≤ length text.now }
     ensures { result ≡ named_ref (drop from text.now) }
 {
     if text.len() - from < 5 {
-        return named_last(text, from);
+        return named_last(&text[from..]);
     }
     let r = name_at(text, from);
     if r == 0 {
-        return Reference::Bad;
+        return None;
     }
-    Reference::Char {
+    Some(Reference {
         code: (r % 256) as u32,
         len: (r / 256) as usize,
-    }
+    })
 }
 
 // The reference whose bytes after `&` stand from a place on.
-fn reference_from(strict: bool, text: &[u8], from: usize) -> Reference
+fn reference_from(strict: bool, text: &[u8], from: usize) -> Option<Reference>
     requires { from ≤ length text.now }
     ensures { result ≡ reference strict (drop from text.now) }
 {
     if from == text.len() {
-        return Reference::Bad;
+        return None;
     }
     if text[from] == b'#' {
         return only_allowed(strict, numeric_at(strict, text, from));
@@ -296,7 +213,7 @@ fn reference_from(strict: bool, text: &[u8], from: usize) -> Reference
 
 // Whether each reference of a text is right, or the place of the first `&` that begins none. The next `&` is looked for from right after
 // the last one, so that the search waits for no reference to be read.
-pub fn validate_references(text: &[u8]) -> Validated
+pub fn validate_references(text: &[u8]) -> Result<(), BadReference>
     ensures { result ≡ validated text.now }
 {
     let mut i = 0;
@@ -304,24 +221,20 @@ pub fn validate_references(text: &[u8]) -> Validated
     while i < text.len() {
         if text[i] == b'&' {
             let from = i + 1;
-            match reference_from(true, text, from) {
-                Reference::Char { code: _, len } => {
-                    seek = from;
-                    i = from + len;
-                }
-                Reference::Bad => {
-                    return Validated::BadReference { at: i };
-                }
-            }
+            let Some(r) = reference_from(true, text, from) else {
+                return Err(BadReference { at: i });
+            };
+            seek = from;
+            i = from + r.len;
         } else {
             i = slices::find(text, seek, b'&');
         }
     }
-    Validated::Valid
+    Ok(())
 }
 
 // How many bytes a text comes to, or the place of the first `&` that begins no reference.
-pub fn measure(text: &[u8]) -> Unescaped
+pub fn measure(text: &[u8]) -> Result<usize, BadReference>
     ensures { result ≡ size_of (unescaped text.now) }
 {
     let mut size = 0;
@@ -330,23 +243,19 @@ pub fn measure(text: &[u8]) -> Unescaped
     while i < text.len() {
         if text[i] == b'&' {
             let from = i + 1;
-            match reference_from(false, text, from) {
-                Reference::Char { code, len } => {
-                    size += utf8::encoded_len(code);
-                    seek = from;
-                    i = from + len;
-                }
-                Reference::Bad => {
-                    return Unescaped::BadReference { at: i };
-                }
-            }
+            let Some(r) = reference_from(false, text, from) else {
+                return Err(BadReference { at: i });
+            };
+            size += utf8::encoded_len(r.code);
+            seek = from;
+            i = from + r.len;
         } else {
             let next = slices::find(text, seek, b'&');
             size += next - i;
             i = next;
         }
     }
-    Unescaped::Length(size)
+    Ok(size)
 }
 
 // Writes what a text comes to, for which there is room.
@@ -360,16 +269,10 @@ pub fn fill(text: &[u8], out: &mut [u8])
     while i < text.len() {
         if text[i] == b'&' {
             let from = i + 1;
-            match reference_from(false, text, from) {
-                Reference::Char { code, len } => {
-                    n = utf8::put_char(out, n, code);
-                    seek = from;
-                    i = from + len;
-                }
-                Reference::Bad => {
-                    return;
-                }
-            }
+            let r = reference_from(false, text, from).unwrap();
+            n = utf8::put_char(out, n, r.code);
+            seek = from;
+            i = from + r.len;
         } else {
             let next = slices::find(text, seek, b'&');
             n = slices::put(out, n, &text[i..next]);
@@ -379,42 +282,36 @@ pub fn fill(text: &[u8], out: &mut [u8])
 }
 
 // Copies a text in which no `&` stands.
-fn copy_plain(text: &[u8], out: &mut [u8]) -> Unescaped
+fn copy_plain(text: &[u8], out: &mut [u8]) -> Result<usize, UnescapeError>
     requires { NextAt text.now ampersand 0 (length text.now) }
     ensures { Unescape text.now out.old out.new result }
 {
-    if text.len() <= out.len() {
-        return Unescaped::Length(slices::put(out, 0, text));
+    if text.len() > out.len() {
+        return Err(UnescapeError::NoRoom);
     }
-    Unescaped::NoRoom
+    Ok(slices::put(out, 0, text))
 }
 
 // Measures first, so that a refusal has written nothing.
-fn replace(text: &[u8], out: &mut [u8]) -> Unescaped
+fn replace(text: &[u8], out: &mut [u8]) -> Result<usize, UnescapeError>
     ensures { Unescape text.now out.old out.new result }
 {
-    match measure(text) {
-        Unescaped::Length(n) => {
-            if n <= out.len() {
-                fill(text, out);
-                Unescaped::Length(n)
-            } else {
-                Unescaped::NoRoom
-            }
-        }
-        Unescaped::BadReference { at } => Unescaped::BadReference { at },
-        // `measure` never answers this: it has no room to run out of.
-        Unescaped::NoRoom => Unescaped::NoRoom,
+    let n = measure(text)?;
+    if n > out.len() {
+        return Err(UnescapeError::NoRoom);
     }
+    fill(text, out);
+    Ok(n)
 }
 
 // Replaces each reference of a text by its character, into out.
-pub fn unescape(text: &[u8], out: &mut [u8]) -> Unescaped
+pub fn unescape(text: &[u8], out: &mut [u8]) -> Result<usize, UnescapeError>
     ensures { Unescape text.now out.old out.new result }
 {
     // No `&`, so there is nothing to replace: one pass less.
     if slices::find(text, 0, b'&') == text.len() {
-        return copy_plain(text, out);
+        copy_plain(text, out)
+    } else {
+        replace(text, out)
     }
-    replace(text, out)
 }

@@ -2,5 +2,5 @@ pub mod Store
 pub mod Agree
 pub mod Cut
 pub mod Chars
-pub mod Scan
+pub mod Library
 pub mod Examples

@@ -7,7 +7,7 @@ use native.Mathlib.Omega.{arith}
 use borrow.Author.Tests.{le-ltb, lt-ltb}
 use borrow.Author.Rules.{rules}
 use lib.Dec.{ltb, lit<}
-use lib.ListN.{length, set}
+use lib.ListN.{length, set, length-set}
 use Rattle.lists.proofs.Tests.{pick_all}
 use Rattle.lists.specs.Overwrite.{Stored}
 use Rattle.utf8.specs.Encode.{encode}
@@ -50,31 +50,23 @@ module _ (l : List ℕ) (at c : ℕ) where
 longer : ℕ → List ℕ → Type 0
 longer k l = k < length l
 
-len_1 : (c : ℕ) → 0 < length (encode c)
+pub len_1 : (c : ℕ) → 0 < length (encode c)
 unfolding encode longer
 len_1 c = pick_all (longer 0) (ltb c 0x80) _ _ (lit< tt)
     (pick_all (longer 0) (ltb c 0x800) _ _ (lit< tt) (pick_all (longer 0) (ltb c 0x10000) _ _ (lit< tt) (lit< tt)))
 
-len_2 : (c : ℕ) → 0x80 ≤ c → 1 < length (encode c)
+pub len_2 : (c : ℕ) → 0x80 ≤ c → 1 < length (encode c)
 unfolding encode longer
 len_2 c g = rw (le-ltb c 0x80 g)
     (pick_all (longer 1) (ltb c 0x800) _ _ (lit< tt) (pick_all (longer 1) (ltb c 0x10000) _ _ (lit< tt) (lit< tt)))
 
-len_3 : (c : ℕ) → 0x800 ≤ c → 2 < length (encode c)
+pub len_3 : (c : ℕ) → 0x800 ≤ c → 2 < length (encode c)
 unfolding encode longer
 len_3 c g = rw (le-ltb c 0x80 (omega arith), le-ltb c 0x800 g) (pick_all (longer 2) (ltb c 0x10000) _ _ (lit< tt) (lit< tt))
 
-module _ (n at c : ℕ) (room : at + length (encode c) ≤ n) where
-  pub room_1 : at < n
-  room_1 = omega (arith, len_1 c)
+pub len_4 : (c : ℕ) → 0x10000 ≤ c → 3 < length (encode c)
+len_4 c g = let k = ap length (encode_4 c g) in omega arith
 
-  pub room_2 : 0x80 ≤ c → at + 1 < n
-  room_2 h = omega (arith, len_2 c h)
+pub ruleset put_laws = (rules, put_1, put_2, put_3, put_4)
 
-  pub room_3 : 0x800 ≤ c → at + 2 < n
-  room_3 h = omega (arith, len_3 c h)
-
-  pub room_4 : 0x10000 ≤ c → at + 3 < n
-  room_4 h = let k = ap length (encode_4 c h) in omega arith
-
-pub ruleset put_laws = (rules, put_1, put_2, put_3, put_4, room_1, room_2, room_3, room_4)
+pub ruleset room_laws = (len_1, len_2, len_3, len_4, length-set)

@@ -7,7 +7,7 @@ use native.Mathlib.Omega.{arith}
 use lib.ListN.{length, length-append}
 use Rattle.lists.specs.Tests.{pick}
 use Rattle.reference.specs.Text.{validated}
-use Rattle.reference.specs.declared.Validated.{Validated}
+use Rattle.reference.specs.declared.BadReference.{BadReference}
 use Rattle.reference.proofs.Grammar.{validated_none}
 use Rattle.table.specs.Row.{Name, Tok, start, attr, gt, close, slash, text, misc, matter, bad}
 use Rattle.xml.specs.declared.Cause.{Cause}
@@ -15,6 +15,7 @@ use Rattle.xml.specs.Passed.{opens, open_after, attributes, names_after, Fault, 
 use Rattle.xml.specs.Passed.{bad_attribute, bad_text, Faultless}
 use Rattle.xml.specs.Drain.{State, going, failed, same_name, has_name, step, closed, with_attribute, with_value}
 use Rattle.xml.proofs.Tests.{same_name_lem, seen_member, not_member, not_named, not_both}
+use Rattle.std.specs.Prelude.{Result, Ok, Err}
 
 -- ---- two cuts of one list are the same cut, or one lies before the other
 pub data Cuts (a : List Tok) (t : Tok) (b : List Tok) (s : Tok) : Type 0 where
@@ -68,23 +69,23 @@ pub data Stepped (b : List Tok) (t : Tok) (k : ℕ) : State → Type 0 where
   stops : {c : Cause} → Fault b t c → Stepped b t k (failed k c)
 
 module _ (b : List Tok) (k : ℕ) where
-  attr_step : (m : Name) (v : List ℕ) (x : Bool) (y : Validated) → has_name m (attributes [] b) ≡ x → validated v ≡ y
+  attr_step : (m : Name) (v : List ℕ) (x : Bool) (y : Result (Unit {0}) BadReference) → has_name m (attributes [] b) ≡ x → validated v ≡ y
       → Stepped b (attr m v) k (with_attribute x k (with_value y k (going (opens [] b) (m ∷ attributes [] b))))
   attr_step m v true y p q = stops (repeated_attribute (seen_member m (attributes [] b) p))
-  attr_step m v false Validated.Valid p q = goes_on refl refl none
+  attr_step m v false (Ok u) p q = goes_on refl refl none
     where
       none : (c : Cause) → Fault b (attr m v) c → ⊥
       none c (repeated_attribute i) = not_member m (attributes [] b) p i
       none c (bad_attribute f r) = not_both q r
-  attr_step m v false (Validated.BadReference at) p q = stops (bad_attribute (not_member m (attributes [] b) p) q)
+  attr_step m v false (Err why) p q = stops (bad_attribute (not_member m (attributes [] b) p) q)
 
-  text_step : (v : List ℕ) (y : Validated) → validated v ≡ y
+  text_step : (v : List ℕ) (y : Result (Unit {0}) BadReference) → validated v ≡ y
       → Stepped b (matter (text v)) k (with_value y k (going (opens [] b) (attributes [] b)))
-  text_step v Validated.Valid q = goes_on refl refl none
+  text_step v (Ok u) q = goes_on refl refl none
     where
       none : (c : Cause) → Fault b (matter (text v)) c → ⊥
       none c (bad_text r) = not_both q r
-  text_step v (Validated.BadReference at) q = stops (bad_text q)
+  text_step v (Err why) q = stops (bad_text q)
 
   close_step : (m : Name) (s : List Name) → opens [] b ≡ s → Stepped b (close m) k (closed m s (attributes [] b) k)
   close_step m [] e = stops (mismatched_end (λ s p. cons≢nil (sym p ∙ e)))

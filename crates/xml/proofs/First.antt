@@ -8,12 +8,13 @@ use lib.ListN.{length, length-append}
 use Rattle.table.specs.Row.{Name, Tok, rows_of, toks_of}
 use Rattle.table.specs.Rules.{TableRules}
 use Rattle.xml.specs.declared.Cause.{Cause}
-use Rattle.xml.specs.declared.Drained.{Drained}
+use Rattle.xml.specs.declared.DrainError.{DrainError}
 use Rattle.xml.specs.Passed.{opens, open_after, attributes, names_after, Fault, Faultless, FirstFault, at_row, at_the_end}
 use Rattle.table.specs.Test.{dec_table}
 use Rattle.xml.specs.Drain.{State, going, failed, step, walk, verdict, walked, drained_by, drained}
 use Rattle.xml.proofs.Fault.{Cuts, same_cut, earlier, later, cuts, faultless_none, faultless_more, one_fault, Stepped, goes_on}
 use Rattle.xml.proofs.Fault.{stops, stepped}
+use Rattle.std.specs.Prelude.{Result, Ok, Err}
 
 -- ---- what the walk over toks comes to
 pub data Said (toks : List Tok) : State → Type 0 where
@@ -68,22 +69,24 @@ one_first {d = d} (at_the_end n p h f) (at_row b s y q m g e) = absurd (h.none b
 one_first (at_the_end n p h f) (at_the_end m q g e) = (n ∙ sym m, p ∙ sym q)
 
 -- ---- answers are told apart
-pub not_ill {ℓ} : {A : Type ℓ} {i : ℕ} {c : Cause} → Drained.Passes ≡ Drained.IllFormed i c → A
+pub not_ill {ℓ} : {A : Type ℓ} {i : ℕ} {c : Cause} → ◌≡◌ {A = Result (Unit {0}) DrainError} (Ok tt) (Err (DrainError.IllFormed i c)) → A
 not_ill e = let z : ◌≡◌ {A = ℕ} 0 1 = cc in absurd (omega arith)
 
-not_table {ℓ} : {A : Type ℓ} {i : ℕ} {c : Cause} → Drained.IllFormed i c ≡ Drained.Table → A
+not_table {ℓ} : {A : Type ℓ} {i : ℕ} {c : Cause}
+    → ◌≡◌ {A = Result (Unit {0}) DrainError} (Err (DrainError.IllFormed i c)) (Err DrainError.Table) → A
 not_table e = let z : ◌≡◌ {A = ℕ} 0 1 = cc in absurd (omega arith)
 
-pub passes_not_table {ℓ} : {A : Type ℓ} → Drained.Passes ≡ Drained.Table → A
+pub passes_not_table {ℓ} : {A : Type ℓ} → ◌≡◌ {A = Result (Unit {0}) DrainError} (Ok tt) (Err DrainError.Table) → A
 passes_not_table e = let z : ◌≡◌ {A = ℕ} 0 1 = cc in absurd (omega arith)
 
-table_not_ill {ℓ} : {A : Type ℓ} {i : ℕ} {c : Cause} → Drained.Table ≡ Drained.IllFormed i c → A
+table_not_ill {ℓ} : {A : Type ℓ} {i : ℕ} {c : Cause}
+    → ◌≡◌ {A = Result (Unit {0}) DrainError} (Err DrainError.Table) (Err (DrainError.IllFormed i c)) → A
 table_not_ill e = let z : ◌≡◌ {A = ℕ} 0 1 = cc in absurd (omega arith)
 
 -- ---- what the walk's answer is
-pub data Answer (toks : List Tok) : Drained → Type 0 where
-  clean : Faultless toks → opens [] toks ≡ [] → Answer toks Drained.Passes
-  faulty : {i : ℕ} {c : Cause} → FirstFault toks i c → Answer toks (Drained.IllFormed i c)
+pub data Answer (toks : List Tok) : Result (Unit {0}) DrainError → Type 0 where
+  clean : Faultless toks → opens [] toks ≡ [] → Answer toks (Ok tt)
+  faulty : {i : ℕ} {c : Cause} → FirstFault toks i c → Answer toks (Err (DrainError.IllFormed i c))
 
 pub answer : (toks : List Tok) → Answer toks (walked toks)
 unfolding walked
@@ -96,26 +99,27 @@ answer toks = go (walk zero (going [] []) toks) (said toks)
 
 -- ---- THEOREM 3
 -- the walk says 9 with a row and a cause exactly where these are the first fault's
-pub walk_ill_formed_is : (toks : List Tok) (row : ℕ) (cause : Cause) → walked toks ≡ Drained.IllFormed row cause ↔ FirstFault toks row cause
+pub walk_ill_formed_is : (toks : List Tok) (row : ℕ) (cause : Cause)
+    → walked toks ≡ Err (DrainError.IllFormed row cause) ↔ FirstFault toks row cause
 walk_ill_formed_is toks row cause = (λ e. there (walked toks) (answer toks) e, λ f. back (walked toks) (answer toks) f)
   where
-    there : (x : Drained) → Answer toks x → x ≡ Drained.IllFormed row cause → FirstFault toks row cause
+    there : (x : Result (Unit {0}) DrainError) → Answer toks x → x ≡ Err (DrainError.IllFormed row cause) → FirstFault toks row cause
     there x (clean h p) e = not_ill e
     there x (faulty {i = i} {c = c} f) e =
         let p : i ≡ row = cc in
         let q : c ≡ cause = cc in
         rw (← p, ← q) f
 
-    back : (x : Drained) → Answer toks x → FirstFault toks row cause → x ≡ Drained.IllFormed row cause
+    back : (x : Result (Unit {0}) DrainError) → Answer toks x → FirstFault toks row cause → x ≡ Err (DrainError.IllFormed row cause)
     back x (clean h p) (at_row a t b e n g f) = absurd (h.none a t b cause e f)
     back x (clean h p) (at_the_end n q g f) = absurd (f p)
     back x (faulty {i = i} {c = c} g) f = let u = one_first g f in let p : i ≡ row = u.0 in let q : c ≡ cause = u.1 in cc
 
 -- the walk itself never says 1
-pub walk_not_table : (toks : List Tok) → walked toks ≡ Drained.Table → ⊥
+pub walk_not_table : (toks : List Tok) → walked toks ≡ Err DrainError.Table → ⊥
 walk_not_table toks = go (walked toks) (answer toks)
   where
-    go : (x : Drained) → Answer toks x → x ≡ Drained.Table → ⊥
+    go : (x : Result (Unit {0}) DrainError) → Answer toks x → x ≡ Err DrainError.Table → ⊥
     go x (clean h p) e = passes_not_table e
     go x (faulty f) e = not_table e
 
@@ -123,13 +127,13 @@ walk_not_table toks = go (walked toks) (answer toks)
 module _ (body table : List ℕ) (final : ℕ) where
   -- it says 1 exactly where the rules do not hold
   pub drain_table_is : (d : Dec (TableRules body table final))
-      → drained_by d (toks_of body (rows_of table)) ≡ Drained.Table ↔ (TableRules body table final → ⊥)
+      → drained_by d (toks_of body (rows_of table)) ≡ Err DrainError.Table ↔ (TableRules body table final → ⊥)
   drain_table_is (yes p) = (λ e. absurd (walk_not_table (toks_of body (rows_of table)) e), λ f. absurd (f p))
   drain_table_is (no f) = (λ e. f, λ g. refl)
 
   -- it says 9 with a row and a cause exactly where the rules hold and these are the first fault's
   pub drain_ill_formed_is : (d : Dec (TableRules body table final)) (row : ℕ) (cause : Cause)
-      → drained_by d (toks_of body (rows_of table)) ≡ Drained.IllFormed row cause ↔
+      → drained_by d (toks_of body (rows_of table)) ≡ Err (DrainError.IllFormed row cause) ↔
       (TableRules body table final × FirstFault (toks_of body (rows_of table)) row cause)
   drain_ill_formed_is (yes p) row cause =
       let w = walk_ill_formed_is (toks_of body (rows_of table)) row cause in
@@ -138,11 +142,12 @@ module _ (body table : List ℕ) (final : ℕ) where
 
 -- theorem 3, of the drain: it answers 9 exactly with the first failing row and its cause, and 1 exactly where a rule is broken
 pub drained_ill_formed_is : (body table : List ℕ) (final row : ℕ) (cause : Cause)
-    → (drained body table final ≡ Drained.IllFormed row cause) ↔
+    → (drained body table final ≡ Err (DrainError.IllFormed row cause)) ↔
     (TableRules body table final × FirstFault (toks_of body (rows_of table)) row cause)
 unfolding drained
 drained_ill_formed_is body table final row cause = drain_ill_formed_is body table final (dec_table body table final) row cause
 
-pub drained_table_is : (body table : List ℕ) (final : ℕ) → (drained body table final ≡ Drained.Table) ↔ (TableRules body table final → ⊥)
+pub drained_table_is : (body table : List ℕ) (final : ℕ)
+    → (drained body table final ≡ Err DrainError.Table) ↔ (TableRules body table final → ⊥)
 unfolding drained
 drained_table_is body table final = drain_table_is body table final (dec_table body table final)

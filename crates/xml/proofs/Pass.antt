@@ -9,11 +9,10 @@ use Rattle.lists.specs.Tests.{pick}
 use Rattle.reference.specs.Xml.{EachReference}
 use Rattle.reference.proofs.Grammar.{validate_sound, validate_complete, validated_none}
 use Rattle.reference.specs.Text.{validated}
-use Rattle.reference.specs.declared.Validated.{Validated}
+use Rattle.reference.specs.declared.BadReference.{BadReference}
 use Rattle.table.specs.Row.{Name, Tok, start, attr, gt, close, slash, Matter, text, misc, references_in, matter, bad, rows_of, toks_of}
 use Rattle.table.specs.Rules.{TableRules}
 use Rattle.xml.specs.declared.Cause.{Cause}
-use Rattle.xml.specs.declared.Drained.{Drained}
 use Rattle.xml.specs.Grammar.{Attributes, no_attribute, attribute, Element, empty_element, full_element, Content, no_content}
 use Rattle.xml.specs.Grammar.{between_tags, child, Miscs, no_misc, one_misc, Document, document}
 use Rattle.table.specs.Test.{dec_table}
@@ -22,6 +21,7 @@ use Rattle.xml.specs.Drain.{drained}
 use Rattle.xml.proofs.Tests.{same_name_lem, name_same, not_seen, not_member}
 use Rattle.xml.proofs.Order.{Phase, before, in_tag, within, behind, back, ruled, not_broken, table_ruled}
 use Rattle.xml.proofs.First.{not_ill, passes_not_table}
+use Rattle.std.specs.Prelude.{Result, Ok, Err}
 
 -- the walk has come to an end at which the drain passes
 abbrev Ends : State → Type 0
@@ -29,12 +29,12 @@ Ends (going [] a) = Unit {0}
 Ends (going (n ∷ s) a) = ⊥
 Ends (failed k c) = ⊥
 
-ends_passes : (n : ℕ) (st : State) → Ends st → verdict n st ≡ Drained.Passes
+ends_passes : (n : ℕ) (st : State) → Ends st → verdict n st ≡ Ok tt
 ends_passes n (going [] a) h = refl
 ends_passes n (going (x ∷ s) a) h = absurd h
 ends_passes n (failed k c) h = absurd h
 
-passes_ends : (n : ℕ) (st : State) → verdict n st ≡ Drained.Passes → Ends st
+passes_ends : (n : ℕ) (st : State) → verdict n st ≡ Ok tt → Ends st
 passes_ends n (going [] a) e = tt
 passes_ends n (going (x ∷ s) a) e = not_ill (sym e)
 passes_ends n (failed k c) e = not_ill (sym e)
@@ -73,12 +73,12 @@ good_end : (a : List Name) → Good [] a []
 unfolding walk
 good_end a = record { at = λ k. tt }
 
-good_passes : {toks : List Tok} → Good [] [] toks → walked toks ≡ Drained.Passes
+good_passes : {toks : List Tok} → Good [] [] toks → walked toks ≡ Ok tt
 unfolding walked
 good_passes {toks} g = ends_passes (length toks) (walk zero (going [] []) toks) (g.at zero)
 
 -- the walk passes documents, and lists with no element
-pub document_passes : {toks : List Tok} → Document toks ⊎ Miscs toks [] → walked toks ≡ Drained.Passes
+pub document_passes : {toks : List Tok} → Document toks ⊎ Miscs toks [] → walked toks ≡ Ok tt
 document_passes (inl (document m e q)) = good_passes (good_miscs m [] (good_element e [] (λ a. good_miscs q a (good_end a)) []))
 document_passes (inr m) = good_passes (good_miscs m [] (good_end []))
 
@@ -160,13 +160,14 @@ module _ (k : ℕ) (l : List Tok)
   prolog_back a (matter misc) h e = more_misc (rest prolog a h (rw validated_none at e))
   prolog_back a bad h e = failed_ends (suc k) k Cause.TokenError l e
 
-  attribute_back : (n : Name) (s a : List Name) (m : Name) (v : List ℕ) (x : Bool) (y : Validated) → has_name m a ≡ x → validated v ≡ y
+  attribute_back : (n : Name) (s a : List Name) (m : Name) (v : List ℕ) (x : Bool) (y : Result (Unit {0}) BadReference) → has_name m a ≡ x
+      → validated v ≡ y
       → ruled (in_tag (length s)) l ≡ true
       → Ends (walk (suc k) (with_attribute x k (with_value y k (going (n ∷ s) (m ∷ a)))) l) → InTag n s a (attr m v ∷ l)
   attribute_back n s a m v true y p q h e = failed_ends (suc k) k Cause.RepeatedAttribute l e
-  attribute_back n s a m v false Validated.Valid p q h e =
+  attribute_back n s a m v false (Ok u) p q h e =
       more_attribute (not_member m a p) (validate_sound v q) (rest (tag n s) (m ∷ a) h e)
-  attribute_back n s a m v false (Validated.BadReference at) p q h e = failed_ends (suc k) k Cause.BadReference l e
+  attribute_back n s a m v false (Err why) p q h e = failed_ends (suc k) k Cause.BadReference l e
 
   tag_back : (n : Name) (s a : List Name) (t : Tok) → ruled (in_tag (length s)) (t ∷ l) ≡ true → Ends (walk (suc k) (step k (n ∷ s) a t) l)
       → InTag n s a (t ∷ l)
@@ -179,12 +180,12 @@ module _ (k : ℕ) (l : List Tok)
   tag_back n s a (matter b) h e = not_broken l h
   tag_back n s a bad h e = failed_ends (suc k) k Cause.TokenError l e
 
-  matter_back : (n : Name) (s a : List Name) (b : Matter) (y : Validated) → validated (references_in b) ≡ y
+  matter_back : (n : Name) (s a : List Name) (b : Matter) (y : Result (Unit {0}) BadReference) → validated (references_in b) ≡ y
       → ruled (within (length s)) l ≡ true
       → Ends (walk (suc k) (with_value y k (going (n ∷ s) a)) l) → Closes (n ∷ s) (matter b ∷ l)
-  matter_back n s a b Validated.Valid q h e =
+  matter_back n s a b (Ok u) q h e =
       let c : Closes (n ∷ s) l = rest (content n s) a h e in (c.0, between_tags (validate_sound (references_in b) q) c.1, c.2)
-  matter_back n s a b (Validated.BadReference at) q h e = failed_ends (suc k) k Cause.BadReference l e
+  matter_back n s a b (Err why) q h e = failed_ends (suc k) k Cause.BadReference l e
 
   close_back : (n : Name) (s a : List Name) (m : Name) (x : Bool) → same_name m n ≡ x → ruled (back (length s)) l ≡ true
       → Ends (walk (suc k) (pick x (going s a) (failed k Cause.MismatchedEnd)) l) → Closes (n ∷ s) (close m ∷ l)
@@ -233,7 +234,7 @@ to_grammar k [] x a h e = at_end_lem x a e
 to_grammar k (t ∷ l) x a h e = spot_back k l (to_grammar (suc k) l) x a t h e
 
 -- tokens in order that pass the walk are a document, or have no element
-pub ruled_document : (toks : List Tok) → ruled before toks ≡ true → walked toks ≡ Drained.Passes → Document toks ⊎ Miscs toks []
+pub ruled_document : (toks : List Tok) → ruled before toks ≡ true → walked toks ≡ Ok tt → Document toks ⊎ Miscs toks []
 unfolding walked
 ruled_document toks h e = to_grammar zero toks prolog [] h (passes_ends (length toks) (walk zero (going [] []) toks) e)
 
@@ -281,25 +282,25 @@ document_ruled (inl (document m e q)) = ruled_before m (ruled_element e zero (ru
 document_ruled (inr m) = ruled_before m refl
 
 -- ---- THEOREM 1, of the tokens alone: those that are in order and pass the walk are the documents, and the lists with no element
-pub ruled_document_is : (toks : List Tok) → ((ruled before toks ≡ true) × (walked toks ≡ Drained.Passes)) ↔ (Document toks ⊎ Miscs toks [])
+pub ruled_document_is : (toks : List Tok) → ((ruled before toks ≡ true) × (walked toks ≡ Ok tt)) ↔ (Document toks ⊎ Miscs toks [])
 ruled_document_is toks = (λ h. ruled_document toks h.0 h.1, λ d. (document_ruled d, document_passes d))
 
 -- THEOREM 1, of a table that obeys the rules: the walk passes exactly the documents, and the lists with no element
 pub walk_document_is : {body table : List ℕ} {final : ℕ} → TableRules body table final
-    → walked (toks_of body (rows_of table)) ≡ Drained.Passes
+    → walked (toks_of body (rows_of table)) ≡ Ok tt
     ↔ (Document (toks_of body (rows_of table)) ⊎ Miscs (toks_of body (rows_of table)) [])
 walk_document_is r = (ruled_document _ (table_ruled r), document_passes)
 
 -- THEOREM 1: the drain, by any decision of the rules, passes exactly where the rules hold and the tokens are a document or have no element
 pub drain_document_is : (body table : List ℕ) (final : ℕ) (d : Dec (TableRules body table final))
-    → drained_by d (toks_of body (rows_of table)) ≡ Drained.Passes
+    → drained_by d (toks_of body (rows_of table)) ≡ Ok tt
     ↔ (TableRules body table final × (Document (toks_of body (rows_of table)) ⊎ Miscs (toks_of body (rows_of table)) []))
 drain_document_is body table final (yes p) = let w = walk_document_is p in (λ e. (p, w.0 e), λ h. w.1 h.1)
 drain_document_is body table final (no f) = (λ e. passes_not_table (sym e), λ h. absurd (f h.0))
 
 -- theorem 1, of the drain: it passes exactly where the rules hold and the tokens are a document, or have no element at all
 pub drained_document_is : (body table : List ℕ) (final : ℕ)
-    → (drained body table final ≡ Drained.Passes) ↔
+    → (drained body table final ≡ Ok tt) ↔
     (TableRules body table final × (Document (toks_of body (rows_of table)) ⊎ Miscs (toks_of body (rows_of table)) []))
 unfolding drained
 drained_document_is body table final = drain_document_is body table final (dec_table body table final)

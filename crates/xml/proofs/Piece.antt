@@ -11,7 +11,6 @@ use Rattle.table.specs.Rules.{last_position, Rules, TableRules}
 use Rattle.table.specs.Piece.{element_rows, piece_start, piece_bytes, piece_rows, ElementAt}
 use Rattle.table.proofs.Moved.{get_cut, length_cut}
 use Rattle.table.proofs.Element.{element_is, Bounds, piece_bounds, piece_rules, piece_toks}
-use Rattle.xml.specs.declared.Drained.{Drained}
 use Rattle.xml.specs.Grammar.{Element, no_misc, document}
 use Rattle.xml.specs.Drain.{drained}
 use Rattle.xml.proofs.Pass.{drained_document_is}
@@ -19,6 +18,7 @@ use Rattle.xml.proofs.Past.{past_element}
 use Rattle.xml.proofs.Again.{again_element, is_element}
 use Rattle.xml.proofs.Closing.{element_at, element_toks, element_last}
 use Rattle.xml.specs.Piece.{PieceAt}
+use Rattle.std.specs.Prelude.{Ok}
 
 -- an element's bytes are those that the table's definitions cut out
 module _ {body : List ℕ} {rows : List Row} {k from : ℕ} (a : ElementAt body rows k from) where
@@ -38,7 +38,7 @@ piece_bytes_lem {len = len} p = bytes_are p.element len p.ends
 alone : {body table : List ℕ} {final from : ℕ} (len : ℕ) → TableRules body table final → {l r : List Tok} (e : Element l r) (k : ℕ)
     → drop k (toks_of body (rows_of table)) ≡ l
     → (a : ElementAt body (rows_of table) k from) → from + len ≡ last_position 0 (element_rows (rows_of table) k) → from + len ≤ length body
-    → drained (cut body from len) (table_of (piece_rows body (element_rows (rows_of table) k))) len ≡ Drained.Passes
+    → drained (cut body from len) (table_of (piece_rows body (element_rows (rows_of table) k))) len ≡ Ok tt
 alone {body} {table} {final} {from} len t e k h a ends inside =
     let rows = element_rows (rows_of table) k in
     let is : cut body from len ≡ piece_bytes body rows = bytes_are a len ends in
@@ -52,7 +52,7 @@ alone {body} {table} {final} {from} len t e k h a ends inside =
     )
 
 -- THEOREM: in a table that passes, each element of the grammar, in whatever row it starts, is such a piece
-pub element_piece : {body table : List ℕ} (final : ℕ) → drained body table final ≡ Drained.Passes
+pub element_piece : {body table : List ℕ} (final : ℕ) → drained body table final ≡ Ok tt
     → {l r : List Tok} (e : Element l r) (k : ℕ) → drop k (toks_of body (rows_of table)) ≡ l
     → PieceAt body table k (piece_start body (drop k (rows_of table)))
     (last_position 0 (take (past_element e k) (rows_of table)) - piece_start body (drop k (rows_of table)))
@@ -69,7 +69,7 @@ element_piece {body} {table} final passes e k h =
     record { element = a; ends = ends; inside = inside; again = alone len t e k h a ends inside }
 
 -- a piece of a table that passes is not empty, begins with `<` and ends with `>`
-pub piece_ends : {body table : List ℕ} {row from len : ℕ} (final : ℕ) → drained body table final ≡ Drained.Passes
+pub piece_ends : {body table : List ℕ} {row from len : ℕ} (final : ℕ) → drained body table final ≡ Ok tt
     → PieceAt body table row from len → Bounds (cut body from len) 0 len
 piece_ends {body} {table} {row} {from} {len} final passes p =
     let b : Bounds body from (from + len) =

@@ -10,17 +10,18 @@ use lib.Seq.{drop-append_seam}
 use Rattle.lists.specs.Characters.{ampersand}
 use Rattle.reference.specs.Text.{validated}
 use Rattle.reference.specs.Place.{FailsAt, NoReferenceAt, failing_at}
-use Rattle.reference.specs.declared.Validated.{Validated}
+use Rattle.reference.specs.declared.BadReference.{BadReference}
 use Rattle.reference.proofs.Grammar.{fails_sound}
 use Rattle.reference.proofs.Place.{fails_within, fails_once, validate_bad_is}
 use Rattle.table.specs.Row.{Row, Name, Tok, start, attr, gt, close, slash, text, misc, matter, bad, name_of, value_of, tok_as, tok_of}
 use Rattle.table.specs.Row.{rows_of, toks_of}
 use Rattle.table.proofs.Moved.{get_cut}
 use Rattle.xml.specs.declared.Cause.{Cause}
-use Rattle.xml.specs.declared.Drained.{Drained}
+use Rattle.xml.specs.declared.DrainError.{DrainError}
 use Rattle.xml.specs.Passed.{Fault, bad_attribute, bad_text, FirstFault, at_row, at_the_end}
 use Rattle.xml.specs.Drain.{walked, drained, reference_place, drain_place}
 use Rattle.xml.proofs.First.{walk_ill_formed_is, drained_ill_formed_is}
+use Rattle.std.specs.Prelude.{Result, Ok, Err}
 
 -- ---- a place in the body at which the value of row k fails, where it is validated (strict) or unescaped (not)
 pub record FailsIn (strict : Bool) (body : List ℕ) (rows : List Row) (k place : ℕ) : Type 0 where
@@ -125,17 +126,17 @@ not_unclosed {ℓ} : {A : Type ℓ} → Cause.BadReference ≡ Cause.UnclosedEle
 not_unclosed e = let z : ◌≡◌ {A = ℕ} 0 1 = cc in absurd (omega arith)
 
 module _ (body : List ℕ) (rows : List Row) where
-  value_place : {k at : ℕ} {t : Tok} {v : List ℕ} (w : RowOf body rows k t) → value_of body w.row ≡ v
-      → validated v ≡ Validated.BadReference at → FailsIn true body rows k (reference_place body rows k)
-  value_place {k} {at} w q e =
-      let v : validated (value_of body w.row) ≡ Validated.BadReference at = rw q e in
+  value_place : {k : ℕ} {why : BadReference} {t : Tok} {v : List ℕ} (w : RowOf body rows k t) → value_of body w.row ≡ v
+      → validated v ≡ Err why → FailsIn true body rows k (reference_place body rows k)
+  value_place {k} {why} w q e =
+      let v : validated (value_of body w.row) ≡ Err why = rw q e in
       record {
         row = w.row;
         later = w.later;
         stands = w.stands;
-        at = at;
-        fails = (validate_bad_is (value_of body w.row) at).0 v;
-        offset = reference_at body rows k w.stands ∙ ap (λ (x : Validated). w.row.value_start + failing_at x) v;
+        at = why.at;
+        fails = (validate_bad_is (value_of body w.row) why.at).0 v;
+        offset = reference_at body rows k w.stands ∙ ap (λ (x : Result (Unit {0}) BadReference). w.row.value_start + failing_at x) v;
       }
 
   fault_place : {k : ℕ} {before : List Tok} {t : Tok} → RowOf body rows k t → Fault before t Cause.BadReference
@@ -150,25 +151,26 @@ module _ (body : List ℕ) (rows : List Row) where
   first_place (at_the_end n q h f) = not_unclosed q
 
   -- where the walk stops at a reference, the value of that row fails validation, at the place of the cause
-  pub walk_place : {k : ℕ} → walked (toks_of body rows) ≡ Drained.IllFormed k Cause.BadReference
+  pub walk_place : {k : ℕ} → walked (toks_of body rows) ≡ Err (DrainError.IllFormed k Cause.BadReference)
       → FailsIn true body rows k (reference_place body rows k)
   walk_place {k} e = first_place ((walk_ill_formed_is (toks_of body rows) k Cause.BadReference).0 e)
 
 -- and of the drain
-pub drained_place : (body table : List ℕ) (final : ℕ) {k : ℕ} → drained body table final ≡ Drained.IllFormed k Cause.BadReference
+pub drained_place : (body table : List ℕ) (final : ℕ) {k : ℕ} → drained body table final ≡ Err (DrainError.IllFormed k Cause.BadReference)
     → FailsIn true body (rows_of table) k (drain_place body (rows_of table) (drained body table final))
 unfolding drain_place
 drained_place body table final {k} e =
     rw e (first_place body (rows_of table) ((drained_ill_formed_is body table final k Cause.BadReference).0 e).1)
 
 -- only a reference has a place: 0 where the cause is another, and where the drain does not answer 9
-pub no_drain_place : (body : List ℕ) (rows : List Row) (d : Drained) → ((k : ℕ) → d ≡ Drained.IllFormed k Cause.BadReference → ⊥)
+pub no_drain_place : (body : List ℕ) (rows : List Row) (d : Result (Unit {0}) DrainError)
+    → ((k : ℕ) → d ≡ Err (DrainError.IllFormed k Cause.BadReference) → ⊥)
     → drain_place body rows d ≡ 0
 unfolding drain_place
-no_drain_place body rows Drained.Passes f = refl
-no_drain_place body rows Drained.Table f = refl
-no_drain_place body rows (Drained.IllFormed k Cause.TokenError) f = refl
-no_drain_place body rows (Drained.IllFormed k Cause.MismatchedEnd) f = refl
-no_drain_place body rows (Drained.IllFormed k Cause.UnclosedElement) f = refl
-no_drain_place body rows (Drained.IllFormed k Cause.RepeatedAttribute) f = refl
-no_drain_place body rows (Drained.IllFormed k Cause.BadReference) f = absurd (f k refl)
+no_drain_place body rows (Ok u) f = refl
+no_drain_place body rows (Err DrainError.Table) f = refl
+no_drain_place body rows (Err (DrainError.IllFormed k Cause.TokenError)) f = refl
+no_drain_place body rows (Err (DrainError.IllFormed k Cause.MismatchedEnd)) f = refl
+no_drain_place body rows (Err (DrainError.IllFormed k Cause.UnclosedElement)) f = refl
+no_drain_place body rows (Err (DrainError.IllFormed k Cause.RepeatedAttribute)) f = refl
+no_drain_place body rows (Err (DrainError.IllFormed k Cause.BadReference)) f = absurd (f k refl)

@@ -9,8 +9,9 @@ use Rattle.lists.proofs.Tests.{false_true}
 use Rattle.lists.specs.Bytes.{sameb}
 use Rattle.lists.proofs.Bytes.{same_is, same_self}
 use Rattle.table.specs.Row.{Name}
-use Rattle.reference.specs.declared.Validated.{Validated}
+use Rattle.reference.specs.declared.BadReference.{BadReference}
 use Rattle.xml.specs.Drain.{same_name, has_name}
+use Rattle.std.specs.Prelude.{Result, Ok, Err}
 
 -- `same_name` is equality of names
 pub same_name_lem : (m n : Name) → same_name m n ≡ true → m ≡ n
@@ -62,5 +63,5 @@ pub not_named : (m n : Name) → same_name m n ≡ false → m ≡ n → ⊥
 not_named m n e q = false_true (sym e ∙ (rw q (name_same n)))
 
 -- a value is not both
-pub not_both {ℓ} : {A : Type ℓ} {x : Validated} {at : ℕ} → x ≡ Validated.Valid → x ≡ Validated.BadReference at → A
+pub not_both {ℓ} : {A : Type ℓ} {x : Result (Unit {0}) BadReference} {why : BadReference} → x ≡ Ok tt → x ≡ Err why → A
 not_both p q = let z : ◌≡◌ {A = ℕ} 0 1 = cc in absurd (omega arith)

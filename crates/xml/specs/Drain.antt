@@ -1,15 +1,15 @@
 -- The strict drain (01, "Drain"): the rules, and then a walk over the tokens that keeps the names of the open elements and the attribute
 -- names of the last start tag.
-use Rattle.std.specs.Prelude.{ℕ, zero, suc, ◌+◌, Bool, true, false, List, [], ◌∷◌, length}
+use Rattle.std.specs.Prelude.{ℕ, zero, suc, ◌+◌, Bool, true, false, List, [], ◌∷◌, length, Result, Ok, Err}
 use Rattle.lists.specs.Tests.{pick}
 use Rattle.lists.specs.Bytes.{sameb}
 use Rattle.reference.specs.Text.{validated}
 use Rattle.reference.specs.Place.{failing_at}
-use Rattle.reference.specs.declared.Validated.{Validated}
+use Rattle.reference.specs.declared.BadReference.{BadReference}
 use Rattle.table.specs.Row.{Row, Name, Tok, start, attr, gt, close, slash, matter, references_in, bad, value_of, rows_of, toks_of}
 use Rattle.table.specs.Test.{dec_table}
 use Rattle.xml.specs.declared.Cause.{Cause}
-use Rattle.xml.specs.declared.Drained.{Drained}
+use Rattle.xml.specs.declared.DrainError.{DrainError}
 
 -- alike in prefix and local name
 unfoldable pub same_name : Name → Name → Bool
@@ -26,9 +26,9 @@ pub data State : Type 0 where
   failed : ℕ → Cause → State
 
 -- an attribute's or a text's value, in row k
-abbrev pub with_value : Validated → ℕ → State → State
-with_value Validated.Valid k st = st
-with_value (Validated.BadReference at) k st = failed k Cause.BadReference
+abbrev pub with_value : Result (Unit {0}) BadReference → ℕ → State → State
+with_value (Ok u) k st = st
+with_value (Err why) k st = failed k Cause.BadReference
 
 -- "repeated attribute, reference (tested after repetition)"
 abbrev pub with_attribute : Bool → ℕ → State → State
@@ -61,22 +61,22 @@ walk k (going s a) (t ∷ l) = walk (suc k) (step k s a t) l
 walk k (failed j c) (t ∷ l) = failed j c
 
 -- "unclosed element (row = row count)"
-abbrev pub verdict : ℕ → State → Drained
-verdict n (going [] a) = Drained.Passes
-verdict n (going (x ∷ s) a) = Drained.IllFormed n Cause.UnclosedElement
-verdict n (failed k c) = Drained.IllFormed k c
+abbrev pub verdict : ℕ → State → Result (Unit {0}) DrainError
+verdict n (going [] a) = Ok tt
+verdict n (going (x ∷ s) a) = Err (DrainError.IllFormed n Cause.UnclosedElement)
+verdict n (failed k c) = Err (DrainError.IllFormed k c)
 
 -- of the tokens of a table that obeys the rules
-unfoldable pub walked : List Tok → Drained
+unfoldable pub walked : List Tok → Result (Unit {0}) DrainError
 walked l = verdict (length l) (walk zero (going [] []) l)
 
 -- "1; then 9 ..", by a decision of the rules
-abbrev pub drained_by : {P : Type 0} → Dec P → List Tok → Drained
+abbrev pub drained_by : {P : Type 0} → Dec P → List Tok → Result (Unit {0}) DrainError
 drained_by (yes rules) l = walked l
-drained_by (no broken) l = Drained.Table
+drained_by (no broken) l = Err DrainError.Table
 
 -- 01, "Drain": what the drain of a body, a table and a final position answers
-unfoldable pub drained : List ℕ → List ℕ → ℕ → Drained
+unfoldable pub drained : List ℕ → List ℕ → ℕ → Result (Unit {0}) DrainError
 unfolding dec_table
 drained body table final = drained_by (dec_table body table final) (toks_of body (rows_of table))
 
@@ -97,8 +97,8 @@ cause_place body rows k Cause.RepeatedAttribute = 0
 cause_place body rows k Cause.BadReference = reference_place body rows k
 
 -- of what the drain answers
-unfoldable pub drain_place : List ℕ → List Row → Drained → ℕ
+unfoldable pub drain_place : List ℕ → List Row → Result (Unit {0}) DrainError → ℕ
 unfolding reference_place
-drain_place body rows Drained.Passes = 0
-drain_place body rows Drained.Table = 0
-drain_place body rows (Drained.IllFormed k cause) = cause_place body rows k cause
+drain_place body rows (Ok u) = 0
+drain_place body rows (Err DrainError.Table) = 0
+drain_place body rows (Err (DrainError.IllFormed k cause)) = cause_place body rows k cause

@@ -1,8 +1,8 @@
 -- What passing the drain means, and what failing it means, in the words of 01, "Drain".
-use Rattle.std.specs.Prelude.{ℕ, ◌≡◌, length}
+use Rattle.std.specs.Prelude.{ℕ, ◌≡◌, length, Ok, Err}
 use mathlib.Core.List.{List, [], ◌∷◌, ◌++◌, Memᴰ}
 use Rattle.reference.specs.Text.{validated}
-use Rattle.reference.specs.declared.Validated.{Validated}
+use Rattle.reference.specs.declared.BadReference.{BadReference}
 use Rattle.table.specs.Row.{Name, text, Tok, start, attr, gt, close, slash, matter, bad, rows_of, toks_of}
 use Rattle.table.specs.Row.{Move, enters, leaves, stays, move_of}
 use Rattle.table.specs.Rules.{TableRules}
@@ -43,8 +43,8 @@ pub record WellFormed (toks : List Tok) : Type 0 where
   pub matching : (a : List Tok) (m : Name) (b : List Tok) → toks ≡ a ++ (close m ∷ b) → (s : List Name) × (opens [] a ≡ m ∷ s)
   pub none_open : opens [] toks ≡ []
   pub single : (a : List Tok) (m : Name) (v : List ℕ) (b : List Tok) → toks ≡ a ++ (attr m v ∷ b) → Memᴰ m (attributes [] a) → ⊥
-  pub attribute_values : (a : List Tok) (m : Name) (v : List ℕ) (b : List Tok) → toks ≡ a ++ (attr m v ∷ b) → validated v ≡ Validated.Valid
-  pub text_values : (a : List Tok) (v : List ℕ) (b : List Tok) → toks ≡ a ++ (matter (text v) ∷ b) → validated v ≡ Validated.Valid
+  pub attribute_values : (a : List Tok) (m : Name) (v : List ℕ) (b : List Tok) → toks ≡ a ++ (attr m v ∷ b) → validated v ≡ Ok tt
+  pub text_values : (a : List Tok) (v : List ℕ) (b : List Tok) → toks ≡ a ++ (matter (text v) ∷ b) → validated v ≡ Ok tt
 
 pub record Passed (body table : List ℕ) (final : ℕ) : Type 0 where
   pub rules : TableRules body table final
@@ -55,9 +55,9 @@ pub data Fault (before : List Tok) : Tok → Cause → Type 0 where
   token_error : Fault before bad Cause.TokenError
   mismatched_end : {m : Name} → ((s : List Name) → opens [] before ≡ m ∷ s → ⊥) → Fault before (close m) Cause.MismatchedEnd
   repeated_attribute : {m : Name} {v : List ℕ} → Memᴰ m (attributes [] before) → Fault before (attr m v) Cause.RepeatedAttribute
-  bad_attribute : {m : Name} {v : List ℕ} {at : ℕ} → (Memᴰ m (attributes [] before) → ⊥) → validated v ≡ Validated.BadReference at
+  bad_attribute : {m : Name} {v : List ℕ} {why : BadReference} → (Memᴰ m (attributes [] before) → ⊥) → validated v ≡ Err why
       → Fault before (attr m v) Cause.BadReference
-  bad_text : {v : List ℕ} {at : ℕ} → validated v ≡ Validated.BadReference at → Fault before (matter (text v)) Cause.BadReference
+  bad_text : {v : List ℕ} {why : BadReference} → validated v ≡ Err why → Fault before (matter (text v)) Cause.BadReference
 
 pub record Faultless (toks : List Tok) : Type 0 where
   pub none : (a : List Tok) (t : Tok) (b : List Tok) (c : Cause) → toks ≡ a ++ (t ∷ b) → Fault a t c → ⊥

@@ -1,10 +1,9 @@
 -- Demand 3: a piece "is exactly its element's bytes from `<` to the end of its end tag or `/>`, and that element's rows, counted from
 -- the piece's first byte, obey the table rules and pass the drain again".
-use Rattle.std.specs.Prelude.{ℕ, ◌+◌, ◌≤◌, ◌≡◌, List, length}
+use Rattle.std.specs.Prelude.{ℕ, ◌+◌, ◌≤◌, ◌≡◌, List, length, Ok}
 use Rattle.table.specs.Row.{cut, rows_of, table_of}
 use Rattle.table.specs.Rules.{last_position}
 use Rattle.table.specs.Piece.{element_rows, piece_rows, ElementAt}
-use Rattle.xml.specs.declared.Drained.{Drained}
 use Rattle.xml.specs.Drain.{drained}
 
 -- `from` and `len` are the piece of the element that starts in a row
@@ -15,7 +14,7 @@ pub record PieceAt (body table : List ℕ) (row from len : ℕ) : Type 0 where
   pub ends : from + len ≡ last_position 0 (element_rows (rows_of table) row)
   pub inside : from + len ≤ length body
   -- the element's rows, counted from the piece's first byte, with the piece as body and its length as final position, pass the drain
-  pub again : drained (cut body from len) (table_of (piece_rows body (element_rows (rows_of table) row))) len ≡ Drained.Passes
+  pub again : drained (cut body from len) (table_of (piece_rows body (element_rows (rows_of table) row))) len ≡ Ok tt
 
 -- the piece of an element of the table, in whatever row it starts
 pub record ElementPiece (body table : List ℕ) (from len : ℕ) : Type 0 where

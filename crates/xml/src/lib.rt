@@ -3,7 +3,7 @@
 #![tactic(auto)]
 
 // Why a body is ill-formed (01, "Drain").
-#[derive(Clone, Copy)]
+#[derive(Clone, Copy, PartialEq, Eq, Debug)]
 pub enum Cause {
     TokenError,
     MismatchedEnd,
@@ -12,10 +12,9 @@ pub enum Cause {
     BadReference,
 }
 
-// What the drain answers: passes, or 01's number 1, Table, or 9, IllFormed, with the first failing row and its cause.
-#[derive(Clone, Copy)]
-pub enum Drained {
-    Passes,
+// Why the drain refuses: 01's number 1, Table, or 9, IllFormed, with the first failing row and its cause.
+#[derive(Clone, Copy, PartialEq, Eq, Debug)]
+pub enum DrainError {
     Table,
     IllFormed { row: usize, cause: Cause },
 }

@@ -8,6 +8,7 @@ use mathlib.Core.Option.{Option, none, some}
 use native.Mathlib.Omega.{arith}
 use lib.ListN.{length, length-map, take, drop, get_or}
 use lib.Seq.{take-length}
+use Rattle.std.specs.Prelude.{Err, Ok, Result}
 use Rattle.lists.proofs.Tests.{pick_all}
 use Rattle.table.proofs.Classes.{Kind, of_start, of_attr, of_gt, of_close, of_slash, of_matter, of_error, kind_of_lem}
 use Rattle.table.specs.Row.{Row, Name, Tok, start, name_of, value_of, rows_of, tok_of, toks_of}
@@ -15,10 +16,11 @@ use Rattle.table.specs.Rules.{Place, at_first, after, begin_of, RowRules, EachRo
 use Rattle.table.proofs.Flat.{last_high}
 use Rattle.table.proofs.Moved.{last_taken}
 use Rattle.table.proofs.Element.{each_take}
-use Rattle.xml.specs.declared.Drained.{Drained}
+use Rattle.xml.specs.declared.DrainError.{DrainError}
 use Rattle.xml.specs.Drain.{walked}
 use Rattle.document.specs.View.{View, position_at, strict_view, error_at, lenient_view, view}
-use Rattle.document.specs.Scope.{Child, dropped, Piece, piece_end, piece_to, piece_of}
+use Rattle.document.specs.declared.part.Piece.{Piece}
+use Rattle.document.specs.Scope.{Child, dropped, piece_end, piece_to, piece_of}
 use Rattle.document.proofs.Laws.Fuel.{dropping_goes_on}
 use Rattle.document.proofs.Laws.Placed.{Placed}
 
@@ -86,10 +88,10 @@ view_in {body} {table} {final} t strict = go strict
           within = t.rules.within;
         }
 
-    strictly : (x : Drained) → ViewIn body (rows_of table) final (strict_view body (rows_of table) final x)
-    strictly Drained.Passes = all
-    strictly Drained.Table = all
-    strictly (Drained.IllFormed k cause) =
+    strictly : (x : Result (Unit {0}) DrainError) → ViewIn body (rows_of table) final (strict_view body (rows_of table) final x)
+    strictly (Ok u) = all
+    strictly (Err DrainError.Table) = all
+    strictly (Err (DrainError.IllFormed k cause)) =
         record {
           count = k;
           front = refl;

@@ -7,14 +7,14 @@ use mathlib.Core.List.{List, [], ◌∷◌, ◌++◌, cons≢nil, head-eq_of_con
 use mathlib.Core.Option.{some}
 use lib.ListN.{take, drop}
 use lib.Seq.{take_at, take-length}
+use Rattle.std.specs.Prelude.{Err, Ok, Result}
 use Rattle.refusal.specs.declared.Refusal.{Refusal}
 use Rattle.reference.specs.Text.{validated, unescaped}
 use Rattle.reference.specs.Text.Out.{bad}
-use Rattle.reference.specs.declared.Validated.{Validated}
 use Rattle.reference.proofs.Place.{bad_is}
 use Rattle.table.specs.Row.{Row, Tok, text, matter, value_of, toks_of}
 use Rattle.xml.specs.declared.Cause.{Cause}
-use Rattle.xml.specs.declared.Drained.{Drained}
+use Rattle.xml.specs.declared.DrainError.{DrainError}
 use Rattle.xml.specs.Drain.{walked, reference_place}
 use Rattle.xml.specs.Passed.{Faultless, at_row, at_the_end}
 use Rattle.xml.proofs.First.{Answer, clean, faulty, answer}
@@ -66,7 +66,7 @@ fails_in_all n {front} {rows} {k} e f =
 
 -- ---- where the drain stops at a reference, a strict reader meets 7 at the end of its rows, with the place of the drain's cause
 pub strict_stops : (body : List ℕ) (rows : List Row) (final : ℕ) {k : ℕ}
-    → walked (toks_of body rows) ≡ Drained.IllFormed k Cause.BadReference
+    → walked (toks_of body rows) ≡ Err (DrainError.IllFormed k Cause.BadReference)
     → (view true body rows final).failure ≡ some (Refusal.BadReference (reference_place body rows k))
 unfolding view
 strict_stops body rows final e = rw e
@@ -78,16 +78,17 @@ parts_at (suc k) [] e = absurd (cons≢nil (sym e))
 parts_at (suc k) (x ∷ s) e = let w = parts_at k s e in (x ∷ w.0, ap (λ (r : List Tok). x ∷ r) w.1)
 
 faultless_valid : {toks : List Tok} → Faultless toks → (k : ℕ) {v : List ℕ} {l : List Tok} → drop k toks ≡ matter (text v) ∷ l
-    → validated v ≡ Validated.Valid
+    → validated v ≡ Ok tt
 faultless_valid {toks} h k {v} {l} e = let w = parts_at k toks e in text_value h w.0 v l w.1
 
 pub strict_valid : (body : List ℕ) (rows : List Row) (final k : ℕ) {v : List ℕ} {l : List Tok}
-    → drop k (toks_of body (view true body rows final).rows) ≡ matter (text v) ∷ l → validated v ≡ Validated.Valid
+    → drop k (toks_of body (view true body rows final).rows) ≡ matter (text v) ∷ l → validated v ≡ Ok tt
 unfolding view
 strict_valid body rows final k {v} {l} e = go (walked (toks_of body rows)) (answer (toks_of body rows)) e
   where
-    go : (x : Drained) → Answer (toks_of body rows) x → drop k (toks_of body (strict_view body rows final x).rows) ≡ matter (text v) ∷ l
-        → validated v ≡ Validated.Valid
+    go : (x : Result (Unit {0}) DrainError) → Answer (toks_of body rows) x
+        → drop k (toks_of body (strict_view body rows final x).rows) ≡ matter (text v) ∷ l
+        → validated v ≡ Ok tt
     go x (clean h p) e = faultless_valid h k e
     go x (faulty {i = i} (at_row a t b q n h f)) e =
         let front : toks_of body (take i rows) ≡ a = toks_take body i rows ∙ ap (take i) q ∙ take_at a (t ∷ b) i (sym n) in

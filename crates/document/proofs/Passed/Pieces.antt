@@ -8,10 +8,10 @@ use mathlib.Core.List.{List, [], ◌∷◌, Memᴰ}
 use mathlib.Core.Option.{Option, none, some}
 use borrow.Author.Tests.{eq-eqb}
 use lib.ListN.{drop}
+use Rattle.std.specs.Prelude.{Ok}
 use Rattle.refusal.specs.declared.Refusal.{Refusal}
 use Rattle.refusal.specs.Answer.{Answer, gives, refuses}
 use Rattle.table.specs.Row.{Row, Name, text, misc, Tok, close, rows_of, toks_of}
-use Rattle.xml.specs.declared.Drained.{Drained}
 use Rattle.xml.specs.Grammar.{Element, empty_element, full_element, Content, no_content, between_tags, child, Miscs, no_misc, one_misc}
 use Rattle.xml.specs.Grammar.{Document}
 use Rattle.xml.specs.Grammar as grammar
@@ -23,7 +23,8 @@ use Rattle.xml.proofs.Piece.{element_piece}
 use Rattle.document.specs.declared.Depth.{Depth}
 use Rattle.document.specs.View.{View, whole}
 use Rattle.document.specs.Reader.{depth, deeper, document, element, StartEl, blank, begun, next}
-use Rattle.document.specs.Scope.{Child, children_of, root_of, Piece, piece_of}
+use Rattle.document.specs.declared.part.Piece.{Piece}
+use Rattle.document.specs.Scope.{Child, children_of, root_of, piece_of}
 use Rattle.document.specs.Text.{first_text, text_of}
 use Rattle.document.proofs.Passed.Walks.{unescapes, as_child, contents, inside, with_name, with_depth_lem, with_row, with_closed}
 use Rattle.document.proofs.Passed.Walks.{next_element, dropped_element, children_are}
@@ -110,7 +111,7 @@ abbrev pub IsPieceAt : List ℕ → List ℕ → ℕ → Piece → Type 0
 IsPieceAt body table row p = PieceAt body table row p.start p.len
 
 -- what is handed out as the piece of a child is that element's piece
-pub piece_met : {body table : List ℕ} (final : ℕ) → drained body table final ≡ Drained.Passes → (c : Child)
+pub piece_met : {body table : List ℕ} (final : ℕ) → drained body table final ≡ Ok tt → (c : Child)
     → Met (toks_of body (rows_of table)) c
     → IsPieceAt body table c.start.row (piece_of body (whole (rows_of table) final) c)
 unfolding piece_of

@@ -5,8 +5,8 @@ use mathlib.Core.Bool.{Bool, true, false}
 use mathlib.Core.Logic.{◌⊎◌, inl, inr}
 use mathlib.Core.List.{List, []}
 use mathlib.Core.Option.{none}
+use Rattle.std.specs.Prelude.{Ok}
 use Rattle.table.specs.Row.{Name, Tok, rows_of}
-use Rattle.xml.specs.declared.Drained.{Drained}
 use Rattle.xml.specs.Grammar.{Attributes, no_attribute, attribute, Element, empty_element, full_element, Content, no_content, between_tags}
 use Rattle.xml.specs.Grammar.{child, Miscs, no_misc, one_misc, Document, document}
 use Rattle.xml.specs.Drain.{drained}
@@ -42,7 +42,7 @@ no_error_lem (inl (document m e q)) = right_miscs m (right_element e (right_misc
 no_error_lem (inr m) = right_miscs m refl
 
 -- ---- the view of a table that passes
-pub view_passed : (body table : List ℕ) (final : ℕ) → drained body table final ≡ Drained.Passes → (strict : Bool)
+pub view_passed : (body table : List ℕ) (final : ℕ) → drained body table final ≡ Ok tt → (strict : Bool)
     → view strict body (rows_of table) final ≡ whole (rows_of table) final
 unfolding view
 view_passed body table final h true = rw (document_passes ((drained_document_is body table final).0 h).1)

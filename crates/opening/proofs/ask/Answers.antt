@@ -1,18 +1,30 @@
 -- 1, 2 and 3 are asked in the definition's order; what passes them has a table that obeys the rules, and a root or 4.
-use Rattle.opening.proofs.Asked.{opening_laws}
+use Rattle.opening.proofs.Asked.{ask_table, ask_sheet, ask_depth, ask_root, ask_done}
 use Rattle.opening.proofs.ask.Goals as goal
 
-pub returns-then-not-obeys : goal.returns-then-not-obeys
-returns-then-not-obeys c = search opening_laws
+pub returns-in_err-valid : goal.returns-in_err-valid
+returns-in_err-valid g c =
+    ask_table c.args.table c.check.result c.check.ensures c.args.sheet c.args.entered c.args.strict c.in_err-valid.ensures.value
+    c.from_residual.ensures.1
 
-pub returns-then-not-said : goal.returns-then-not-said
-returns-then-not-said c = search opening_laws
+pub returns-in_err-sheet : goal.returns-in_err-sheet
+returns-in_err-sheet g c =
+    ask_sheet c.args.table c.check.result c.check.ensures c.args.sheet c.args.entered c.args.strict c.in_ok-valid.valid
+    c.in_ok-valid.ensures.value c.in_err-sheet.ensures.value c.from_residual-in_err-sheet.ensures.1
 
-pub returns-then-deep : goal.returns-then-deep
-returns-then-deep c = search opening_laws
+pub returns-then-not-entered : goal.returns-then-not-entered
+returns-then-not-entered g c =
+    ask_depth c.args.table c.check.result c.check.ensures c.args.sheet c.args.entered c.args.strict c.in_ok-valid.valid
+    c.in_ok-valid.ensures.value c.in_ok-sheet.sheet c.in_ok-sheet.ensures.value c.if-not-entered.true
 
-pub root-requires : goal.root-requires
-root-requires c = search opening_laws
+pub returns-in_err-root : goal.returns-in_err-root
+returns-in_err-root g c =
+    ask_root c.args.table c.check.result c.check.ensures c.args.sheet c.args.entered c.args.strict c.in_ok-valid.valid
+    c.in_ok-valid.ensures.value c.in_ok-sheet.sheet c.in_ok-sheet.ensures.value c.if-not-entered.false c.in_err-root.ensures
+    c.from_residual-in_err-root.ensures.1
 
 pub returns : goal.returns
-returns c = search opening_laws
+returns g c =
+    ask_done c.args.table c.check.result c.check.ensures c.args.sheet c.args.entered c.args.strict c.in_ok-valid.valid
+    c.in_ok-valid.ensures.value c.in_ok-sheet.sheet c.in_ok-sheet.ensures.value c.in_ok-root.root c.if-not-entered.false
+    c.in_ok-root.ensures

@@ -15,7 +15,8 @@ use Rattle.table.specs.Row.{rows_of, toks_of}
 use Rattle.table.specs.Rules.{TableRules}
 use Rattle.table.specs.Test.{dec_table}
 use Rattle.document.specs.View.{View, view}
-use Rattle.document.specs.Scope.{Child, root_of, children_of, Piece, piece_of}
+use Rattle.document.specs.declared.part.Piece.{Piece}
+use Rattle.document.specs.Scope.{Child, root_of, children_of, piece_of}
 use Rattle.readings.specs.Call.{Upload}
 use Rattle.readings.specs.Opening.{with_table, present}
 use Rattle.readings.specs.Find.{has_local, first_child, whole_body, find_in, find}

@@ -13,7 +13,7 @@ use Rattle.document.specs.declared.Depth.{Depth}
 use Rattle.document.specs.Reader.{Scope}
 use Rattle.document.specs.View.{failure_of}
 use Rattle.sheet.specs.declared.ShapeDepth.{ShapeDepth}
-use Rattle.sheet.specs.Settings.{Settings}
+use Rattle.sheet.specs.declared.Settings.{Settings}
 use Rattle.readings.specs.Call.{Upload, Call}
 use Rattle.readings.specs.Output.{Room, Output, refused}
 use Rattle.readings.specs.Opening.{Asked}

@@ -13,7 +13,8 @@ use Rattle.table.specs.Test.{dec_table}
 use Rattle.document.specs.View.{view}
 use Rattle.document.specs.Scope.{Child, root_of}
 use Rattle.sheet.specs.declared.ShapeDepth.{ShapeDepth}
-use Rattle.sheet.specs.Settings.{Settings, is_strict, too_deep}
+use Rattle.sheet.specs.declared.Settings.{Settings}
+use Rattle.sheet.specs.Settings.{is_strict, too_deep}
 use Rattle.readings.specs.Call.{Upload}
 use Rattle.readings.specs.Opening.{with_table, present, with_depth, Opened, rooted, opened, Asked, asked}
 use Rattle.readings.proofs.Conditions.Answers.{Is, is_given_lem, is_refused, onward_is}

@@ -7,6 +7,7 @@ use mathlib.Core.Bool.{Bool, true, false}
 use mathlib.Core.List.{List, ◌∷◌}
 use native.Mathlib.Omega.{arith}
 use lib.ListN.{length, get_or, drop}
+use Rattle.std.specs.Prelude.{Err}
 use Rattle.lists.specs.Characters.{ampersand}
 use Rattle.refusal.specs.declared.Refusal.{Refusal}
 use Rattle.refusal.specs.Answer.{refuses}
@@ -17,7 +18,7 @@ use Rattle.reference.proofs.Lenient.{valid_unescapes}
 use Rattle.reference.proofs.Place.{no_bytes}
 use Rattle.table.specs.Row.{Tok, text, matter, rows_of, toks_of}
 use Rattle.xml.specs.declared.Cause.{Cause}
-use Rattle.xml.specs.declared.Drained.{Drained}
+use Rattle.xml.specs.declared.DrainError.{DrainError}
 use Rattle.xml.specs.Drain.{drained, cause_place, drain_place}
 use Rattle.xml.proofs.Past.{at_next}
 use Rattle.xml.proofs.Place.{FailsIn, place_within, place_byte, drained_place}
@@ -59,7 +60,7 @@ module _ (u : Upload) where
   -- a place that is told with 7, by a reading that is strict or not
   pub data SevenAt : Bool → ℕ → Type 0 where
     by_unescaping : {k at : ℕ} → FailsIn false u.body (rows_of u.rows) k at → SevenAt false at
-    by_validation : {k at : ℕ} → drained u.body u.rows u.end ≡ Drained.IllFormed k Cause.BadReference
+    by_validation : {k at : ℕ} → drained u.body u.rows u.end ≡ Err (DrainError.IllFormed k Cause.BadReference)
         → at ≡ drain_place u.body (rows_of u.rows) (drained u.body u.rows u.end)
         → FailsIn true u.body (rows_of u.rows) k at → SevenAt true at
 
@@ -76,7 +77,7 @@ module _ (u : Upload) where
     pub seven : (at : ℕ) → r ≡ Refusal.BadReference at → SevenAt strict at
 
   -- ---- where the rows run out
-  of_cause : {k : ℕ} (c : Cause) {at : ℕ} → drained u.body u.rows u.end ≡ Drained.IllFormed k c
+  of_cause : {k : ℕ} (c : Cause) {at : ℕ} → drained u.body u.rows u.end ≡ Err (DrainError.IllFormed k c)
       → failure_of (cause_place u.body (rows_of u.rows) k c) c ≡ Refusal.BadReference at → SevenAt true at
   unfolding drain_place
   of_cause Cause.TokenError e q = let z : ◌≡◌ {A = ℕ} 0 1 = cc in absurd (omega arith)

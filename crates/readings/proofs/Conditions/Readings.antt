@@ -10,7 +10,7 @@ use Rattle.refusal.specs.Answer.{refuses}
 use Rattle.document.specs.Scope.{Child}
 use Rattle.document.specs.Text.{text_of}
 use Rattle.sheet.specs.declared.ShapeDepth.{ShapeDepth}
-use Rattle.sheet.specs.Settings.{Settings}
+use Rattle.sheet.specs.declared.Settings.{Settings}
 use Rattle.readings.specs.Call.{Upload, Call}
 use Rattle.readings.specs.Output.{Entry, Room, Output, nothing, refused, appended}
 use Rattle.readings.specs.Plan.{Plan, put, stop}

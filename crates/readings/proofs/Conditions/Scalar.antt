@@ -9,10 +9,12 @@ use Rattle.refusal.specs.declared.Refusal.{Refusal}
 use Rattle.refusal.specs.Answer.{Answer, gives, refuses, onward}
 use Rattle.document.specs.Text.{text_of}
 use Rattle.sheet.specs.declared.ShapeDepth.{ShapeDepth}
-use Rattle.sheet.specs.Settings.{Settings, is_strict}
+use Rattle.sheet.specs.declared.Settings.{Settings}
+use Rattle.sheet.specs.Settings.{is_strict}
 use Rattle.readings.specs.Call.{Upload}
 use Rattle.readings.specs.Opening.{Opened}
-use Rattle.readings.specs.Scalar.{boolean_of, integer_of, string_in, unless_ill_formed, scalar_text, boolean_reading, integer_reading}
+use Rattle.document.specs.Text.{string_in}
+use Rattle.readings.specs.Scalar.{boolean_of, integer_of, unless_ill_formed, scalar_text, boolean_reading, integer_reading}
 use Rattle.readings.specs.Scalar.{string_reading}
 use Rattle.readings.proofs.Plans.Sources.{Anything}
 use Rattle.readings.proofs.Conditions.Answers.{Is, is_given_lem, is_refused, refused_is, also, onward_is, itself}

@@ -9,6 +9,7 @@ use borrow.Author.Tests.{eqb-true, eq-eqb, leb-true, leb-false, le-leb, lt-leb}
 use lib.Dec.{eqb, leb}
 use lib.IntN.{ℤ, pos}
 use lib.ListN.{length}
+use Rattle.std.specs.Prelude.{None, Option, Some}
 use Rattle.lists.specs.Tests.{pick}
 use Rattle.lists.proofs.Tests.{false_true}
 use Rattle.lists.specs.Bytes.{ascii, sameb}
@@ -16,9 +17,8 @@ use Rattle.lists.proofs.Bytes.{same_is, same_self}
 use Rattle.refusal.specs.declared.Refusal.{Refusal}
 use Rattle.refusal.specs.Answer.{Answer, gives, refuses}
 use Rattle.reference.specs.Number.{digit, numeral}
-use Rattle.reference.specs.declared.Number.{Number}
-use Rattle.reference.specs.declared.Number.TheVariants.{Value, No}
-use Rattle.readings.specs.Scalar.{boolean_of, digits_of, minus, positive, negative, integer_of, string_in}
+use Rattle.document.specs.Text.{string_in}
+use Rattle.readings.specs.Scalar.{boolean_of, digits_of, minus, positive, negative, integer_of}
 use Rattle.readings.proofs.Conditions.Answers.{given_refused, refuses_same, gives_same}
 
 -- "11 not a boolean": neither of the two words
@@ -48,19 +48,19 @@ boolean_text_refusal t r = (go (sameb t (ascii "true")) (sameb t (ascii "false")
 
 -- "Integers: optional sign, one or more digits, range of 32 bits, nothing trimmed."
 pub data Integer : List ℕ → ℤ → Type 0 where
-  unsigned : {s : List ℕ} {n : ℕ} → digits_of s ≡ Value n → n ≤ 2 ^ 31 - 1 → Integer s (pos n)
-  plus_sign : {b : ℕ} {s : List ℕ} {n : ℕ} → b ≡ 43 → digits_of s ≡ Value n → n ≤ 2 ^ 31 - 1 → Integer (b ∷ s) (pos n)
-  minus_sign : {b : ℕ} {s : List ℕ} {n : ℕ} → b ≡ 45 → digits_of s ≡ Value n → n ≤ 2 ^ 31 → Integer (b ∷ s) (minus n)
+  unsigned : {s : List ℕ} {n : ℕ} → digits_of s ≡ Some n → n ≤ 2 ^ 31 - 1 → Integer s (pos n)
+  plus_sign : {b : ℕ} {s : List ℕ} {n : ℕ} → b ≡ 43 → digits_of s ≡ Some n → n ≤ 2 ^ 31 - 1 → Integer (b ∷ s) (pos n)
+  minus_sign : {b : ℕ} {s : List ℕ} {n : ℕ} → b ≡ 45 → digits_of s ≡ Some n → n ≤ 2 ^ 31 → Integer (b ∷ s) (minus n)
 
-abbrev is_value : Number → Bool
-is_value (Value n) = true
-is_value No = false
+abbrev is_value : Option ℕ → Bool
+is_value (Some n) = true
+is_value None = false
 
-no_value : {A : Type 0} {n : ℕ} → No ≡ Value n → A
+no_value : {A : Type 0} {n : ℕ} → None ≡ Some n → A
 no_value e = false_true (ap is_value e)
 
 -- a sign is no digit
-sign : (b : ℕ) (s : List ℕ) {A : Type 0} {n : ℕ} → digit b ≡ 16 → digits_of (b ∷ s) ≡ Value n → A
+sign : (b : ℕ) (s : List ℕ) {A : Type 0} {n : ℕ} → digit b ≡ 16 → digits_of (b ∷ s) ≡ Some n → A
 unfolding numeral
 sign b s p e = no_value (sym (rw p) ∙ e)
 
@@ -73,21 +73,21 @@ unfolding digit
 digit_minus b e = rw e
 
 -- the range of 32 bits, without and with the sign `-`
-positive_given : (x : Number) (z : ℤ) → positive x ≡ gives z → (n : ℕ) × (x ≡ Value n) × (n ≤ 2 ^ 31 - 1) × (pos n ≡ z)
-positive_given No z e = given_refused (sym e)
-positive_given (Value n) z e = go (leb n (2 ^ 31 - 1)) refl e
+positive_given : (x : Option ℕ) (z : ℤ) → positive x ≡ gives z → (n : ℕ) × (x ≡ Some n) × (n ≤ 2 ^ 31 - 1) × (pos n ≡ z)
+positive_given None z e = given_refused (sym e)
+positive_given (Some n) z e = go (leb n (2 ^ 31 - 1)) refl e
   where
     go : (t : Bool) → leb n (2 ^ 31 - 1) ≡ t → pick t (gives (pos n)) (refuses Refusal.NotInteger) ≡ gives z
-        → (m : ℕ) × (Value n ≡ Value m) × (m ≤ 2 ^ 31 - 1) × (pos m ≡ z)
+        → (m : ℕ) × (Some n ≡ Some m) × (m ≤ 2 ^ 31 - 1) × (pos m ≡ z)
     go true p e = (n, refl, leb-true n (2 ^ 31 - 1) p, gives_same e)
     go false p e = given_refused (sym e)
 
-negative_given : (x : Number) (z : ℤ) → negative x ≡ gives z → (n : ℕ) × (x ≡ Value n) × (n ≤ 2 ^ 31) × (minus n ≡ z)
-negative_given No z e = given_refused (sym e)
-negative_given (Value n) z e = go (leb n (2 ^ 31)) refl e
+negative_given : (x : Option ℕ) (z : ℤ) → negative x ≡ gives z → (n : ℕ) × (x ≡ Some n) × (n ≤ 2 ^ 31) × (minus n ≡ z)
+negative_given None z e = given_refused (sym e)
+negative_given (Some n) z e = go (leb n (2 ^ 31)) refl e
   where
     go : (t : Bool) → leb n (2 ^ 31) ≡ t → pick t (gives (minus n)) (refuses Refusal.NotInteger) ≡ gives z
-        → (m : ℕ) × (Value n ≡ Value m) × (m ≤ 2 ^ 31) × (minus m ≡ z)
+        → (m : ℕ) × (Some n ≡ Some m) × (m ≤ 2 ^ 31) × (minus m ≡ z)
     go true p e = (n, refl, leb-true n (2 ^ 31) p, gives_same e)
     go false p e = given_refused (sym e)
 
@@ -107,7 +107,7 @@ integer_text_given t z = (there t, back)
             subst (Integer (b ∷ s)) w.3 (minus_sign (eqb-true b 45 q) w.1 w.2)
         go false false p q e = let w = positive_given (digits_of (b ∷ s)) z e in subst (Integer (b ∷ s)) w.3 (unsigned w.1 w.2)
 
-    bare : (b : ℕ) (s : List ℕ) (n : ℕ) → digits_of (b ∷ s) ≡ Value n → n ≤ 2 ^ 31 - 1 → (x y : Bool) → eqb b 43 ≡ x → eqb b 45 ≡ y →
+    bare : (b : ℕ) (s : List ℕ) (n : ℕ) → digits_of (b ∷ s) ≡ Some n → n ≤ 2 ^ 31 - 1 → (x y : Bool) → eqb b 43 ≡ x → eqb b 45 ≡ y →
         pick x (positive (digits_of s)) (pick y (negative (digits_of s)) (positive (digits_of (b ∷ s)))) ≡ gives (pos n)
     bare b s n p h true y u v = sign b s (digit_plus b (eqb-true b 43 u)) p
     bare b s n p h false true u v = sign b s (digit_minus b (eqb-true b 45 v)) p
@@ -136,13 +136,13 @@ integer_text_refusal t r =
     bounded true z e = given_refused e
     bounded false z e = sym (refuses_same e)
 
-    of_positive : (x : Number) {q : Refusal} → positive x ≡ refuses q → q ≡ Refusal.NotInteger
-    of_positive No e = sym (refuses_same e)
-    of_positive (Value n) e = bounded (leb n (2 ^ 31 - 1)) (pos n) e
+    of_positive : (x : Option ℕ) {q : Refusal} → positive x ≡ refuses q → q ≡ Refusal.NotInteger
+    of_positive None e = sym (refuses_same e)
+    of_positive (Some n) e = bounded (leb n (2 ^ 31 - 1)) (pos n) e
 
-    of_negative : (x : Number) {q : Refusal} → negative x ≡ refuses q → q ≡ Refusal.NotInteger
-    of_negative No e = sym (refuses_same e)
-    of_negative (Value n) e = bounded (leb n (2 ^ 31)) (minus n) e
+    of_negative : (x : Option ℕ) {q : Refusal} → negative x ≡ refuses q → q ≡ Refusal.NotInteger
+    of_negative None e = sym (refuses_same e)
+    of_negative (Some n) e = bounded (leb n (2 ^ 31)) (minus n) e
 
     twelve : (s : List ℕ) {q : Refusal} → integer_of s ≡ refuses q → q ≡ Refusal.NotInteger
     twelve [] e = sym (refuses_same e)

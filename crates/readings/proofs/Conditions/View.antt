@@ -5,13 +5,14 @@ use mathlib.Core.Path.{◌≡◌, refl, sym, ◌∙◌, ap, subst}
 use mathlib.Core.Logic.{◌↔◌}
 use mathlib.Core.Bool.{Bool, true, false}
 use mathlib.Core.Option.{Option, none, some, none-ne-some, some-injective}
+use Rattle.std.specs.Prelude.{Err, Ok, Result}
 use Rattle.lists.proofs.Tests.{false_true}
 use Rattle.refusal.specs.declared.Refusal.{Refusal}
 use Rattle.table.specs.Row.{rows_of, toks_of}
 use Rattle.table.specs.Rules.{TableRules}
 use Rattle.table.specs.Test.{dec_table}
 use Rattle.xml.specs.declared.Cause.{Cause}
-use Rattle.xml.specs.declared.Drained.{Drained}
+use Rattle.xml.specs.declared.DrainError.{DrainError}
 use Rattle.xml.specs.Drain.{walked, drained, drained_by, cause_place}
 use Rattle.xml.proofs.First.{not_ill}
 use Rattle.document.specs.View.{view, failure_of, strict_view, lenient_view, error_at}
@@ -20,12 +21,13 @@ use Rattle.readings.specs.Opening.{Opened}
 use Rattle.readings.proofs.Conditions.Opening.{OpenedAs}
 
 -- answers of the drain are told apart
-abbrev is_table : Drained → Bool
-is_table Drained.Passes = false
-is_table Drained.Table = true
-is_table (Drained.IllFormed k c) = false
+abbrev is_table : Result (Unit {0}) DrainError → Bool
+is_table (Ok u) = false
+is_table (Err DrainError.Table) = true
+is_table (Err (DrainError.IllFormed k c)) = false
 
-table_not_ill : {A : Type 0} {k : ℕ} {c : Cause} → Drained.Table ≡ Drained.IllFormed k c → A
+table_not_ill : {A : Type 0} {k : ℕ} {c : Cause} →
+    ◌≡◌ {A = Result (Unit {0}) DrainError} (Err DrainError.Table) (Err (DrainError.IllFormed k c)) → A
 table_not_ill e = false_true (sym (ap is_table e))
 
 module _ (u : Upload) where
@@ -34,12 +36,12 @@ module _ (u : Upload) where
     pub strictly : strict ≡ true
     pub row : ℕ
     pub cause : Cause
-    pub drain : drained u.body u.rows u.end ≡ Drained.IllFormed row cause
+    pub drain : drained u.body u.rows u.end ≡ Err (DrainError.IllFormed row cause)
 
   -- what a text meets where the rows run out: under strict reading the cause that the drain gives, 8, 9 or 7, with its place; otherwise 8,
   -- at a token error
   pub data Stopped : Bool → Refusal → Type 0 where
-    at_drain : {row : ℕ} {cause : Cause} → drained u.body u.rows u.end ≡ Drained.IllFormed row cause
+    at_drain : {row : ℕ} {cause : Cause} → drained u.body u.rows u.end ≡ Err (DrainError.IllFormed row cause)
         → Stopped true (failure_of (cause_place u.body (rows_of u.rows) row cause) cause)
     at_error : {k : ℕ} → error_at (toks_of u.body (rows_of u.rows)) ≡ some k → Stopped false Refusal.TokenError
 
@@ -62,17 +64,18 @@ module _ (u : Upload) where
     λ w. back (walked (toks_of u.body (rows_of u.rows))) (drained_walk t) w,
   )
     where
-      go : (x : Drained) → drained u.body u.rows u.end ≡ x → (strict_view u.body (rows_of u.rows) u.end x).ill_formed ≡ true
-          → DrainFails true
-      go Drained.Passes p e = false_true e
-      go Drained.Table p e = false_true e
-      go (Drained.IllFormed k c) p e = record { strictly = refl; row = k; cause = c; drain = p }
-
-      back : (x : Drained) → drained u.body u.rows u.end ≡ x → DrainFails true
+      go : (x : Result (Unit {0}) DrainError) → drained u.body u.rows u.end ≡ x
           → (strict_view u.body (rows_of u.rows) u.end x).ill_formed ≡ true
-      back Drained.Passes p w = not_ill (sym p ∙ w.drain)
-      back Drained.Table p w = table_not_ill (sym p ∙ w.drain)
-      back (Drained.IllFormed k c) p w = refl
+          → DrainFails true
+      go (Ok u) p e = false_true e
+      go (Err DrainError.Table) p e = false_true e
+      go (Err (DrainError.IllFormed k c)) p e = record { strictly = refl; row = k; cause = c; drain = p }
+
+      back : (x : Result (Unit {0}) DrainError) → drained u.body u.rows u.end ≡ x → DrainFails true
+          → (strict_view u.body (rows_of u.rows) u.end x).ill_formed ≡ true
+      back (Ok u) p w = not_ill (sym p ∙ w.drain)
+      back (Err DrainError.Table) p w = table_not_ill (sym p ∙ w.drain)
+      back (Err (DrainError.IllFormed k c)) p w = refl
   view_fails false t = (go (error_at (toks_of u.body (rows_of u.rows))), λ w. false_true w.strictly)
     where
       go : (x : Option ℕ) → (lenient_view (rows_of u.rows) u.end x).ill_formed ≡ true → DrainFails false
@@ -87,15 +90,16 @@ module _ (u : Upload) where
     back (walked (toks_of u.body (rows_of u.rows))) (drained_walk t),
   )
     where
-      go : (x : Drained) → drained u.body u.rows u.end ≡ x → (strict_view u.body (rows_of u.rows) u.end x).failure ≡ some r
+      go : (x : Result (Unit {0}) DrainError) → drained u.body u.rows u.end ≡ x
+          → (strict_view u.body (rows_of u.rows) u.end x).failure ≡ some r
           → Stopped true r
-      go Drained.Passes p e = absurd (none-ne-some r e)
-      go Drained.Table p e = absurd (none-ne-some r e)
-      go (Drained.IllFormed k c) p e = subst (Stopped true) (some-injective _ _ e) (at_drain p)
+      go (Ok u) p e = absurd (none-ne-some r e)
+      go (Err DrainError.Table) p e = absurd (none-ne-some r e)
+      go (Err (DrainError.IllFormed k c)) p e = subst (Stopped true) (some-injective _ _ e) (at_drain p)
 
-      back : (x : Drained) → drained u.body u.rows u.end ≡ x → {n : Refusal} → Stopped true n
+      back : (x : Result (Unit {0}) DrainError) → drained u.body u.rows u.end ≡ x → {n : Refusal} → Stopped true n
           → (strict_view u.body (rows_of u.rows) u.end x).failure ≡ some n
-      back x p (at_drain e) = ap (λ (y : Drained). (strict_view u.body (rows_of u.rows) u.end y).failure) (sym p ∙ e)
+      back x p (at_drain e) = ap (λ (y : Result (Unit {0}) DrainError). (strict_view u.body (rows_of u.rows) u.end y).failure) (sym p ∙ e)
   view_stops false t r = (go (error_at (toks_of u.body (rows_of u.rows))) refl, back)
     where
       go : (x : Option ℕ) → error_at (toks_of u.body (rows_of u.rows)) ≡ x → (lenient_view (rows_of u.rows) u.end x).failure ≡ some r

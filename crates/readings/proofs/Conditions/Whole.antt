@@ -7,6 +7,7 @@ use mathlib.Core.Bool.{Bool, true, false}
 use mathlib.Core.List.{List, [], ◌∷◌, ◌++◌, Memᴰ}
 use mathlib.Core.Option.{Option, none, some, some-injective, none-ne-some}
 use lib.ListN.{length}
+use Rattle.std.specs.Prelude.{Err, Ok, Result}
 use Rattle.lists.specs.Tests.{pick}
 use Rattle.lists.proofs.Tests.{false_true}
 use Rattle.refusal.specs.declared.Refusal.{Refusal}
@@ -17,7 +18,7 @@ use Rattle.reference.proofs.Lenient.{valid_unescapes}
 use Rattle.reference.proofs.Place.{no_bytes}
 use Rattle.table.specs.Row.{Row, Name, Tok, start, attr, gt, close, slash, text, misc, matter, bad, rows_of, toks_of}
 use Rattle.xml.specs.declared.Cause.{Cause}
-use Rattle.xml.specs.declared.Drained.{Drained}
+use Rattle.xml.specs.declared.DrainError.{DrainError}
 use Rattle.xml.specs.Drain.{drained}
 use Rattle.xml.proofs.First.{drained_table_is}
 use Rattle.xml.proofs.Means.{drained_passes_is}
@@ -29,7 +30,8 @@ use Rattle.document.specs.Scope.{Child, scope_of, root_of, on_root, next_from}
 use Rattle.document.specs.Text.{value_start_at, unescaped_from, text_turn, take_each, joined, whole_of}
 use Rattle.readings.specs.Call.{Upload}
 use Rattle.readings.specs.Opening.{present}
-use Rattle.readings.specs.Scalar.{string_in, passing, whole_text}
+use Rattle.document.specs.Text.{string_in}
+use Rattle.readings.specs.Scalar.{passing, whole_text}
 use Rattle.readings.proofs.Conditions.Answers.{given_refused, refuses_same}
 use Rattle.readings.proofs.Conditions.Opening.{TableBroken}
 use Rattle.readings.proofs.Conditions.Values.{StringTooLong, too_long, string_text_refusal}
@@ -73,7 +75,7 @@ member_parts : {t : Tok} {l : List Tok} → Memᴰ t l → (a : List Tok) × (b 
 member_parts {t} (Memᴰ.head {xs = l} e) = ([], l, ap (λ (x : Tok). x ∷ l) (sym e))
 member_parts {t} (Memᴰ.tail {x = x} i) = let w = member_parts i in (x ∷ w.0, w.1, ap (λ (k : List Tok). x ∷ k) w.2)
 
-pub passed_unescapes : (u : Upload) → drained u.body u.rows u.end ≡ Drained.Passes
+pub passed_unescapes : (u : Upload) → drained u.body u.rows u.end ≡ Ok tt
     → Unescapes (toks_of u.body (rows_of u.rows))
 passed_unescapes u e v i =
     let w = member_parts i in
@@ -178,15 +180,15 @@ module _ (u : Upload) (room : ℕ) where
     -- "1"
     whole_table : TableBroken u → WholeRefused Refusal.Table
     -- "9"
-    whole_ill_formed : {row : ℕ} {cause : Cause} → drained u.body u.rows u.end ≡ Drained.IllFormed row cause
+    whole_ill_formed : {row : ℕ} {cause : Cause} → drained u.body u.rows u.end ≡ Err (DrainError.IllFormed row cause)
         → WholeRefused Refusal.IllFormed
     -- "4"
-    whole_no_root : drained u.body u.rows u.end ≡ Drained.Passes → root ≡ none → WholeRefused Refusal.NoRoot
+    whole_no_root : drained u.body u.rows u.end ≡ Ok tt → root ≡ none → WholeRefused Refusal.NoRoot
     -- "6 (any element inside the root)"
-    whole_has_element : {c : Child} → drained u.body u.rows u.end ≡ Drained.Passes → root ≡ some c → HasElement c
+    whole_has_element : {c : Child} → drained u.body u.rows u.end ≡ Ok tt → root ≡ some c → HasElement c
         → WholeRefused Refusal.ElementInText
     -- "10"
-    whole_no_room : {c : Child} {text : List ℕ} → drained u.body u.rows u.end ≡ Drained.Passes → root ≡ some c
+    whole_no_room : {c : Child} {text : List ℕ} → drained u.body u.rows u.end ≡ Ok tt → root ≡ some c
         → whole_of (rows_of u.rows) c ≡ gives text → room < length text →
         WholeRefused Refusal.NoRoom
 
@@ -194,15 +196,15 @@ module _ (u : Upload) (room : ℕ) where
   unfolding whole_text
   whole_text_refusal r = (on_drain (drained u.body u.rows u.end) refl, back)
     where
-      inner : drained u.body u.rows u.end ≡ Drained.Passes → {c : Child} → root ≡ some c → Unescapes c.inner.rest
+      inner : drained u.body u.rows u.end ≡ Ok tt → {c : Child} → root ≡ some c → Unescapes c.inner.rest
       inner p {c} q v i = passed_unescapes u p v (root_rest (toks_of u.body (rows_of u.rows)) c q (matter (text v)) i)
 
-      long : {c : Child} {t : List ℕ} → drained u.body u.rows u.end ≡ Drained.Passes → root ≡ some c
+      long : {c : Child} {t : List ℕ} → drained u.body u.rows u.end ≡ Ok tt → root ≡ some c
           → whole_of (rows_of u.rows) c ≡ gives t
           → {q : Refusal} → StringTooLong room t q → WholeRefused q
       long p c w (too_long h) = whole_no_room p c w h
 
-      on_text : (c : Child) (a : Answer (List ℕ)) → whole_of (rows_of u.rows) c ≡ a → drained u.body u.rows u.end ≡ Drained.Passes
+      on_text : (c : Child) (a : Answer (List ℕ)) → whole_of (rows_of u.rows) c ≡ a → drained u.body u.rows u.end ≡ Ok tt
           → root ≡ some c
           → onward a (string_in room) ≡ refuses r → WholeRefused r
       on_text c (gives t) w p q e = long p q w ((string_text_refusal room t r).0 e)
@@ -210,18 +212,18 @@ module _ (u : Upload) (room : ℕ) where
           let k = whole_element (rows_of u.rows) c n (inner p q) w in
           subst WholeRefused (sym k.0 ∙ refuses_same e) (whole_has_element p q k.1)
 
-      on_roots : (o : Option Child) → root ≡ o → drained u.body u.rows u.end ≡ Drained.Passes →
+      on_roots : (o : Option Child) → root ≡ o → drained u.body u.rows u.end ≡ Ok tt →
           onward (present Refusal.NoRoot o) (λ (c : Child). onward (whole_of (rows_of u.rows) c) (string_in room)) ≡ refuses r
           → WholeRefused r
       on_roots none q p e = subst WholeRefused (refuses_same e) (whole_no_root p q)
       on_roots (some c) q p e = on_text c (whole_of (rows_of u.rows) c) refl p q e
 
-      on_drain : (x : Drained) → drained u.body u.rows u.end ≡ x →
+      on_drain : (x : Result (Unit {0}) DrainError) → drained u.body u.rows u.end ≡ x →
           passing x (onward (present Refusal.NoRoot root) (λ (c : Child). onward (whole_of (rows_of u.rows) c) (string_in room)))
           ≡ refuses r → WholeRefused r
-      on_drain Drained.Passes p e = on_roots root refl p e
-      on_drain Drained.Table p e = subst WholeRefused (refuses_same e) (whole_table ((drained_table_is u.body u.rows u.end).0 p))
-      on_drain (Drained.IllFormed k c) p e = subst WholeRefused (refuses_same e) (whole_ill_formed p)
+      on_drain (Ok u) p e = on_roots root refl p e
+      on_drain (Err DrainError.Table) p e = subst WholeRefused (refuses_same e) (whole_table ((drained_table_is u.body u.rows u.end).0 p))
+      on_drain (Err (DrainError.IllFormed k c)) p e = subst WholeRefused (refuses_same e) (whole_ill_formed p)
 
       back : {n : Refusal} → WholeRefused n
           → passing (drained u.body u.rows u.end)

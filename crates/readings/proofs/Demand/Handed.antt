@@ -12,7 +12,7 @@ use Rattle.refusal.specs.declared.Refusal.{Refusal}
 use Rattle.refusal.specs.Numbers.{number, place}
 use Rattle.table.specs.Row.{cut}
 use Rattle.xml.specs.Piece.{ElementPiece}
-use Rattle.document.specs.Scope.{Piece}
+use Rattle.document.specs.declared.part.Piece.{Piece}
 use Rattle.readings.specs.Call.{Upload}
 use Rattle.readings.specs.Output.{Entry, text_kind, piece_kind, Room, Output, nothing, group_entry}
 use Rattle.readings.proofs.Plans.Made.{Keeps}

@@ -5,6 +5,7 @@ use mathlib.Core.Path.{◌≡◌, refl, sym, ◌∙◌, subst}
 use mathlib.Core.Bool.{Bool, true, false}
 use mathlib.Core.List.{List, [], ◌∷◌, ◌++◌, Memᴰ}
 use mathlib.Core.Option.{Option, some, none-ne-some, some-injective}
+use Rattle.std.specs.Prelude.{Ok}
 use Rattle.lists.specs.Tests.{pick}
 use Rattle.lists.proofs.Tests.{false_true}
 use Rattle.lists.specs.Every.{Every}
@@ -12,7 +13,6 @@ use Rattle.lists.proofs.Every.{every_in}
 use Rattle.refusal.specs.declared.Refusal.{Refusal}
 use Rattle.refusal.specs.Answer.{Answer, refuses}
 use Rattle.table.specs.Row.{Tok, cut, rows_of, toks_of}
-use Rattle.xml.specs.declared.Drained.{Drained}
 use Rattle.xml.specs.Drain.{drained}
 use Rattle.xml.specs.Passed.{Passed}
 use Rattle.xml.proofs.Means.{drained_passes_is}
@@ -48,7 +48,7 @@ use Rattle.readings.proofs.Plans.Sources.{Anything, Sources, ShapeSources}
 use Rattle.readings.proofs.Plans.Readings.{output_carried, may_stop, plan_made}
 use Rattle.readings.proofs.Demand.Handed.{IsElement, AllHanded, none_handed, handed_kept}
 
-module _ (u : Upload) (passes : drained u.body u.rows u.end ≡ Drained.Passes) where
+module _ (u : Upload) (passes : drained u.body u.rows u.end ≡ Ok tt) where
   toks : List Tok
   toks = toks_of u.body (rows_of u.rows)
 

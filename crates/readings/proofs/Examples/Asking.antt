@@ -7,7 +7,7 @@ use mathlib.Core.List.{List, ◌∷◌, ◌++◌, map}
 use lib.ListN.{length}
 use Rattle.lists.specs.Bytes.{ascii}
 use Rattle.sheet.specs.declared.ShapeDepth.{ShapeDepth}
-use Rattle.sheet.specs.Settings.{Settings}
+use Rattle.sheet.specs.declared.Settings.{Settings}
 use Rattle.readings.specs.Call.{uploaded, calling}
 use Rattle.readings.specs.Output.{Room, Told, told}
 use Rattle.readings.specs.Shape.{Shape, read}

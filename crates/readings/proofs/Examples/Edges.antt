@@ -6,14 +6,14 @@ use mathlib.Core.Path.{◌≡◌, refl}
 use mathlib.Core.List.{List, [], ◌∷◌, ◌++◌, map}
 use lib.IntN.{pos, negsuc}
 use lib.ListN.{length}
+use Rattle.std.specs.Prelude.{Err, Ok, Result}
 use Rattle.lists.specs.Bytes.{ascii}
 use Rattle.refusal.specs.declared.Refusal.{Refusal}
 use Rattle.refusal.specs.Answer.{gives, refuses}
 use Rattle.reference.specs.Text.{Out, bytes, bad, validated, unescaped}
-use Rattle.reference.specs.declared.Validated.{Validated}
-use Rattle.reference.specs.declared.Validated.TheVariants.{Valid, BadReference}
+use Rattle.reference.specs.declared.BadReference.{BadReference}
 use Rattle.xml.specs.declared.Cause.{Cause}
-use Rattle.xml.specs.declared.Drained.{Drained}
+use Rattle.xml.specs.declared.DrainError.{DrainError}
 use Rattle.xml.specs.Drain.{drained}
 use Rattle.readings.specs.Output.{Told}
 use Rattle.readings.specs.Shape.{Shape, structure}
@@ -32,8 +32,8 @@ pub data Mark : Type 0 where
   list : String → List ℕ → Mark
 
 pub data Reply : Type 0 where
-  references : Validated → Out → Reply
-  drain : Drained → Told → Reply
+  references : Result (Unit {0}) BadReference → Out → Reply
+  drain : Result (Unit {0}) DrainError → Told → Reply
   list : Told → Reply
 
 abbrev tell : Mark → Reply
@@ -58,17 +58,17 @@ pub examples :
     ∷ Mark.drain "" []
     ∷ Mark.list "<r><b>7</b></r>" one_text
     ∷ [])
-    ≡ Reply.references Valid (bytes (ascii "A<"))
-    ∷ Reply.references (BadReference 0) (bytes (ascii "A"))
-    ∷ Reply.references (BadReference 0) (bytes (0 ∷ []))
-    ∷ Reply.references (BadReference 0) (bad 0)
-    ∷ Reply.references (BadReference 0) (bad 0)
-    ∷ Reply.references Valid (bytes (0xF4 ∷ 0x8F ∷ 0xBF ∷ 0xBF ∷ []))
-    ∷ Reply.references (BadReference 0) (bytes (0xEF ∷ 0xBF ∷ 0xBE ∷ []))
-    ∷ Reply.references (BadReference 1) (bad 1)
-    ∷ Reply.drain (Drained.IllFormed 4 Cause.MismatchedEnd) (answer 9 0 [] "")
-    ∷ Reply.drain (Drained.IllFormed 2 Cause.UnclosedElement) (answer 9 0 [] "")
-    ∷ Reply.drain Drained.Passes (answer 4 0 [] "")
+    ≡ Reply.references (Ok tt) (bytes (ascii "A<"))
+    ∷ Reply.references (Err (record { at = 0 })) (bytes (ascii "A"))
+    ∷ Reply.references (Err (record { at = 0 })) (bytes (0 ∷ []))
+    ∷ Reply.references (Err (record { at = 0 })) (bad 0)
+    ∷ Reply.references (Err (record { at = 0 })) (bad 0)
+    ∷ Reply.references (Ok tt) (bytes (0xF4 ∷ 0x8F ∷ 0xBF ∷ 0xBF ∷ []))
+    ∷ Reply.references (Err (record { at = 0 })) (bytes (0xEF ∷ 0xBF ∷ 0xBE ∷ []))
+    ∷ Reply.references (Err (record { at = 1 })) (bad 1)
+    ∷ Reply.drain (Err (DrainError.IllFormed 4 Cause.MismatchedEnd)) (answer 9 0 [] "")
+    ∷ Reply.drain (Err (DrainError.IllFormed 2 Cause.UnclosedElement)) (answer 9 0 [] "")
+    ∷ Reply.drain (Ok tt) (answer 4 0 [] "")
     ∷ Reply.list (answer 0 1 (2 ∷ 0 ∷ 0 ∷ 0 ∷ 3 ∷ 8 ∷ []) "")
     ∷ []
 unfolding computed
@@ -94,7 +94,7 @@ unfolding computed
 edges = refl
 
 -- "Strict `<r x=\"1\" x=\"2\"/>`: 4 from a structure reading, 9 from the drain."
-pub repeated_attribute : drained (ascii "<r x=\"1\" x=\"2\"/>") attributes_two 16 ≡ Drained.IllFormed 2 Cause.RepeatedAttribute
+pub repeated_attribute : drained (ascii "<r x=\"1\" x=\"2\"/>") attributes_two 16 ≡ Err (DrainError.IllFormed 2 Cause.RepeatedAttribute)
 unfolding computed
 repeated_attribute = refl
 

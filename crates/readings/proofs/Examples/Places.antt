@@ -5,14 +5,15 @@ use Prim.Native.String.{String}
 use mathlib.Core.Path.{refl}
 use mathlib.Core.List.{List, [], ◌∷◌}
 use lib.ListN.{length}
+use Rattle.std.specs.Prelude.{Result, Ok, Err}
 use Rattle.lists.specs.Bytes.{ascii}
 use Rattle.refusal.specs.declared.Refusal.{Refusal}
 use Rattle.refusal.specs.Answer.{Answer, refuses}
 use Rattle.table.specs.Row.{rows_of}
 use Rattle.xml.specs.declared.Cause.{Cause}
-use Rattle.xml.specs.declared.Drained.{Drained}
+use Rattle.xml.specs.declared.DrainError.{DrainError}
 use Rattle.xml.specs.Drain.{drained, drain_place}
-use Rattle.sheet.specs.Settings.{Settings}
+use Rattle.sheet.specs.declared.Settings.{Settings}
 use Rattle.readings.specs.Call.{uploaded}
 use Rattle.readings.specs.Scalar.{string_reading}
 use Rattle.readings.specs.Shape.{structure, map, strings}
@@ -62,7 +63,7 @@ pub data Drain : Type 0 where
   drain : (body : String) (table : List ℕ) → Drain
 
 pub data Found : Type 0 where
-  found : Drained → ℕ → Found
+  found : Result (Unit {0}) DrainError → ℕ → Found
 
 abbrev ask_drain : Drain → Found
 ask_drain (drain body table) =
@@ -71,13 +72,13 @@ ask_drain (drain body table) =
 
 pub drain_places : Answered ask_drain (
     -- in a text, and in an attribute's value
-    case (drain "<r><a>1&zz;</a></r>" one_text5) (found (Drained.IllFormed 4 Cause.BadReference) 7)
-    ∷ case (drain "<r><a>&#+65;&zz;</a></r>" one_text10) (found (Drained.IllFormed 4 Cause.BadReference) 6)
-    ∷ case (drain "<r x=\"&lt \"/>" attribute) (found (Drained.IllFormed 1 Cause.BadReference) 6)
+    case (drain "<r><a>1&zz;</a></r>" one_text5) (found (Err (DrainError.IllFormed 4 Cause.BadReference)) 7)
+    ∷ case (drain "<r><a>&#+65;&zz;</a></r>" one_text10) (found (Err (DrainError.IllFormed 4 Cause.BadReference)) 6)
+    ∷ case (drain "<r x=\"&lt \"/>" attribute) (found (Err (DrainError.IllFormed 1 Cause.BadReference)) 6)
     -- another cause has no place, nor has a table that passes or breaks a rule
-    ∷ case (drain "<r>" unclosed) (found (Drained.IllFormed 2 Cause.UnclosedElement) 0)
-    ∷ case (drain "<r><a>12345</a></r>" one_text5) (found Drained.Passes 0)
-    ∷ case (drain "<r>" (1 ∷ [])) (found Drained.Table 0)
+    ∷ case (drain "<r>" unclosed) (found (Err (DrainError.IllFormed 2 Cause.UnclosedElement)) 0)
+    ∷ case (drain "<r><a>12345</a></r>" one_text5) (found (Ok tt) 0)
+    ∷ case (drain "<r>" (1 ∷ [])) (found (Err DrainError.Table) 0)
     ∷ [])
 unfolding computed
 drain_places = refl

@@ -10,10 +10,11 @@ use Rattle.lists.specs.Bytes.{ascii}
 use Rattle.refusal.specs.declared.Refusal.{Refusal}
 use Rattle.refusal.specs.Numbers.{number}
 use Rattle.refusal.specs.Answer.{Answer, gives, refuses}
-use Rattle.document.specs.Scope.{Piece}
-use Rattle.sheet.specs.Settings.{Settings}
+use Rattle.document.specs.declared.part.Piece.{Piece}
+use Rattle.sheet.specs.declared.Settings.{Settings}
 use Rattle.readings.specs.Call.{uploaded}
-use Rattle.readings.specs.Scalar.{boolean_of, string_in, boolean_reading, integer_reading, string_reading, whole_text}
+use Rattle.document.specs.Text.{string_in}
+use Rattle.readings.specs.Scalar.{boolean_of, boolean_reading, integer_reading, string_reading, whole_text}
 use Rattle.readings.specs.Find.{find, part_of, refusal_of}
 use Rattle.readings.proofs.Examples.Asking.{case, Answered, settings, lenient, strict, shape, room}
 use Rattle.readings.proofs.Examples.Tables.{empty, bare, one_empty, two, nested_text, unclosed, two_unclosed, behind_comment}

@@ -5,16 +5,16 @@ use mathlib.Core.Path.{◌≡◌, refl}
 use mathlib.Core.Bool.{true, false}
 use mathlib.Core.List.Memᴰ
 use mathlib.Core.List.{List, [], ◌∷◌, ◌++◌}
+use Rattle.std.specs.Prelude.{Ok}
 use Rattle.lists.specs.Bytes.{ascii}
 use Rattle.lists.specs.Every.{Every}
 use Rattle.lists.proofs.Every.{every_in}
 use Rattle.table.specs.Row.{cut, rows_of, table_of}
 use Rattle.table.specs.Piece.{element_rows, piece_rows}
-use Rattle.xml.specs.declared.Drained.{Drained}
 use Rattle.xml.specs.Drain.{drained}
 use Rattle.xml.proofs.Means.{drained_passes_is}
 use Rattle.xml.specs.Piece.{ElementPiece}
-use Rattle.sheet.specs.Settings.{Settings}
+use Rattle.sheet.specs.declared.Settings.{Settings}
 use Rattle.readings.specs.Call.{uploaded, calling}
 use Rattle.readings.specs.Output.{text_entry, piece_entry, group_entry, key_text_entry, Output, finished}
 use Rattle.readings.specs.Structure.{structure_reading}
@@ -85,7 +85,7 @@ core_sheet =
 abbrev strictly : Settings
 strictly = settings 128 true true false
 
-pub passes : drained body table final ≡ Drained.Passes
+pub passes : drained body table final ≡ Ok tt
 unfolding computed
 passes = refl
 

@@ -13,7 +13,7 @@ use Rattle.lists.specs.Tests.{pick}
 use Rattle.refusal.specs.Answer.{Answer, gives}
 use Rattle.table.specs.Row.{rows_of, tok_of, toks_of}
 use Rattle.table.specs.Rules.{most_rows, most_bytes}
-use Rattle.document.specs.Names.{name_matches}
+use Rattle.table.specs.Names.{name_matches}
 use Rattle.document.specs.Reader.{Attribute}
 use Rattle.document.specs.Scope.{children_of, dropping}
 use Rattle.document.proofs.Laws.Fuel.{dropping_shortens}

@@ -13,7 +13,8 @@ use Rattle.table.specs.Row.{Row, rows_of, toks_of}
 use Rattle.table.specs.Rules.{TableRules}
 use Rattle.table.specs.Test.{dec_table}
 use Rattle.document.specs.View.{View, view}
-use Rattle.document.specs.Scope.{Child, root_of, children_of, Piece, piece_of}
+use Rattle.document.specs.declared.part.Piece.{Piece}
+use Rattle.document.specs.Scope.{Child, root_of, children_of, piece_of}
 use Rattle.document.proofs.Laws.Tags.{rows_tags}
 use Rattle.document.proofs.Laws.Placed.{Placed, children_placed, root_placed}
 use Rattle.document.proofs.Laws.Inside.{ViewIn, view_in, piece_inside}

@@ -10,7 +10,7 @@ use Rattle.lists.proofs.Every.{every_snoc, every_map}
 use Rattle.refusal.specs.declared.Refusal.{Refusal}
 use Rattle.refusal.specs.Numbers.{number, place}
 use Rattle.table.specs.Rules.{most_bytes}
-use Rattle.document.specs.Scope.{Piece}
+use Rattle.document.specs.declared.part.Piece.{Piece}
 use Rattle.sheet.specs.Sheet.{most_members}
 use Rattle.readings.specs.Output.{Entry, text_kind, piece_kind, group_kind, failed_kind, Room, Output, appended}
 use Rattle.readings.proofs.Plans.Made.{Keeps}

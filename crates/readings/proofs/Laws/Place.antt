@@ -17,7 +17,8 @@ use Rattle.table.specs.Row.{toks_of}
 use Rattle.document.specs.Scope.{Child}
 use Rattle.document.proofs.Laws.Placed.{Placed}
 use Rattle.sheet.specs.declared.ShapeDepth.{ShapeDepth}
-use Rattle.sheet.specs.Settings.{Settings, is_strict}
+use Rattle.sheet.specs.declared.Settings.{Settings}
+use Rattle.sheet.specs.Settings.{is_strict}
 use Rattle.sheet.specs.Names.{entry_name}
 use Rattle.readings.specs.Call.{Upload, Call}
 use Rattle.readings.specs.Output.{Entry, failed_kind, Room, Output, Reading, finished, refused, output, outcome_place}

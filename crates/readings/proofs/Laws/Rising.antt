@@ -13,10 +13,12 @@ use lib.ListN.{length}
 use Rattle.lists.specs.Tests.{pick}
 use Rattle.lists.proofs.Tests.{pick_all, false_true}
 use Rattle.refusal.specs.declared.Refusal.{Refusal}
-use Rattle.document.specs.Names.{name_matches}
-use Rattle.document.specs.Scope.{Child, children_of, Piece}
+use Rattle.table.specs.Names.{name_matches}
+use Rattle.document.specs.declared.part.Piece.{Piece}
+use Rattle.document.specs.Scope.{Child, children_of}
 use Rattle.sheet.specs.declared.ShapeDepth.{ShapeDepth}
-use Rattle.sheet.specs.Settings.{Settings, tests_root_name}
+use Rattle.sheet.specs.declared.Settings.{Settings}
+use Rattle.sheet.specs.Settings.{tests_root_name}
 use Rattle.sheet.specs.Sheet.{Member, Structure}
 use Rattle.sheet.specs.Names.{root_name, Indexed, indexed, members_of, resolve}
 use Rattle.readings.specs.Call.{Upload, Call}

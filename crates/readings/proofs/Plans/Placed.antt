@@ -10,7 +10,8 @@ use Rattle.refusal.specs.declared.Refusal.{Refusal}
 use Rattle.refusal.specs.Answer.{gives, refuses}
 use Rattle.table.specs.Row.{Tok, rows_of, toks_of}
 use Rattle.document.specs.Reader.{Reader}
-use Rattle.document.specs.Scope.{Child, dropping, after_children, Piece, piece_of}
+use Rattle.document.specs.declared.part.Piece.{Piece}
+use Rattle.document.specs.Scope.{Child, dropping, after_children, piece_of}
 use Rattle.document.specs.Text.{text_of}
 use Rattle.document.proofs.Laws.Tags.{rows_tags}
 use Rattle.document.proofs.Laws.Placed.{Outside, Placed, Outward}

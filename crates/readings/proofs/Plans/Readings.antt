@@ -11,11 +11,13 @@ use Rattle.lists.specs.Tests.{pick}
 use Rattle.lists.proofs.Tests.{pick_cases, pick_all}
 use Rattle.refusal.specs.declared.Refusal.{Refusal}
 use Rattle.refusal.specs.Answer.{Answer, gives, refuses}
-use Rattle.document.specs.Names.{name_matches}
-use Rattle.document.specs.Scope.{Child, children_of, Piece}
+use Rattle.table.specs.Names.{name_matches}
+use Rattle.document.specs.declared.part.Piece.{Piece}
+use Rattle.document.specs.Scope.{Child, children_of}
 use Rattle.document.specs.Text.{text_of}
 use Rattle.sheet.specs.declared.ShapeDepth.{ShapeDepth}
-use Rattle.sheet.specs.Settings.{Settings, tests_root_name}
+use Rattle.sheet.specs.declared.Settings.{Settings}
+use Rattle.sheet.specs.Settings.{tests_root_name}
 use Rattle.sheet.specs.Sheet.{Structure}
 use Rattle.sheet.specs.Names.{root_name, attribute_name, Indexed, members_of, resolve, item_name, entry_name}
 use Rattle.readings.specs.Call.{Upload, Call}

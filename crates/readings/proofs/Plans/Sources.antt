@@ -5,7 +5,8 @@ use mathlib.Core.List.{List, [], ◌++◌, Memᴰ}
 use mathlib.Core.Option.{Option, some}
 use Rattle.refusal.specs.declared.Refusal.{Refusal}
 use Rattle.refusal.specs.Answer.{gives, refuses}
-use Rattle.document.specs.Scope.{Child, children_of, Piece, piece_of}
+use Rattle.document.specs.declared.part.Piece.{Piece}
+use Rattle.document.specs.Scope.{Child, children_of, piece_of}
 use Rattle.document.specs.Text.{text_of}
 use Rattle.sheet.specs.Sheet.{Structure}
 use Rattle.sheet.specs.Names.{Indexed, members_of}

@@ -1,4 +1,3 @@
--- A text without `&` unescapes to itself, so it is copied where it fits; where it does not, nothing is written.
 use Rattle.unescape.proofs.Filling.{plain_laws}
 use Rattle.unescape.proofs.copy_plain.Goals as goal
 

@@ -1,11 +1,6 @@
 -- The digits before i come to `acc`; once past 32 bits a number stays there, and no digit is a `;` or an `&`.
 use Rattle.unescape.proofs.Parse.{DigitsAt}
-use Prim.Native.Nat.{◌-◌}
-use lib.ListN.{length}
 use Rattle.unescape.proofs.digits_at.Given as goal
 
 abbrev pub invariant-loop-i : goal.invariant-loop-i
 invariant-loop-i l = DigitsAt l.base l.text l.from l.start l.acc l.i
-
-abbrev pub decreases-loop-i : goal.decreases-loop-i
-decreases-loop-i l = length l.text - l.i

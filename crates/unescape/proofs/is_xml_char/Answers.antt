@@ -1,40 +1,43 @@
--- From the bottom up each test settles one of the definition's ranges, or the gap after it.
 use Rattle.reference.specs.Entity.{xml_char}
 use Rattle.lists.proofs.Tests.{tests}
 use Rattle.unescape.proofs.is_xml_char.Goals as goal
 
-pub returns-then-n-eq9 : goal.returns-then-n-eq9
+pub returns-in_default : goal.returns-in_default
 unfolding xml_char
-returns-then-n-eq9 c = search tests
+returns-in_default c = search tests
 
-pub returns-then-n-eq10 : goal.returns-then-n-eq10
+pub returns-in_default-2 : goal.returns-in_default-2
 unfolding xml_char
-returns-then-n-eq10 c = search tests
+returns-in_default-2 c = search tests
 
-pub returns-then-n-eq13 : goal.returns-then-n-eq13
+pub returns-in_default-3 : goal.returns-in_default-3
 unfolding xml_char
-returns-then-n-eq13 c = search tests
+returns-in_default-3 c = search tests
 
-pub returns-then-n-lt32 : goal.returns-then-n-lt32
+pub returns-in_default-4 : goal.returns-in_default-4
 unfolding xml_char
-returns-then-n-lt32 c = search tests
+returns-in_default-4 c = search tests
 
-pub returns-then-n-le55295 : goal.returns-then-n-le55295
+pub returns-in_default-5 : goal.returns-in_default-5
 unfolding xml_char
-returns-then-n-le55295 c = search tests
+returns-in_default-5 c = search tests
 
-pub returns-then-n-lt57344 : goal.returns-then-n-lt57344
+pub returns-in-9 : goal.returns-in-9
 unfolding xml_char
-returns-then-n-lt57344 c = search tests
+returns-in-9 c = search tests
 
-pub returns-then-n-le65533 : goal.returns-then-n-le65533
+pub returns-in-9-2 : goal.returns-in-9-2
 unfolding xml_char
-returns-then-n-le65533 c = search tests
+returns-in-9-2 c = search tests
 
-pub returns-then-n-lt65536 : goal.returns-then-n-lt65536
+pub returns-in-9-3 : goal.returns-in-9-3
 unfolding xml_char
-returns-then-n-lt65536 c = search tests
+returns-in-9-3 c = search tests
 
-pub returns : goal.returns
+pub returns-in-9-4 : goal.returns-in-9-4
 unfolding xml_char
-returns c = search tests
+returns-in-9-4 c = search tests
+
+pub returns-in-9-5 : goal.returns-in-9-5
+unfolding xml_char
+returns-in-9-5 c = search tests

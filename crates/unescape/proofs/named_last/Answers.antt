@@ -1,28 +1,65 @@
 -- Five names in the definition's order; what begins with none of them is bad.
-use Rattle.lists.proofs.Tests.{flags}
+use Rattle.lists.specs.Bytes.{ascii}
+use Rattle.unescape.proofs.Parse.{starts_yes, starts_no}
 use Rattle.unescape.specs.Parse.{named_ref}
 use Rattle.unescape.proofs.named_last.Goals as goal
 
-pub returns-then-begins_at : goal.returns-then-begins_at
+pub returns-then-starts_with : goal.returns-then-starts_with
 unfolding named_ref
-returns-then-begins_at c = search flags depth 8
+returns-then-starts_with c =
+    let s = c.args.rest.now in
+    rw (starts_yes (ascii "lt;") s c.starts_with.ensures.value c.if-starts_with.true)
 
-pub returns-then-begins_at-2 : goal.returns-then-begins_at-2
+pub returns-then-starts_with-2 : goal.returns-then-starts_with-2
 unfolding named_ref
-returns-then-begins_at-2 c = search flags depth 8
+returns-then-starts_with-2 c =
+    let s = c.args.rest.now in
+    rw (
+      starts_no (ascii "lt;") s c.starts_with.ensures.value c.if-starts_with.false,
+      starts_yes (ascii "gt;") s c.starts_with-else-starts_with.ensures.value c.if-starts_with-2.true,
+    )
 
-pub returns-then-begins_at-3 : goal.returns-then-begins_at-3
+pub returns-then-starts_with-3 : goal.returns-then-starts_with-3
 unfolding named_ref
-returns-then-begins_at-3 c = search flags depth 8
+returns-then-starts_with-3 c =
+    let s = c.args.rest.now in
+    rw (
+      starts_no (ascii "lt;") s c.starts_with.ensures.value c.if-starts_with.false,
+      starts_no (ascii "gt;") s c.starts_with-else-starts_with.ensures.value c.if-starts_with-2.false,
+      starts_yes (ascii "amp;") s c.starts_with-else-starts_with-2.ensures.value c.if-starts_with-3.true,
+    )
 
-pub returns-then-begins_at-4 : goal.returns-then-begins_at-4
+pub returns-then-starts_with-4 : goal.returns-then-starts_with-4
 unfolding named_ref
-returns-then-begins_at-4 c = search flags depth 8
+returns-then-starts_with-4 c =
+    let s = c.args.rest.now in
+    rw (
+      starts_no (ascii "lt;") s c.starts_with.ensures.value c.if-starts_with.false,
+      starts_no (ascii "gt;") s c.starts_with-else-starts_with.ensures.value c.if-starts_with-2.false,
+      starts_no (ascii "amp;") s c.starts_with-else-starts_with-2.ensures.value c.if-starts_with-3.false,
+      starts_yes (ascii "quot;") s c.starts_with-else-starts_with-3.ensures.value c.if-starts_with-4.true,
+    )
 
-pub returns-then-begins_at-5 : goal.returns-then-begins_at-5
+pub returns-then-starts_with-5 : goal.returns-then-starts_with-5
 unfolding named_ref
-returns-then-begins_at-5 c = search flags depth 8
+returns-then-starts_with-5 c =
+    let s = c.args.rest.now in
+    rw (
+      starts_no (ascii "lt;") s c.starts_with.ensures.value c.if-starts_with.false,
+      starts_no (ascii "gt;") s c.starts_with-else-starts_with.ensures.value c.if-starts_with-2.false,
+      starts_no (ascii "amp;") s c.starts_with-else-starts_with-2.ensures.value c.if-starts_with-3.false,
+      starts_no (ascii "quot;") s c.starts_with-else-starts_with-3.ensures.value c.if-starts_with-4.false,
+      starts_yes (ascii "apos;") s c.starts_with-else-starts_with-4.ensures.value c.if-starts_with-5.true,
+    )
 
-pub returns : goal.returns
+pub returns-else-starts_with-5 : goal.returns-else-starts_with-5
 unfolding named_ref
-returns c = search flags depth 8
+returns-else-starts_with-5 c =
+    let s = c.args.rest.now in
+    rw (
+      starts_no (ascii "lt;") s c.starts_with.ensures.value c.if-starts_with.false,
+      starts_no (ascii "gt;") s c.starts_with-else-starts_with.ensures.value c.if-starts_with-2.false,
+      starts_no (ascii "amp;") s c.starts_with-else-starts_with-2.ensures.value c.if-starts_with-3.false,
+      starts_no (ascii "quot;") s c.starts_with-else-starts_with-3.ensures.value c.if-starts_with-4.false,
+      starts_no (ascii "apos;") s c.starts_with-else-starts_with-4.ensures.value c.if-starts_with-5.false,
+    )

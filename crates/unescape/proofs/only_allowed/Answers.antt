@@ -1,12 +1,11 @@
--- A character that is allowed stays; one that is not is bad, as what was bad before.
 use Rattle.unescape.proofs.Parse.{only_laws}
 use Rattle.unescape.proofs.only_allowed.Goals as goal
 
-pub returns-then-is_allowed : goal.returns-then-is_allowed
-returns-then-is_allowed c = search only_laws
+pub returns-in-Some : goal.returns-in-Some
+returns-in-Some c = search only_laws
 
-pub returns-else-is_allowed : goal.returns-else-is_allowed
-returns-else-is_allowed c = search only_laws
+pub returns-in_default : goal.returns-in_default
+returns-in_default c = search only_laws
 
-pub returns-in-Bad : goal.returns-in-Bad
-returns-in-Bad c = search only_laws
+pub returns-in_default-2 : goal.returns-in_default-2
+returns-in_default-2 c = search only_laws

@@ -1,38 +1,11 @@
-use Rattle.utf8.proofs.Scan.{text_laws}
+-- Text that is ASCII is well-formed; of other text the kit's test decides.
+use Rattle.std.proofs.Common.{◌∙◌}
+use Rattle.std.proofs.lemmas.Str.{IsUtf8-from_ascii}
+use Rattle.utf8.proofs.Library.{utf8_is, utf8_says}
 use Rattle.utf8.proofs.is_utf8.Goals as goal
 
-pub loop-i-init : goal.loop-i-init
-loop-i-init c = search text_laws
+pub returns-then-is_ascii : goal.returns-then-is_ascii
+returns-then-is_ascii c = c.if-is_ascii.true ∙ utf8_is c.args.s.now (IsUtf8-from_ascii c.args.s.now c.if-is_ascii.ensures.cases)
 
-pub bounds-s-i : goal.bounds-s-i
-bounds-s-i c = search text_laws
-
-pub overflow_add-i : goal.overflow_add-i
-overflow_add-i c = search text_laws
-
-pub past_run-i-requires : goal.past_run-i-requires
-past_run-i-requires c = search text_laws
-
-pub loop-i-smaller-then-s-i-lt128 : goal.loop-i-smaller-then-s-i-lt128
-loop-i-smaller-then-s-i-lt128 c = search text_laws
-
-pub loop-i-preserved-then-s-i-lt128 : goal.loop-i-preserved-then-s-i-lt128
-loop-i-preserved-then-s-i-lt128 c = search text_laws
-
-pub char_len-n-requires : goal.char_len-n-requires
-char_len-n-requires c = search text_laws
-
-pub returns-then-n-eq0 : goal.returns-then-n-eq0
-returns-then-n-eq0 c = search text_laws
-
-pub overflow_add-i-else-s-i-lt128 : goal.overflow_add-i-else-s-i-lt128
-overflow_add-i-else-s-i-lt128 c = search text_laws
-
-pub loop-i-smaller : goal.loop-i-smaller
-loop-i-smaller c = search text_laws
-
-pub loop-i-preserved : goal.loop-i-preserved
-loop-i-preserved c = search text_laws
-
-pub returns : goal.returns
-returns c = search text_laws
+pub returns-else-is_ascii : goal.returns-else-is_ascii
+returns-else-is_ascii c = utf8_says c.args.s.now c.is_utf8.result c.is_utf8.ensures

@@ -1,12 +1,11 @@
--- A table that passes the rules can be walked, and the walk is then the drain; any other is refused as a table.
-use Rattle.decode.proofs.Walking.{drain_laws}
+use Rattle.decode.proofs.Walking.{drain_walked, drain_table}
 use Rattle.decode.proofs.drain.drain.Goals as goal
 
-pub walk-requires : goal.walk-requires
-walk-requires c = search drain_laws
+pub returns-in-Some : goal.returns-in-Some
+returns-in-Some c =
+    let e = c.in-Some.ensures in
+    drain_walked c.args.table.body.now c.args.table.rows.now c.args.table.end (rw (e.0, e.1, e.2) at c.in-Some.valid.obeys)
+    (rw (e.0, e.1) at c.walk.ensures)
 
-pub returns-then-obeys : goal.returns-then-obeys
-returns-then-obeys c = search drain_laws
-
-pub returns : goal.returns
-returns c = search drain_laws
+pub returns-in-None : goal.returns-in-None
+returns-in-None c = drain_table c.args.table.body.now c.args.table.rows.now c.args.table.end c.in-None.ensures

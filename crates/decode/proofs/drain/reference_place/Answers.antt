@@ -1,12 +1,8 @@
--- Row k of the list is row k of the table; past the last row there is no place.
-use Rattle.decode.proofs.Causes.{reference_place_laws}
+use Rattle.decode.proofs.Causes.{reference_row, reference_none}
 use Rattle.decode.proofs.drain.reference_place.Goals as goal
 
-pub value_place-requires : goal.value_place-requires
-value_place-requires c = search reference_place_laws
+pub returns-then-k-len : goal.returns-then-k-len
+returns-then-k-len c = reference_row c.args.table.obeys c.args.k (rw c.len.ensures at c.if-k-len.true) c.value_place.ensures
 
-pub returns-then-k-rows : goal.returns-then-k-rows
-returns-then-k-rows c = search reference_place_laws
-
-pub returns : goal.returns
-returns c = search reference_place_laws
+pub returns-else-k-len : goal.returns-else-k-len
+returns-else-k-len c = reference_none c.args.table.obeys c.args.k (rw c.len.ensures at c.if-k-len.false)

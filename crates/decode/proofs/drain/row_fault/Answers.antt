@@ -1,33 +1,35 @@
--- By kind: attribute, close tag, text, token error, or no fault. A value in a part without `&` has no reference to fail.
-use Rattle.decode.proofs.Faults.{fault_laws}
+use Rattle.decode.proofs.Faults.{fault_repeated, fault_value, fault_text, fault_matched, fault_mismatched, fault_token, fault_none}
 use Rattle.decode.proofs.drain.row_fault.Goals as goal
 
-pub is_repeated-requires : goal.is_repeated-requires
-is_repeated-requires c = search fault_laws
-
 pub returns-then-is_repeated : goal.returns-then-is_repeated
-returns-then-is_repeated c = search fault_laws
+returns-then-is_repeated c =
+    fault_repeated c.args.table.body.now c.args.table.rows.now c.args.top c.args.k c.in-Attribute.ensures c.is_repeated.ensures
+    c.if-is_repeated.true
 
-pub returns-then-lies_in : goal.returns-then-lies_in
-returns-then-lies_in c = search fault_laws
+pub returns-else-is_repeated : goal.returns-else-is_repeated
+returns-else-is_repeated c =
+    fault_value c.args.table.body.now c.args.table.rows.now c.args.top c.args.k c.in-Attribute.ensures c.is_repeated.ensures
+    c.if-is_repeated.false
+    c.check_references.ensures
 
-pub returns-then-kind-eq-ATTRIBUTE : goal.returns-then-kind-eq-ATTRIBUTE
-returns-then-kind-eq-ATTRIBUTE c = search fault_laws
+pub returns-in-Text : goal.returns-in-Text
+returns-in-Text c =
+    fault_text c.args.table.body.now c.args.table.rows.now c.args.top c.args.k c.in-Text.ensures c.check_references-in-Text.ensures
 
 pub returns-then-same_name : goal.returns-then-same_name
-returns-then-same_name c = search fault_laws
+returns-then-same_name c =
+    fault_matched c.args.table.body.now c.args.table.rows.now c.args.top c.args.k c.in-Close.ensures c.same_name.ensures c.if-same_name.true
 
-pub returns-then-kind-eq-CLOSE : goal.returns-then-kind-eq-CLOSE
-returns-then-kind-eq-CLOSE c = search fault_laws
+pub returns-else-same_name : goal.returns-else-same_name
+returns-else-same_name c =
+    fault_mismatched c.args.table.body.now c.args.table.rows.now c.args.top c.args.k c.in-Close.ensures c.same_name.ensures
+    c.if-same_name.false
 
-pub returns-then-lies_in-2 : goal.returns-then-lies_in-2
-returns-then-lies_in-2 c = search fault_laws
+pub returns-in-Error : goal.returns-in-Error
+returns-in-Error c = fault_token c.args.table.body.now c.args.table.rows.now c.args.top c.args.k c.in-Error.ensures
 
-pub returns-then-kind-eq-TEXT : goal.returns-then-kind-eq-TEXT
-returns-then-kind-eq-TEXT c = search fault_laws
-
-pub returns-then-kind-eq-ERROR : goal.returns-then-kind-eq-ERROR
-returns-then-kind-eq-ERROR c = search fault_laws
-
-pub returns : goal.returns
-returns c = search fault_laws
+pub returns-in_default : goal.returns-in_default
+returns-in_default c =
+    fault_none c.args.table.body.now c.args.table.rows.now c.args.top c.args.k c.kind.result c.kind.ensures c.in_default.not-Attribute
+    c.in_default.not-Close
+    c.in_default.not-Text c.in_default.not-Error

@@ -1,32 +1,46 @@
-use Rattle.decode.proofs.Walking.{walk_laws}
+use Rattle.std.proofs.Common.{refl, sym, ◌∙◌}
+use Rattle.decode.proofs.Faults.{plain_none, value_start_in}
+use Rattle.decode.proofs.Walking.{walk_start, row_in, row_placed, row_room, walk_fault, walk_next, walk_passes, walk_unclosed}
 use Rattle.decode.proofs.drain.walk.Goals as goal
 
 pub loop-k-init : goal.loop-k-init
-loop-k-init c = search walk_laws
+loop-k-init c = record { walks = walk_start _ c.args.table.obeys; of_body = refl; clear = plain_none _ }
 
-pub plain_for-plain-requires : goal.plain_for-plain-requires
-plain_for-plain-requires c = search walk_laws
+pub invariant_of-plain : goal.invariant_of-plain
+invariant_of-plain c = record { clear = c.loop-k.invariant.clear }
 
-pub row_fault-requires : goal.row_fault-requires
-row_fault-requires c = search walk_laws
+pub at-plain-requires : goal.at-plain-requires
+at-plain-requires c =
+    rw c.loop-k.invariant.of_body (value_start_in c.args.table.obeys
+    (row_in c.loop-k.invariant.walks (rw c.len-n.ensures at c.loop-k-test.true)) c.value_start.ensures)
 
-pub returns-in-Is : goal.returns-in-Is
-returns-in-Is c = search walk_laws
+pub row_fault-requires-clause-placed : goal.row_fault-requires-clause-placed
+row_fault-requires-clause-placed c = rw c.top.ensures (row_placed c.loop-k.invariant.walks (rw c.len-n.ensures at c.loop-k-test.true))
 
-pub enter-depth-requires : goal.enter-depth-requires
-enter-depth-requires c = search walk_laws
+pub returns-in-Err : goal.returns-in-Err
+returns-in-Err c =
+    walk_fault c.loop-k.invariant.walks (rw c.len-n.ensures at c.loop-k-test.true) c.loop-k.open.size
+    (rw c.top.ensures at c.row_fault.ensures) c.in-Err.is
 
-pub overflow_add-k : goal.overflow_add-k
-overflow_add-k c = search walk_laws
-
-pub loop-k-smaller : goal.loop-k-smaller
-loop-k-smaller c = search walk_laws
+pub enter-requires : goal.enter-requires
+enter-requires c = λ z. row_room c.loop-k.invariant.walks (rw c.len-n.ensures at c.loop-k-test.true) (sym c.kind.ensures ∙ z)
 
 pub loop-k-preserved : goal.loop-k-preserved
-loop-k-preserved c = search walk_laws
+loop-k-preserved c =
+    record {
+      walks =
+          walk_next c.loop-k.invariant.walks (rw c.len-n.ensures at c.loop-k-test.true) c.loop-k.open.size
+          (rw c.top.ensures at c.row_fault.ensures) c.in_default.is
+          (rw c.kind.ensures at c.enter.ensures);
+      of_body = c.at-plain.ensures ∙ c.loop-k.invariant.of_body;
+      clear = c.at-plain.result.clear;
+    }
 
-pub returns-then-depth-eq0 : goal.returns-then-depth-eq0
-returns-then-depth-eq0 c = search walk_laws
+pub returns-then-open-eq0 : goal.returns-then-open-eq0
+returns-then-open-eq0 c =
+    walk_passes c.args.table.obeys c.loop-k.invariant.walks (rw c.len-n.ensures at c.loop-k-test.false) c.if-open-eq0.true
 
-pub returns : goal.returns
-returns c = search walk_laws
+pub returns-else-open-eq0 : goal.returns-else-open-eq0
+returns-else-open-eq0 c =
+    rw c.len-n.ensures
+    (walk_unclosed c.args.table.obeys c.loop-k.invariant.walks (rw c.len-n.ensures at c.loop-k-test.false) c.if-open-eq0.false)

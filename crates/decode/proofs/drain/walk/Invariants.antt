@@ -1,12 +1,13 @@
--- The start rows of the open elements give the stack, and the rows since the innermost one the names seen; the walk from row k on is the
--- whole walk.
-use Prim.Native.Nat.{◌-◌}
+use Rattle.std.proofs.Common.{◌≡◌}
+use Rattle.lists.specs.Characters.{ampersand}
+use Rattle.lists.specs.Find.{Clear}
 use Rattle.decode.proofs.Walking.{WalkAt}
 use Rattle.decode.proofs.drain.walk.Given as goal
 
 abbrev pub invariant-loop-k : goal.invariant-loop-k
 invariant-loop-k l =
-    WalkAt l.body l.rows l.n l.starts l.depth l.k l.plain.from l.plain.to
-
-abbrev pub decreases-loop-k : goal.decreases-loop-k
-decreases-loop-k l = l.n - l.k
+    record {
+      walks : WalkAt l.table.body.now l.table.rows.now l.open.rows l.open.depth l.k;
+      of_body : l.plain.0.now ≡ l.table.body.now;
+      clear : Clear l.plain.0.now ampersand l.plain.1.0 l.plain.1.1.0;
+    }

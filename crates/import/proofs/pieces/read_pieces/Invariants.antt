@@ -1,16 +1,13 @@
--- The entries up to k are done; a later one changes none of their numbers.
-use lib.ListN.{length}
-use Rattle.readings.specs.Call.{uploaded, calling}
-use Rattle.deserializer.specs.Call.{settings_by, shape_depth, shape_of}
-use Prim.Native.Nat.{◌-◌}
-use Rattle.import.proofs.Again.{Again}
+-- The entries below k are done; a later one changes nothing of theirs.
+use Rattle.std.proofs.Common.{length}
+use Rattle.opening.specs.Opening.{upload_of}
+use Rattle.import.specs.Import.{asking, SameBuffers}
+use Rattle.import.proofs.Again.{Onward}
 use Rattle.import.proofs.pieces.read_pieces.Given as goal
 
 abbrev pub invariant-loop-k : goal.invariant-loop-k
-invariant-loop-k l =
-    Again (shape_of l.kind) (uploaded l.body l.rows l.end) l.entries (calling l.sheet (settings_by l.flags l.max_depth) (shape_depth 1))
-    (length l.initial.piece_entries)
-    (length l.initial.piece_texts) l.count l.initial.numbers l.piece_entries l.piece_texts l.numbers l.k
-
-abbrev pub decreases-loop-k : goal.decreases-loop-k
-decreases-loop-k l = l.count - l.k
+invariant-loop-k l = record {
+  done : Onward l.asked.shape (upload_of l.upload) l.lent.entries.now (asking l.asked 1) (length l.initial.space.entries.now)
+      (length l.initial.space.texts.now) l.initial.outcomes l.outcomes l.k;
+  same : SameBuffers l.initial.space l.space;
+}

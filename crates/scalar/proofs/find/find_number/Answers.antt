@@ -1,9 +1,9 @@
--- A part is told by 0, a refusal by its own number.
-use Rattle.scalar.proofs.Searching.{part_laws}
+use Rattle.opening.specs.Opening.{upload_of}
+use Rattle.scalar.proofs.Searching.{number_some, number_none}
 use Rattle.scalar.proofs.find.find_number.Goals as goal
 
-pub returns-in-Part : goal.returns-in-Part
-returns-in-Part c = search part_laws
+pub returns-in-Ok : goal.returns-in-Ok
+returns-in-Ok c = number_some (upload_of c.args.table) c.args.name.now c.finding_of.ensures c.in-Ok.is
 
-pub returns-in-Refused : goal.returns-in-Refused
-returns-in-Refused c = search part_laws
+pub returns-in-Err : goal.returns-in-Err
+returns-in-Err c = number_none (upload_of c.args.table) c.args.name.now c.finding_of.ensures c.in-Err.is c.number.ensures

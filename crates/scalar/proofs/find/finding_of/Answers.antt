@@ -1,12 +1,15 @@
--- The opening's refusals come to 1 or 13 as the definition has it; a body that opens is searched from its root.
-use Rattle.scalar.proofs.Searching.{finding_laws}
+use Rattle.opening.specs.Opening.{upload_of}
+use Rattle.scalar.proofs.Searching.{find_table, find_rootless, find_found}
 use Rattle.scalar.proofs.find.finding_of.Goals as goal
 
-pub find_in-requires : goal.find_in-requires
-find_in-requires c = search finding_laws
+pub returns-in_default : goal.returns-in_default
+returns-in_default c = find_table (upload_of c.args.table) c.args.name.now c.in_default.ensures
 
-pub returns-in-Refused : goal.returns-in-Refused
-returns-in-Refused c = search finding_laws
+pub returns-in_default-root : goal.returns-in_default-root
+returns-in_default-root c =
+    find_rootless (upload_of c.args.table) c.args.name.now c.in-Some.valid c.in-Some.ensures (rw c.in_default-root.is at c.root.ensures)
 
-pub returns-in-Found : goal.returns-in-Found
-returns-in-Found c = search finding_laws
+pub returns : goal.returns
+returns c =
+    find_found (upload_of c.args.table) c.args.name.now c.in-Some.valid c.in-Some.ensures (rw c.in-Ok.is at c.root.ensures)
+    c.find_in.ensures

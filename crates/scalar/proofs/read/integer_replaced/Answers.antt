@@ -1,21 +1,14 @@
--- A text gets no longer by unescaping, so the array has room for all of it.
-use Prim.Native.Nat.{ℕ}
-use lib.ListN.{length-replicate}
-use Rattle.scalar.proofs.Reading.{integer_replaced_laws, integer_over}
-use borrow.Author.Rules.{rules}
+use Rattle.std.proofs.lemmas.Result.{err_from_is_err_and}
+use Rattle.readings.specs.Scalar.{integer_of}
+use Rattle.scalar.proofs.Reading.{value_bad, value_got}
 use Rattle.scalar.proofs.read.integer_replaced.Goals as goal
 
-pub slice_bounds-integer_of-end : goal.slice_bounds-integer_of-end
-slice_bounds-integer_of-end c = search integer_replaced_laws
+pub returns-in_err-measured : goal.returns-in_err-measured
+returns-in_err-measured c =
+    let p = err_from_is_err_and c.from_residual.result c.from_residual.ensures.1 in
+    rw (p.1, p.2) (value_bad integer_of c.args.text (rw c.in_err-measured.was at c.measure.ensures))
 
-pub bad_at-requires : goal.bad_at-requires
-bad_at-requires c = search integer_replaced_laws
-
-pub returns-in-Length : goal.returns-in-Length
-returns-in-Length c = search integer_replaced_laws
-
-pub returns-in-BadReference : goal.returns-in-BadReference
-returns-in-BadReference c = search integer_replaced_laws
-
-pub returns-in-NoRoom : goal.returns-in-NoRoom
-returns-in-NoRoom c = integer_over c.unescape.ensures (length-replicate {A = ℕ} 65536 0) (search rules) (search rules)
+pub returns : goal.returns
+returns c =
+    value_got integer_of c.args.text c.in_ok-measured.measured (rw c.in_ok-measured.was at c.measure.ensures) _ c.fill.ensures
+    c.integer_of.ensures

@@ -1,6 +1,15 @@
--- By the settings' strictness the text is the definition's, and the integer is read from that text.
-use Rattle.scalar.proofs.Reading.{read_laws}
+use Rattle.std.proofs.lemmas.Result.{err_from_is_err_and}
+use Rattle.opening.specs.Opening.{upload_of}
+use Rattle.scalar.proofs.Reading.{integer_read, integer_refused}
 use Rattle.scalar.proofs.read.read_integer.Goals as goal
 
+pub returns-in_err-text : goal.returns-in_err-text
+returns-in_err-text c =
+    let p = err_from_is_err_and c.from_residual.result c.from_residual.ensures.1 in
+    rw (p.1, p.2)
+    (integer_refused (upload_of c.args.table) c.args.settings c.args.depth (rw c.in_err-text.was at c.take_text.ensures))
+
 pub returns : goal.returns
-returns c = search read_laws
+returns c =
+    integer_read (upload_of c.args.table) c.args.settings c.args.depth c.in_ok-text.text (rw c.in_ok-text.was at c.take_text.ensures)
+    c.integer_in.ensures

@@ -1,6 +1,15 @@
--- The text taken is the reading's text, so the buffer gets what the reading puts there.
-use Rattle.scalar.proofs.Reading.{read_laws}
+use Rattle.std.proofs.lemmas.Result.{err_from_is_err_and}
+use Rattle.opening.specs.Opening.{upload_of}
+use Rattle.scalar.proofs.Reading.{string_read, string_refused}
 use Rattle.scalar.proofs.read.read_string.Goals as goal
 
+pub returns-in_err-text : goal.returns-in_err-text
+returns-in_err-text c =
+    let p = err_from_is_err_and c.from_residual.result c.from_residual.ensures.1 in
+    rw (p.1, p.2)
+    (string_refused (upload_of c.args.table) c.args.settings c.args.depth (rw c.in_err-text.was at c.take_text.ensures) c.args.out.now)
+
 pub returns : goal.returns
-returns c = search read_laws
+returns c =
+    string_read (upload_of c.args.table) c.args.settings c.args.depth c.in_ok-text.text (rw c.in_ok-text.was at c.take_text.ensures)
+    c.copy.ensures

@@ -1,9 +1,8 @@
--- Where it fits it is stored from place 0 on, so the text stands at the front and the rest is as before.
-use Rattle.scalar.proofs.Texts.{string_laws}
+use Rattle.scalar.proofs.Texts.{string_put, string_none}
 use Rattle.scalar.proofs.text.string_of.Goals as goal
 
-pub returns-then-text-out : goal.returns-then-text-out
-returns-then-text-out c = search string_laws
+pub returns-then-n-out : goal.returns-then-n-out
+returns-then-n-out c = string_put c.args.text.now c.if-n-out.true c.copy_from_slice.ensures.after
 
-pub returns : goal.returns
-returns c = search string_laws
+pub returns-else-n-out : goal.returns-else-n-out
+returns-else-n-out c = string_none c.args.text.now c.if-n-out.false

@@ -1,10 +1,12 @@
--- The groups of the members before i are written; no child is in two, so the bytes used stay in 32 bits.
-use Prim.Native.Nat.{◌-◌}
-use Rattle.structure.proofs.Gathering.{GroupsAt}
+-- The groups of the members before i are written; those of the others are still to come.
+use Rattle.document.specs.Scope.{children_of}
+use Rattle.readings.specs.Structure.{group_plan}
+use Rattle.decode.specs.View.{view_of}
+use Rattle.decode.specs.Element.{child_of}
+use Rattle.structure.specs.Structure.{body_of}
+use Rattle.structure.proofs.Members.{MembersAt}
 use Rattle.structure.proofs.groups.write_groups.Given as goal
 
 abbrev pub invariant-loop-i : goal.invariant-loop-i
-invariant-loop-i l = GroupsAt l.body l.kept l.n l.initial.entries l.initial.texts l.initial.held l.entries l.texts l.held l.i
-
-abbrev pub decreases-loop-i : goal.decreases-loop-i
-decreases-loop-i l = l.n - l.i
+invariant-loop-i l =
+    MembersAt (group_plan (body_of l.root) (view_of l.root.view) l.sheet (children_of (child_of l.root))) l.sheet l.initial.out l.out l.i

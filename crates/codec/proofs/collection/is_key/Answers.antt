@@ -1,6 +1,0 @@
--- What is compared is the name the sheet has for keys, or `key` where it has none.
-use Rattle.codec.proofs.Collections.{collection_laws}
-use Rattle.codec.proofs.collection.is_key.Goals as goal
-
-pub returns : goal.returns
-returns c = search collection_laws

@@ -1,0 +1,256 @@
+-- What is known of the rows that a view sees, by the rules of its table; the tokens that are left from a row on, and one row on.
+use Prim.Native.Nat.{ℕ, zero, suc, ◌+◌, ◌-◌, ◌*◌, ◌/◌, ◌≤◌, ◌<◌}
+use mathlib.Core.Path.{◌≡◌, refl, sym, ◌∙◌, ap}
+use mathlib.Core.Bool.{Bool, true, false}
+use mathlib.Core.List.{List, [], ◌∷◌}
+use native.Mathlib.Omega.{arith}
+use borrow.Author.Tests.{leb-true, leb-false}
+use lib.Dec.{eqb, leb}
+use lib.ListN.{length, get_or, take}
+use Rattle.lists.specs.Tests.{pick}
+use Rattle.lists.proofs.Tests.{false_true, less_is}
+use Rattle.table.specs.Row.{Row, Name, Tok, bad, tok_as, toks_of}
+use Rattle.table.specs.Rules.{closes_element, in_tag_only, open_count, Place, EachRow, after}
+use Rattle.table.specs.Flat.{row_at, rows_from}
+use Rattle.table.specs.Rows.{InTable, Readable, RulesAt, Obeys, name_at, value_at, tok_at}
+use Rattle.table.specs.Kinds.{kind_number}
+use Rattle.table.specs.declared.kinds.Kind.{Kind as Kinds}
+use Rattle.table.proofs.Test.{first}
+use Rattle.table.proofs.Valid.{each_row, few_bytes, few_rows, readable, rules_at, error_last}
+use Rattle.table.proofs.Flat.{here_or_later, unroll, rolled_out}
+use Rattle.table.proofs.Classes.{Kind, of_start, of_attr, of_gt, of_close, of_slash, of_matter, of_error, kind_of_lem}
+use Rattle.document.specs.declared.Depth.{Depth}
+use Rattle.document.specs.Reader.{depth, depth_after, Scope, ends_at}
+use Rattle.document.specs.Tags.{may_stand, in_tag_after, Tags, no_token, token}
+use Rattle.document.proofs.Laws.Tags.{rows_tags}
+use Rattle.decode.specs.declared.place.Cursor.{Cursor}
+use Rattle.decode.specs.declared.view.View.{View}
+use Rattle.decode.specs.Place.{Outside}
+use Rattle.decode.specs.Element.{toks_from}
+
+-- ---- rows by number
+pub take_rows : (t : List ℕ) (s k m : ℕ) → k ≤ m → take k (rows_from t s m) ≡ rows_from t s k
+take_rows t s zero m h = refl
+take_rows t s (suc k) zero h = absurd (omega arith)
+take_rows t s (suc k) (suc m) h = ap {B = List Row} (λ l. row_at t s ∷ l) (take_rows t (suc s) k m (omega arith))
+
+-- ---- the tokens that are left
+pub toks_next : (body t : List ℕ) (n k : ℕ) → k < n → toks_from body t n k ≡ tok_at body t k ∷ toks_from body t n (k + 1)
+toks_next body t n k h = ap (toks_of body) (unroll t k n h)
+
+pub toks_none : (body t : List ℕ) (n k : ℕ) → n ≤ k → toks_from body t n k ≡ []
+toks_none body t n k h = ap (toks_of body) (rolled_out t k n h)
+
+-- the token of row k, by its kind
+pub tok_is : (body t : List ℕ) (k : ℕ) {kind : ℕ} → kind ≡ get_or t (k * 8 + 0) 0 → tok_at body t k ≡ tok_as kind (name_at body t k)
+    (value_at body t k)
+tok_is body t k f = rw (← f)
+
+-- start tags are in order: the next token may stand there, and those after it are in order
+pub tags_next : (body t : List ℕ) (n k : ℕ) {b : Bool} → Tags b (toks_from body t n k) → k < n
+    → (may_stand (tok_at body t k) b ≡ true) × Tags (in_tag_after (tok_at body t k) b) (toks_from body t n (k + 1))
+tags_next body t n k {b} g h = go (rw (toks_next body t n k h) at g)
+  where
+    go : {u : Tok} {l : List Tok} → Tags b (u ∷ l) → (may_stand u b ≡ true) × Tags (in_tag_after u b) l
+    go (token m r) = (m, r)
+
+-- ---- n rows can be seen: each obeys its rules, a token error is the last, and from each on start tags are in order
+pub record Tagged (body t : List ℕ) (n k : ℕ) : Type 0 where
+  pub in_tag : Bool
+  pub tags : Tags in_tag (toks_from body t n k)
+
+pub record Sees (body t : List ℕ) (n : ℕ) : Type 0 where
+  pub rows : n * 8 ≤ length t
+  pub readable : Readable body t
+  pub each : (k : ℕ) → k < n → RulesAt body t k
+  pub last : (k : ℕ) → k < n → get_or t (k * 8 + 0) 0 ≡ 8 → n ≤ k + 1
+  pub tagged : (k : ℕ) → k ≤ n → Tagged body t n k
+  pub small : length body ≤ 65536
+  pub few : n ≤ 8192
+
+pub row_seen : {body t : List ℕ} {n k : ℕ} → Sees body t n → k < n → InTable t k
+row_seen q h = record { row = omega (arith, q.rows) }
+
+-- the rules of row k, and of those after it
+record EachAt (body t : List ℕ) (k m : ℕ) : Type 0 where
+  place : Place
+  each : EachRow body place (rows_from t k m)
+
+each_at : (body t : List ℕ) {p : Place} (s m k : ℕ) → EachRow body p (rows_from t s m) → s ≤ k → k ≤ s + m → EachAt body t k (s + m - k)
+each_at body t {p} s zero k e l u =
+    let y : s + 0 - k ≡ 0 = omega arith in rw y (record { place = p; each = e })
+each_at body t {p} s (suc m) k e l u =
+    here_or_later (λ i. EachAt body t i (s + suc m - i)) s k l here
+    (λ h. later (each_at body t {p = after p (row_at t s)} (suc s) m k (first e).1 h (omega arith)))
+  where
+    here : EachAt body t s (s + suc m - s)
+    here = let z : s + suc m - s ≡ suc m = omega arith in rw z (record { place = p; each = e })
+
+    later : EachAt body t k (suc s + m - k) → EachAt body t k (s + suc m - k)
+    later x = let z : suc s + m ≡ s + suc m = omega arith in rw z at x
+
+-- the tokens of the first rows have their tags in order if those of all have
+tags_front : (body t : List ℕ) (n s m : ℕ) {b : Bool} → n ≤ m → Tags b (toks_of body (rows_from t s m))
+    → Tags b (toks_of body (rows_from t s n))
+tags_front body t zero s m h g = no_token
+tags_front body t (suc n) s zero h g = absurd (omega arith)
+tags_front body t (suc n) s (suc m) h (token e g) = token e (tags_front body t n (suc s) m (omega arith) g)
+
+pub sees : {body t : List ℕ} {final : ℕ} → Obeys body t final → (n : ℕ) → n * 8 ≤ length t → Sees body t n
+sees {body} {t} o n h =
+    record {
+      rows = h;
+      readable = readable o;
+      each = λ k l. rules_at o (record { row = omega arith });
+      last = λ k l q. let z = error_last o (record { row = omega arith }) q in omega (arith, z, h);
+      tagged =
+          λ k l. let e = at_row k (omega arith) in
+          record { in_tag = e.place.in_tag; tags = tags_front body t (n - k) k (length t / 8 - k) (omega arith) (rows_tags e.each) };
+      small = few_bytes o;
+      few = omega (arith, few_rows o);
+    }
+  where
+    at_row : (k : ℕ) → k ≤ length t / 8 → EachAt body t k (length t / 8 - k)
+    at_row k l =
+        let z : 0 + length t / 8 ≡ length t / 8 = omega arith in
+        rw z at (each_at body t 0 (length t / 8) k (each_row o) (omega arith) (omega arith))
+
+pub sees_of : (v : View) → Sees v.table.body.now v.table.rows.now v.count
+sees_of v = sees v.table.obeys v.count v.seen
+
+-- ---- kinds of one number are the same
+kind_from : ℕ → Kinds
+kind_from zero = Kinds.Error
+kind_from (suc zero) = Kinds.Start
+kind_from (suc (suc zero)) = Kinds.Attribute
+kind_from (suc (suc (suc zero))) = Kinds.Gt
+kind_from (suc (suc (suc (suc zero)))) = Kinds.Close
+kind_from (suc (suc (suc (suc (suc zero))))) = Kinds.Slash
+kind_from (suc (suc (suc (suc (suc (suc zero)))))) = Kinds.Text
+kind_from (suc (suc (suc (suc (suc (suc (suc zero))))))) = Kinds.Misc
+kind_from (suc (suc (suc (suc (suc (suc (suc (suc k)))))))) = Kinds.Error
+
+kind_back : (kind : Kinds) → kind_from (kind_number kind) ≡ kind
+unfolding kind_from
+kind_back Kinds.Start = refl
+kind_back Kinds.Attribute = refl
+kind_back Kinds.Gt = refl
+kind_back Kinds.Close = refl
+kind_back Kinds.Slash = refl
+kind_back Kinds.Text = refl
+kind_back Kinds.Misc = refl
+kind_back Kinds.Error = refl
+
+pub kind_same : (a b : Kinds) → kind_number a ≡ kind_number b → a ≡ b
+kind_same a b e = sym (kind_back a) ∙ (ap kind_from e ∙ kind_back b)
+
+-- ---- the depth after a row, by its kind
+pub depth_open : {m : Name} {v : List ℕ} {kind : ℕ} {u : Tok} → Kind m v kind u → (d : ℕ)
+    → depth_after u (depth d) ≡ depth (open_count d kind)
+depth_open of_start d = refl
+depth_open of_attr d = refl
+depth_open of_gt d = refl
+depth_open of_close d = ap depth (less_is d)
+depth_open of_slash d = ap depth (less_is d)
+depth_open (of_matter w) d = rw (w.loose.start, w.loose.closing)
+depth_open (of_error w) d = rw (w.loose.start, w.loose.closing)
+
+-- it is no greater than the number of rows before it
+pub open_low : (d kind k : ℕ) → d ≤ k → open_count d kind ≤ k + 1
+open_low d kind k h = go (eqb kind 1) (closes_element kind)
+  where
+    go : (a b : Bool) → pick a (suc d) (pick b (d - 1) d) ≤ k + 1
+    go true b = omega arith
+    go false true = omega arith
+    go false false = omega arith
+
+-- no close tag ends no scope
+pub no_end : {m : Name} {v : List ℕ} {kind : ℕ} {u : Tok} → Kind m v kind u → (kind ≡ 4 → ⊥) → (s : Scope) (d : Depth)
+    → false ≡ ends_at s d u
+no_end of_start a s d = refl
+no_end of_attr a s d = refl
+no_end of_gt a s d = refl
+no_end of_close a s d = absurd (a refl)
+no_end of_slash a s d = refl
+no_end (of_matter w) a s d = refl
+no_end (of_error w) a s d = refl
+
+-- ---- outside of start tags, by the tokens that are left and by the next row
+pub record Stands (body t : List ℕ) (n d k : ℕ) : Type 0 where
+  pub high : k ≤ n
+  pub low : d ≤ k
+  pub tags : Tags false (toks_from body t n k)
+
+-- the first row does
+pub fresh : (v : View) → Stands v.table.body.now v.table.rows.now v.count 0 0
+fresh v =
+    let n = v.count in
+    let m = length v.table.rows.now / 8 in
+    let z : n - 0 ≡ n = omega arith in
+    let g = tags_front v.table.body.now v.table.rows.now n 0 m (omega (arith, v.seen)) (rows_tags (each_row v.table.obeys)) in
+    record { high = omega arith; low = omega arith; tags = rw z g }
+
+-- a token outside of a start tag is of no kind that comes in one alone
+not_in_tag : {m : Name} {v : List ℕ} {kind : ℕ} {u : Tok} → Kind m v kind u → may_stand u false ≡ true → in_tag_only kind ≡ false
+not_in_tag of_start e = refl
+not_in_tag of_attr e = false_true e
+not_in_tag of_gt e = false_true e
+not_in_tag of_close e = refl
+not_in_tag of_slash e = false_true e
+not_in_tag (of_matter w) e = w.loose.in_tag
+not_in_tag (of_error w) e = w.loose.in_tag
+
+-- one in a start tag that is of none is a token error
+error_in_tag : {m : Name} {v : List ℕ} {kind : ℕ} {u : Tok} → Kind m v kind u → may_stand u true ≡ true → in_tag_only kind ≡ false → u ≡ bad
+error_in_tag of_start e f = false_true e
+error_in_tag of_attr e f = false_true (sym f)
+error_in_tag of_gt e f = false_true (sym f)
+error_in_tag of_close e f = false_true e
+error_in_tag of_slash e f = false_true (sym f)
+error_in_tag (of_matter w) e f = false_true e
+error_in_tag (of_error w) e f = refl
+
+error_number : {m : Name} {v : List ℕ} {kind : ℕ} {u : Tok} → Kind m v kind u → u ≡ bad → 1 ≤ kind → kind ≤ 8 → kind ≡ 8
+error_number of_start q l h = let z : ◌≡◌ {A = ℕ} 0 1 = cc in absurd (omega arith)
+error_number of_attr q l h = let z : ◌≡◌ {A = ℕ} 0 1 = cc in absurd (omega arith)
+error_number of_gt q l h = let z : ◌≡◌ {A = ℕ} 0 1 = cc in absurd (omega arith)
+error_number of_close q l h = let z : ◌≡◌ {A = ℕ} 0 1 = cc in absurd (omega arith)
+error_number of_slash q l h = let z : ◌≡◌ {A = ℕ} 0 1 = cc in absurd (omega arith)
+error_number (of_matter w) q l h = let z : ◌≡◌ {A = ℕ} 0 1 = cc in absurd (omega arith)
+error_number (of_error w) q l h = w.eight l h
+
+module _ {body t : List ℕ} {n : ℕ} (q : Sees body t n) where
+  kind_at : (k : ℕ) → Kind (name_at body t k) (value_at body t k) (get_or t (k * 8 + 0) 0) (tok_at body t k)
+  kind_at k = kind_of_lem (get_or t (k * 8 + 0) 0) (name_at body t k) (value_at body t k)
+
+  -- a token error in row k is its last
+  pub error_end : (k : ℕ) → k < n → tok_at body t k ≡ bad → n ≤ k + 1
+  error_end k h e =
+      let r = (q.each k h).rules.known_kind in
+      q.last k h (error_number (kind_at k) e r.0 r.1)
+
+  pub stands : {c : Cursor} → Outside t n c → Stands body t n c.depth.0 c.row
+  stands {c} o = record { high = o.at.high; low = o.at.low; tags = go (q.tagged c.row o.at.high).in_tag (q.tagged c.row o.at.high).tags }
+    where
+      -- in a start tag there is a token error, the last row
+      inside : {b : Bool} → b ≡ true → Tags b (toks_from body t n c.row) → c.row < n → Tags false (toks_from body t n c.row)
+      inside {b} e g h =
+          let x = tags_next body t n c.row g h in
+          let y = error_in_tag (kind_at c.row) (rw e at x.0) (o.out h) in
+          let z = toks_none body t n (c.row + 1) (error_end c.row h y) in
+          rw (toks_next body t n c.row h, y, z) (token refl no_token)
+
+      more : (u : Bool) → leb (c.row + 1) n ≡ u → Tags true (toks_from body t n c.row) → Tags false (toks_from body t n c.row)
+      more true e g = inside refl g (omega (arith, leb-true (c.row + 1) n e))
+      more false e g = rw (toks_none body t n c.row (omega (arith, leb-false (c.row + 1) n e))) no_token
+
+      go : (b : Bool) → Tags b (toks_from body t n c.row) → Tags false (toks_from body t n c.row)
+      go false g = g
+      go true g = more (leb (c.row + 1) n) refl g
+
+  pub outside : {c : Cursor} → Stands body t n c.depth.0 c.row → Outside t n c
+  outside {c} s =
+      record {
+        at = record { high = s.high; low = s.low };
+        out = λ h. not_in_tag (kind_at c.row) (tags_next body t n c.row s.tags h).0;
+      }

@@ -1,0 +1,182 @@
+-- What elements, places and pieces stand for in `document`, and what each method of an element answers.
+use Rattle.std.specs.Prelude.{ℕ, zero, suc, ◌+◌, ◌-◌, ◌*◌, ◌≤◌, ◌<◌, ◌≡◌, Bool, true, false, eqb, get_or, List, [], ◌∷◌, length, Option}
+use Rattle.std.specs.Prelude.{Some, None, Result, Ok, Err}
+use Rattle.std.proofs.Math.Option as math
+use Rattle.lists.specs.Tests.{pick}
+use Rattle.reference.specs.Text.{bytes, unescaped, meaning}
+use Rattle.table.specs.Row.{Tok, toks_of}
+use Rattle.table.specs.Flat.{rows_from}
+use Rattle.table.specs.Names.{name_matches}
+use Rattle.table.specs.Rows.{name_at, value_at}
+use Rattle.document.specs.Reader.{Reader, reader, depth, Scope, StartEl, blank, found, gone, next}
+use Rattle.document.specs.Reader as doc
+use Rattle.document.specs.Scope.{Child, scope_of, shut, skip_from, next_from, dropped, leave, root_of, piece_end, piece_of}
+use Rattle.document.specs.declared.part.Piece.{Piece}
+use Rattle.document.specs.declared.part.Text.{Text}
+use Rattle.decode.specs.declared.place.Cursor.{Cursor}
+use Rattle.decode.specs.declared.place.Past.{Past}
+use Rattle.decode.specs.declared.place.Start.{Start}
+use Rattle.decode.specs.declared.view.View.{View}
+use Rattle.decode.specs.declared.element.Element.{Element}
+use Rattle.decode.specs.Place.{is_bytes, Outside, EndedAt}
+use Rattle.decode.specs.View.{view_of}
+
+-- ---- what row numbers stand for, of a body and the first n rows of a table
+-- the tokens from row k on
+abbrev pub toks_from : List ℕ → List ℕ → ℕ → ℕ → List Tok
+toks_from body t n k = toks_of body (rows_from t k (n - k))
+
+abbrev pub reader_at : List ℕ → List ℕ → ℕ → Cursor → Reader
+reader_at body t n c = reader c.depth c.row (toks_from body t n c.row)
+
+abbrev pub past_at : List ℕ → List ℕ → ℕ → Past → doc.Past
+past_at body t n p = record { ended = p.ended; reader = reader_at body t n p.at }
+
+-- an attribute, its value unescaped; and those of m rows from row k on
+abbrev pub attribute_at : List ℕ → List ℕ → ℕ → doc.Attribute
+attribute_at body t k = record { name = name_at body t k; value = meaning (unescaped (value_at body t k)) }
+
+abbrev pub attributes_from : List ℕ → List ℕ → ℕ → ℕ → List doc.Attribute
+attributes_from body t k zero = []
+attributes_from body t k (suc m) = attribute_at body t k ∷ attributes_from body t (suc k) m
+
+-- a start element: its attributes are the rows between its row and the end of its tag
+abbrev pub start_at : List ℕ → List ℕ → Start → StartEl
+start_at body t s =
+    record {
+      name = name_at body t s.row;
+      attributes = attributes_from body t (s.row + 1) (s.end - (s.row + 1));
+      closed = s.closed;
+      depth = s.depth;
+      row = s.row;
+    }
+
+-- ---- and of a view
+abbrev pub reader_of : View → Cursor → Reader
+reader_of v c = reader_at v.table.body.now v.table.rows.now v.count c
+
+abbrev pub past_of : View → Past → doc.Past
+past_of v p = past_at v.table.body.now v.table.rows.now v.count p
+
+-- an element, and the reader at its content
+abbrev pub child_of : Element → Child
+child_of e = record { start = start_at e.view.table.body.now e.view.table.rows.now e.start; inner = reader_of e.view e.at }
+
+abbrev pub next_of : View → Result Element Past → doc.Next
+next_of v (Ok e) = let c = child_of e in found c.start c.inner
+next_of v (Err p) = gone (past_of v p)
+
+-- ---- the root
+abbrev pub root_at : Option Element → math.Option Child
+root_at None = math.none
+root_at (Some e) = math.some (child_of e)
+
+-- an element is one of a view
+abbrev pub InView : View → Option Element → Type 0
+InView v None = Unit {0}
+InView v (Some e) = e.view ≡ v
+
+pub record RootIs (v : View) (r : Option Element) : Type 0 where
+  pub is : root_at r ≡ root_of (toks_of v.table.body.now (view_of v).rows)
+  pub view : InView v r
+
+-- ---- the children of an element: the next from where the reader stands; one that ended in `/>` has none
+abbrev pub next_child : Child → doc.Next
+next_child c = let inside = next_from (scope_of c.start) c.inner in pick c.start.closed (gone (shut c.inner)) inside
+
+-- a search of a view from row k on found an element, after that row; or it ended at no earlier place
+pub record FoundIn (v : View) (k : ℕ) (c : Element) : Type 0 where
+  pub view : c.view ≡ v
+  pub since : k ≤ c.start.row
+  pub past : c.start.end < c.at.row
+
+pub record GoneIn (v : View) (k : ℕ) (p : Past) : Type 0 where
+  pub ended : EndedAt v.table.rows.now v.count p
+  pub since : k ≤ p.at.row
+
+abbrev pub Met : View → ℕ → Result Element Past → Type 0
+Met v k (Ok c) = FoundIn v k c
+Met v k (Err p) = GoneIn v k p
+
+pub record NextIs (e : Element) (r : Result Element Past) : Type 0 where
+  pub is : next_of e.view r ≡ next_child (child_of e)
+  pub met : Met e.view e.at.row r
+
+-- ---- the reading of a start tag
+-- whether row k is an attribute that unescapes
+abbrev pub good_attribute : List ℕ → List ℕ → ℕ → Bool
+good_attribute body t k = pick (eqb (get_or t (k * 8 + 0) 0) 2) (is_bytes (unescaped (value_at body t k))) false
+
+-- so far the rows after row i are
+pub record TagEnd (v : View) (i k : ℕ) : Type 0 where
+  pub low : i < k
+  pub high : k ≤ v.count
+  pub good : (j : ℕ) → i < j → j < k → good_attribute v.table.body.now v.table.rows.now j ≡ true
+  pub stops : k < v.count → good_attribute v.table.body.now v.table.rows.now k ≡ false
+
+-- the element of a view, by its start and its place
+pub record FoundAt (v : View) (s : Start) (c : Cursor) (r : Element) : Type 0 where
+  pub view : r.view ≡ v
+  pub start : r.start ≡ s
+  pub at : r.at ≡ c
+
+-- a start tag begins in row k, at depth d
+pub record StartsAt (v : View) (d k : ℕ) : Type 0 where
+  pub at : Outside v.table.rows.now v.count (record { row = k; depth = depth d })
+  pub here : k < v.count
+  pub starts : get_or v.table.rows.now (k * 8 + 0) 0 ≡ 1
+
+-- the search from there on, whatever the scope
+pub record TagIs (v : View) (d k : ℕ) (r : Result Element Past) : Type 0 where
+  pub is : (s : Scope) → next_of v r ≡ next s blank (depth d) k (toks_from v.table.body.now v.table.rows.now v.count k)
+  pub met : Met v k r
+
+-- ---- the skip to the end of an element, from a place
+pub record SkipIs (e : Element) (c : Cursor) (r : Past) : Type 0 where
+  pub is : past_of e.view r ≡ skip_from (scope_of (child_of e).start) (reader_of e.view c)
+  pub stands : Outside e.view.table.rows.now e.view.count r.at
+  pub later : c.row ≤ r.at.row
+
+-- ---- an element that is dropped, and one that is left after its children
+pub record DroppedIs (e : Element) (r : Past) : Type 0 where
+  pub is : past_of e.view r ≡ dropped (child_of e)
+  pub stands : Outside e.view.table.rows.now e.view.count r.at
+  pub later : e.at.row ≤ r.at.row
+
+pub record LeftIs (e : Element) (p : Past) (r : Cursor) : Type 0 where
+  pub is : reader_of e.view r ≡ leave (child_of e) (past_of e.view p)
+  pub stands : Outside e.view.table.rows.now e.view.count r
+  pub later : p.at.row ≤ r.row
+
+-- ---- the first attribute that a pattern asks for (`StartEl::attr`)
+unfoldable pub first_named : List ℕ → List doc.Attribute → math.Option (List ℕ)
+first_named pattern [] = math.none
+first_named pattern (a ∷ l) = pick (name_matches a.name pattern) (math.some a.value) (first_named pattern l)
+
+-- its value unescapes: that was seen as the start tag was read
+abbrev pub attribute_value : Option Text → math.Option (List ℕ)
+attribute_value None = math.none
+attribute_value (Some t) = math.some (meaning (unescaped t.bytes.now))
+
+abbrev pub Unescapes : Option Text → Type 0
+Unescapes None = Unit {0}
+Unescapes (Some t) = unescaped t.bytes.now ≡ bytes (meaning (unescaped t.bytes.now))
+
+pub record AttributeIs (e : Element) (pattern : List ℕ) (r : Option Text) : Type 0 where
+  pub is : attribute_value r ≡ first_named pattern (child_of e).start.attributes
+  pub value : Unescapes r
+
+-- the value of row k, as a text
+pub record ValueIs (body t : List ℕ) (k : ℕ) (r : Text) : Type 0 where
+  pub from : r.from ≡ get_or t (k * 8 + 5) 0
+  pub bytes : r.bytes.now ≡ value_at body t k
+
+-- ---- pieces: the definition's, which lies in the body
+pub record PieceIs (e : Element) (r : Piece) : Type 0 where
+  pub is : r ≡ piece_of e.view.table.body.now (view_of e.view) (child_of e)
+  pub inside : r.start + r.len ≤ length e.view.table.body.now
+
+-- where it ends
+pub record EndIs (e : Element) (p : Past) (r : ℕ) : Type 0 where
+  pub is : r ≡ piece_end (view_of e.view) (past_of e.view p)
+  pub within : r ≤ length e.view.table.body.now

@@ -1,0 +1,40 @@
+// The operations on a text.
+use anyhow::{Context, Result};
+use falzheod::scalars::falzheod_text_integer;
+use reference::UnescapeError;
+
+// As long as the longest text here; a result is never longer than its text.
+const ROOM: usize = 64;
+
+/// The text, whether its references are valid, and what it is without them; a refusal by 01's number, with the place of the failing `&`.
+pub fn print_references(rt: &(impl Print + AllocGlobal), text: &str) -> Result<()> {
+    print!(rt; "{text} validate: ")?;
+    match unescape::validate_references(text.as_bytes()) {
+        Ok(()) => print!(rt; "valid")?,
+        Err(bad) => print!(rt; "7 at {}", bad.at)?,
+    }
+    print!(rt; ", unescape: ")?;
+    let mut out = [0; ROOM];
+    match unescape::unescape(text.as_bytes(), &mut out) {
+        Ok(n) => {
+            let bytes = out.get(..n).context("a result longer than its room")?;
+            println!(rt; "{}", hex::encode(rt.alloc(), bytes)?)?
+        }
+        Err(UnescapeError::BadReference { at }) => println!(rt; "7 at {at}")?,
+        Err(UnescapeError::NoRoom) => println!(rt; "10")?,
+    }
+    Ok(())
+}
+
+/// The text, the number of its integer reading, and whether the value is then the one expected.
+pub fn print_integer(rt: &impl Print, text: &str, expected: i32) -> Result<()> {
+    let mut value = 0;
+    let number = falzheod_text_integer(text.as_bytes(), &mut value);
+    let remark = if value == expected {
+        ", value as expected"
+    } else {
+        ""
+    };
+    println!(rt; "{text} integer: {number}{remark}")?;
+    Ok(())
+}

@@ -1,0 +1,77 @@
+-- What the one fact of a table that obeys the rules says of it, by row numbers.
+use Prim.Native.Nat.{ℕ, zero, suc, ◌+◌, ◌*◌, ◌/◌, ◌≤◌, ◌<◌}
+use mathlib.Core.Path.{◌≡◌, sym, ◌∙◌}
+use mathlib.Core.Bool.{Bool, true}
+use mathlib.Core.List.{List}
+use native.Mathlib.Omega.{arith}
+use lib.ListN.{length, get_or}
+use Rattle.lists.specs.Decide.{is_yes}
+use Rattle.lists.proofs.Decide.{yes_of}
+use Rattle.table.specs.Row.{rows_of}
+use Rattle.table.specs.Rules.{Place, EachRow, row, at_first, TableRules}
+use Rattle.table.specs.Kinds.{IsKind}
+use Rattle.table.specs.Test.{dec_table}
+use Rattle.table.specs.Flat.{rows_from, SpansIn}
+use Rattle.table.specs.Rows.{InTable, Readable, RulesAt, Obeys}
+use Rattle.table.proofs.Flat.{rows_same, rows_whole, length_rows, here_or_later, spans_in}
+
+-- ---- of m rows from row s on
+module _ (body t : List ℕ) where
+  pub rules_from : (m s k : ℕ) {p : Place} → EachRow body p (rows_from t s m) → s ≤ k → k < s + m → RulesAt body t k
+  rules_from zero s k e l u = absurd (omega arith)
+  rules_from (suc m) s k {p} (row o e) l u =
+      here_or_later (RulesAt body t) s k l (record { place = p; rest = rows_from t (suc s) m; rules = o })
+      (λ h. rules_from m (suc s) k e h (omega arith))
+
+  -- a token error is the last
+  pub error_from : (m s k : ℕ) {p : Place} → EachRow body p (rows_from t s m) → s ≤ k → k < s + m → get_or t (k * 8 + 0) 0 ≡ 8
+      → s + m ≡ k + 1
+  error_from zero s k e l u = absurd (omega arith)
+  error_from (suc m) s k (row o e) l u =
+      here_or_later (λ k. get_or t (k * 8 + 0) 0 ≡ 8 → s + suc m ≡ k + 1) s k l
+      (λ q. omega (arith, o.error_last q, length_rows t (suc s) m))
+      (λ h q. omega (arith, error_from m (suc s) k e h (omega arith) q))
+
+-- ---- what the test's answer says, for who calls it
+module _ (body t : List ℕ) (final : ℕ) {r : Bool} (e : r ≡ is_yes (dec_table body t final)) where
+  pub obeyed : r ≡ true → TableRules body t final
+  obeyed y = yes_of (dec_table body t final) (sym y ∙ e)
+
+-- ---- the table
+module _ {body t : List ℕ} {final : ℕ} (o : Obeys body t final) where
+  pub table_rules : TableRules body t final
+  table_rules = yes_of (dec_table body t final) (sym o.is)
+
+  pub all_rows : rows_of t ≡ rows_from t 0 (length t / 8)
+  all_rows = rows_same (length t / 8) t (rows_whole t table_rules.whole)
+
+  pub each_row : EachRow body at_first (rows_from t 0 (length t / 8))
+  each_row = rw all_rows at table_rules.rules.each
+
+  pub few_rows : length t / 8 ≤ 8192
+  few_rows = omega (arith, rw (all_rows, length_rows t 0 (length t / 8)) at table_rules.rules.few_rows)
+
+  pub few_bytes : length body ≤ 65536
+  few_bytes = table_rules.rules.few_bytes
+
+  pub end_within : final ≤ length body
+  end_within = table_rules.rules.within
+
+  -- the spans of each row lie in the body
+  pub readable : Readable body t
+  readable = record { each = λ k h. spans_in table_rules k (omega arith) }
+
+  module _ {k : ℕ} (i : InTable t k) where
+    pub rules_at : RulesAt body t k
+    rules_at = rules_from body t (length t / 8) 0 k each_row (omega arith) (omega (arith, i.row))
+
+    -- it has a kind
+    pub kind_known : IsKind (get_or t (k * 8 + 0) 0)
+    kind_known = rules_at.rules.known_kind
+
+    pub spans_within : SpansIn body t k
+    spans_within = readable.each k i.row
+
+    -- a token error is the last row
+    pub error_last : get_or t (k * 8 + 0) 0 ≡ 8 → length t / 8 ≡ k + 1
+    error_last q = omega (arith, error_from body t (length t / 8) 0 k each_row (omega arith) (omega (arith, i.row)) q)
