@@ -162,14 +162,32 @@ abbrev pub Unescapes : Option Text → Type 0
 Unescapes None = Unit {0}
 Unescapes (Some t) = unescaped t.bytes.now ≡ bytes (meaning (unescaped t.bytes.now))
 
-pub record AttributeIs (e : Element) (pattern : List ℕ) (r : Option Text) : Type 0 where
-  pub is : attribute_value r ≡ first_named pattern (child_of e).start.attributes
-  pub value : Unescapes r
-
 -- the value of row k, as a text
 pub record ValueIs (body t : List ℕ) (k : ℕ) (r : Text) : Type 0 where
   pub from : r.from ≡ get_or t (k * 8 + 5) 0
   pub bytes : r.bytes.now ≡ value_at body t k
+
+-- by row: a pattern asks for the name of none of the rows from one on and before another
+pub record NoMatch (body t pattern : List ℕ) (from end : ℕ) : Type 0 where
+  pub none : (j : ℕ) → from ≤ j → j < end → name_matches (name_at body t j) pattern ≡ false
+
+-- of these rows, one is the first whose name it asks for, and a text is its value
+pub record FirstMatch (body t pattern : List ℕ) (from end : ℕ) (r : Text) : Type 0 where
+  pub row : ℕ
+  pub low : from ≤ row
+  pub high : row < end
+  pub asked : name_matches (name_at body t row) pattern ≡ true
+  pub earlier : NoMatch body t pattern from row
+  pub value : ValueIs body t row r
+
+abbrev pub MatchIn : List ℕ → List ℕ → List ℕ → ℕ → ℕ → Option Text → Type 0
+MatchIn body t pattern from end None = NoMatch body t pattern from end
+MatchIn body t pattern from end (Some r) = FirstMatch body t pattern from end r
+
+pub record AttributeIs (e : Element) (pattern : List ℕ) (r : Option Text) : Type 0 where
+  pub is : attribute_value r ≡ first_named pattern (child_of e).start.attributes
+  pub value : Unescapes r
+  pub row : MatchIn e.view.table.body.now e.view.table.rows.now pattern (e.start.row + 1) e.start.end r
 
 -- ---- pieces: the definition's, which lies in the body
 pub record PieceIs (e : Element) (r : Piece) : Type 0 where

@@ -184,7 +184,7 @@ impl<'a> Element<'a> {
 
     // Whether row k, which leaves depth d, ends it.
     pub fn ends_at(&self, k: usize, d: usize) -> bool
-        requires { k < self.now.view.count }
+        requires { InTable self.now.view.table.rows.now k }
         ensures { result ≡ ends_at (scope_of (child_of self.now).start) (depth d)
             (tok_at self.now.view.table.body.now self.now.view.table.rows.now k) }
     {

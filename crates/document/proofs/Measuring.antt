@@ -59,7 +59,7 @@ module _ (t : List ℕ) {r : Result ℕ BadReference} (m : r ≡ size_of (unesca
     pub measured_size : n ≡ length (meaning (unescaped t))
     measured_size = found.1
 
-    pub measured_short : (from : ℕ) → from + length t ≤ 2 ^ 16 → n ≤ 2 ^ 16
+    pub measured_short : (from : ℕ) → from + length t ≤ 2 ^ 16 → n ≤ 2 ^ 32
     measured_short from h = omega (arith, measured_size, unescaped_shorter t (meaning (unescaped t)) found.0)
 
     pub measured_gives : (from : ℕ) → gives (meaning (unescaped t)) ≡ unescaped_from from (unescaped t)

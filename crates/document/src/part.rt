@@ -29,7 +29,7 @@ pub struct Measured<'a> {
     pub len: usize,
     pub ghost right: { is_right (unescaped bytes.now) ≡ true },
     pub ghost size: { len ≡ length (meaning (unescaped bytes.now)) },
-    pub ghost short: { len ≤ 2 ^ 16 },
+    pub ghost short: { len ≤ 2 ^ 32 },
 }
 
 impl<'a> Text<'a> {

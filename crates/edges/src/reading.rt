@@ -245,7 +245,7 @@ impl Reading {
     }
 
     /// The body, what is asked, the number, the place beside a 7, and what was written.
-    pub fn print(&self, rt: &impl Print) -> Result<()> {
+    pub(crate) fn print(&self, rt: &impl Print) -> Result<()> {
         let mut lent = Lent::new();
         let number = self.read(&mut lent);
         print!(rt; "{} {}", self.upload.body, self.shape)?;

@@ -7,7 +7,7 @@ use reference::UnescapeError;
 const ROOM: usize = 64;
 
 /// The text, whether its references are valid, and what it is without them; a refusal by 01's number, with the place of the failing `&`.
-pub fn print_references(rt: &(impl Print + AllocGlobal), text: &str) -> Result<()> {
+pub(crate) fn print_references(rt: &(impl Print + AllocGlobal), text: &str) -> Result<()> {
     print!(rt; "{text} validate: ")?;
     match unescape::validate_references(text.as_bytes()) {
         Ok(()) => print!(rt; "valid")?,
@@ -27,7 +27,7 @@ pub fn print_references(rt: &(impl Print + AllocGlobal), text: &str) -> Result<(
 }
 
 /// The text, the number of its integer reading, and whether the value is then the one expected.
-pub fn print_integer(rt: &impl Print, text: &str, expected: i32) -> Result<()> {
+pub(crate) fn print_integer(rt: &impl Print, text: &str, expected: i32) -> Result<()> {
     let mut value = 0;
     let number = falzheod_text_integer(text.as_bytes(), &mut value);
     let remark = if value == expected {

@@ -11,7 +11,7 @@ use Rattle.decode.specs.Place.{Outside}
 use Rattle.decode.specs.View.{view_of}
 use Rattle.decode.specs.Element.{child_of, reader_of}
 use Rattle.output.specs.declared.Output.{Output}
-use Rattle.output.specs.Held.{Does}
+use Rattle.output.specs.Held.{Does, done}
 use Rattle.opening.specs.Opening.{body_of}
 
 -- ---- one child
@@ -24,10 +24,6 @@ pub record StandsAt (meant : Reader) (e : Element) (c : Cursor) : Type 0 where
 abbrev pub Reached : Reader → Element → Result Cursor Refusal → Type 0
 Reached is e (Ok c) = StandsAt is e c
 Reached is e (Err r) = Unit {0}
-
-abbrev pub done : Result Cursor Refusal → Result (Unit {0}) Refusal
-done (Ok c) = Ok tt
-done (Err r) = Err r
 
 -- its plan is performed, and the reader stands where it is said
 pub record ChildRead (plan : List ℕ → View → Child → Plan) (after : Child → Reader) (e : Element) (b b' : Output)

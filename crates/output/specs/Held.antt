@@ -30,6 +30,11 @@ abbrev pub reading_of : {A : Type 0} → Result A Refusal → Output → Reading
 reading_of (Ok a) out = finished out
 reading_of (Err r) out = refused r out
 
+-- the answer of a step that tells more than that it went on
+abbrev pub done : {A : Type 0} → Result A Refusal → Result (Unit {0}) Refusal
+done (Ok a) = Ok tt
+done (Err r) = Err r
+
 -- the buffers hold what a reading wrote, and the answer is its answer
 pub record Ends (x : Reading) (e t : List ℕ) (b : Buffers) (r : Result (Unit {0}) Refusal) : Type 0 where
   pub is : x ≡ reading_of r (output x)

@@ -40,7 +40,7 @@ fn replay_reading(alloc: Global, operation: &str, fields: &[&str]) -> Result<boo
 }
 
 /// Asks again what a line, without its end, says was asked.
-pub fn replay(alloc: Global, line: &[u8]) -> Result<Replayed, LineError> {
+pub(crate) fn replay(alloc: Global, line: &[u8]) -> Result<Replayed, LineError> {
     if line.len() > LONGEST_LINE {
         return Err(LineError::NotRecorded);
     }

@@ -43,7 +43,7 @@ fn parse_verdict(fields: &[&str]) -> Result<Verdict, LineError> {
     }
 }
 
-pub fn replay(alloc: Global, fields: &[&str]) -> Result<bool, LineError> {
+pub(crate) fn replay(alloc: Global, fields: &[&str]) -> Result<bool, LineError> {
     let [body, end, rows, recorded @ ..] = fields else {
         return Err(LineError::NotRecorded);
     };

@@ -55,7 +55,7 @@ impl From<Utf8Error> for LineError {
 }
 
 /// The bytes that a field spells in lower-case hexadecimal; `-` is none, so that no field is empty.
-pub fn bytes(alloc: Global, field: &str) -> Result<Vec<u8>, LineError>
+pub(crate) fn bytes(alloc: Global, field: &str) -> Result<Vec<u8>, LineError>
     ensures { IfOk result (λ v. Spells field.now v.items) }
 {
     if field == "-" {
@@ -68,7 +68,7 @@ pub fn bytes(alloc: Global, field: &str) -> Result<Vec<u8>, LineError>
 }
 
 /// The number that a field's digits spell; no sign stands before them.
-pub fn number(field: &str) -> Result<u32, LineError>
+pub(crate) fn number(field: &str) -> Result<u32, LineError>
     ensures value { OkIff result (IsNumeral 10 field.now × (digits_value 10 field.now < 2 ^ 32)) (digits_value 10 field.now) }
     ensures refused { IfErr result (λ e. e ≡ NotRecorded) }
 {
@@ -79,7 +79,7 @@ pub fn number(field: &str) -> Result<u32, LineError>
 }
 
 /// The numbers of a field, parted by commas; `-` is none.
-pub fn numbers(alloc: Global, field: &str) -> Result<Vec<u32>, LineError> {
+pub(crate) fn numbers(alloc: Global, field: &str) -> Result<Vec<u32>, LineError> {
     if field == "-" {
         return Ok(Vec::new(alloc));
     }
@@ -95,7 +95,12 @@ pub struct Upload {
 }
 
 impl Upload {
-    pub fn parse(alloc: Global, body: &str, end: &str, rows: &str) -> Result<Upload, LineError> {
+    pub(crate) fn parse(
+        alloc: Global,
+        body: &str,
+        end: &str,
+        rows: &str,
+    ) -> Result<Upload, LineError> {
         Ok(Upload {
             body: bytes(alloc, body)?,
             rows: numbers(alloc, rows)?,

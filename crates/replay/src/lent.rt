@@ -10,7 +10,7 @@ pub const BYTE: u8 = 0x7e;
 pub const TEXT_ROOM: usize = 512;
 
 /// Whether a buffer begins with what was to be written, and is for the rest as it was before the call.
-pub fn holds<T: PartialEq>(after: &[T], before: &[T], written: &[T]) -> bool {
+pub(crate) fn holds<T: PartialEq>(after: &[T], before: &[T], written: &[T]) -> bool {
     let n = written.len();
     after.starts_with(written) && after.get(n..) == before.get(n..)
 }

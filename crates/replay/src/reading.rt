@@ -136,7 +136,7 @@ fn parse_entries(alloc: Global, field: &str) -> Result<Vec<u32>, LineError> {
     Ok(entries)
 }
 
-pub fn replay(alloc: Global, shape: Shape, fields: &[&str]) -> Result<bool, LineError> {
+pub(crate) fn replay(alloc: Global, shape: Shape, fields: &[&str]) -> Result<bool, LineError> {
     let [
         body,
         end,

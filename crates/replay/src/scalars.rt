@@ -54,7 +54,7 @@ impl<T: Drop> Scalar<T> {
     }
 }
 
-pub fn replay_boolean(alloc: Global, fields: &[&str]) -> Result<bool, LineError> {
+pub(crate) fn replay_boolean(alloc: Global, fields: &[&str]) -> Result<bool, LineError> {
     let recorded = Scalar::parse(alloc, fields, MARK, number)?;
     let Upload { body, rows, end } = &recorded.upload;
     let mut value = MARK;
@@ -71,7 +71,7 @@ pub fn replay_boolean(alloc: Global, fields: &[&str]) -> Result<bool, LineError>
     Ok(answer == recorded.number && value == recorded.value)
 }
 
-pub fn replay_integer(alloc: Global, fields: &[&str]) -> Result<bool, LineError> {
+pub(crate) fn replay_integer(alloc: Global, fields: &[&str]) -> Result<bool, LineError> {
     let recorded = Scalar::parse(
         alloc,
         fields,
@@ -94,7 +94,7 @@ pub fn replay_integer(alloc: Global, fields: &[&str]) -> Result<bool, LineError>
 }
 
 // A refusal writes nothing, and its length is 0.
-pub fn replay_string(alloc: Global, fields: &[&str]) -> Result<bool, LineError> {
+pub(crate) fn replay_string(alloc: Global, fields: &[&str]) -> Result<bool, LineError> {
     let recorded = Scalar::parse(alloc, fields, Vec::new(alloc), |value| bytes(alloc, value))?;
     let Upload { body, rows, end } = &recorded.upload;
     let mut out = [BYTE; TEXT_ROOM];
@@ -117,7 +117,7 @@ pub fn replay_string(alloc: Global, fields: &[&str]) -> Result<bool, LineError> 
     )
 }
 
-pub fn replay_find(alloc: Global, fields: &[&str]) -> Result<bool, LineError> {
+pub(crate) fn replay_find(alloc: Global, fields: &[&str]) -> Result<bool, LineError> {
     let [body, end, rows, name, answer @ ..] = fields else {
         return Err(LineError::NotRecorded);
     };

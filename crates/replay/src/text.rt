@@ -44,7 +44,7 @@ fn unescapes_to(text: &[u8], written: &[u8]) -> bool {
         && (n == 0 || answer_writing(text, n - 1, &[]) == Some(Err(UnescapeError::NoRoom)))
 }
 
-pub fn replay_validate(alloc: Global, fields: &[&str]) -> Result<bool, LineError> {
+pub(crate) fn replay_validate(alloc: Global, fields: &[&str]) -> Result<bool, LineError> {
     match fields {
         [text, "0"] => Ok(validate_references(&bytes(alloc, text)?).is_ok()),
         [text, "7"] => Ok(validate_references(&bytes(alloc, text)?).is_err()),
@@ -52,7 +52,7 @@ pub fn replay_validate(alloc: Global, fields: &[&str]) -> Result<bool, LineError
     }
 }
 
-pub fn replay_unescape(alloc: Global, fields: &[&str]) -> Result<bool, LineError> {
+pub(crate) fn replay_unescape(alloc: Global, fields: &[&str]) -> Result<bool, LineError> {
     match fields {
         [text, "0", written] => Ok(unescapes_to(&bytes(alloc, text)?, &bytes(alloc, written)?)),
         [text, "7"] => Ok(refuses(&bytes(alloc, text)?)),

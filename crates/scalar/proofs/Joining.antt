@@ -183,7 +183,7 @@ pub record MeasureAt (e : Element) (c : Cursor) (size : ℕ) : Type 0 where
   pub acc : List ℕ
   pub at : JoinAt e acc c
   pub counted : size ≡ length acc
-  pub small : size ≤ 65536 * c.row
+  pub small : size ≤ 4294967296 * c.row
 
 pub measure_start : (e : Element) → MeasureAt e e.at 0
 measure_start e = record { acc = []; at = join_start e; counted = refl; small = omega arith }

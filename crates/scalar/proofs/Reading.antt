@@ -8,7 +8,8 @@ use lib.IntN.{ℤ}
 use lib.Dec.{eqb}
 use borrow.Author.Tests.{eqb-false}
 use Rattle.lists.proofs.Parts.{get_d_in}
-use Rattle.reference.proofs.Result.{plain_unescapes}
+use Rattle.reference.specs.Text.{Out, bytes, bad, unescaped}
+use Rattle.reference.proofs.Result.{plain_unescapes, unescaped_shorter}
 use lib.ListN.{length, get_or, take, drop, length-append}
 use lib.Seq.{take-append_seam}
 use Rattle.std.specs.Prelude.{Result, Ok, Err}
@@ -17,7 +18,7 @@ use Rattle.lists.proofs.Bytes.{same_is}
 use Rattle.lists.specs.Overwrite.{overwritten}
 use Rattle.refusal.specs.declared.Refusal.{Refusal}
 use Rattle.refusal.specs.Answer.{Answer, gives, refuses, onward}
-use Rattle.document.specs.Text.{string_in, text_of}
+use Rattle.document.specs.Text.{string_in, text_of, unescaped_from}
 use Rattle.document.specs.Part.{text_at, given, bytes_of, measured_as, CopyIs}
 use Rattle.document.specs.declared.part.Text.{Text}
 use Rattle.document.specs.declared.part.Measured.{Measured}
@@ -77,6 +78,16 @@ module _ {A : Type 0} (f : List ℕ → Answer A) (t : Text) where
 pub room_kept : (m : Measured) (old : List ℕ) {new : List ℕ} → new ≡ overwritten old (bytes_of m) → m.len ≤ length new
 unfolding overwritten
 room_kept m old g = omega (arith, ap length g, m.size, length-append (bytes_of m) (drop (length (bytes_of m)) old))
+
+-- a text of a body comes to no more bytes than a body has
+pub value_short : (t : Text) (m : Measured) → measured_as (Ok m) ≡ text_at t → m.len ≤ 65536
+value_short t m e = go (unescaped t.bytes.now) refl e
+  where
+    go : (o : Out) → unescaped t.bytes.now ≡ o → gives (bytes_of m) ≡ unescaped_from t.from o → m.len ≤ 65536
+    go (bytes l) p q =
+        let z : bytes_of m ≡ l = cc in
+        omega (arith, m.size, ap length z, unescaped_shorter t.bytes.now l p, t.small)
+    go (bad at) p q = cc
 
 -- no text of more than 8 bytes is a boolean
 pub boolean_long : (t : Text) (m : Measured) → measured_as (Ok m) ≡ text_at t → 8 < m.len

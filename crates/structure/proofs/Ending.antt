@@ -17,7 +17,7 @@ use Rattle.table.proofs.Valid.{few_bytes, rules_at, spans_within}
 use Rattle.table.specs.Piece.{closing, is_closed, piece_start}
 use Rattle.decode.specs.declared.element.Element.{Element}
 use Rattle.readings.specs.Structure.{root_piece}
-use Rattle.structure.specs.Structure.{body_of, opened_of}
+use Rattle.opening.specs.Opening.{body_of, opened_of}
 use Rattle.structure.specs.Unwrapped.{end_from, EndIs}
 
 end_here : (ends p n : ℕ) (r : Row) (rest : List Row) → open_count n r.kind ≡ 0 → end_from ends p n (r ∷ rest) ≡ r.position

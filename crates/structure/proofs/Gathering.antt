@@ -13,7 +13,8 @@ use Rattle.decode.specs.Element.{child_of}
 use Rattle.output.specs.declared.kept.Kept.{Kept}
 use Rattle.output.specs.Kept.{is_kept, flat}
 use Rattle.output.specs.Plans.{put_group}
-use Rattle.structure.specs.Structure.{body_of, indexed_as}
+use Rattle.opening.specs.Opening.{body_of}
+use Rattle.structure.specs.Structure.{indexed_as}
 use Rattle.structure.specs.Children.{KeepsAll}
 
 module _ {root : Element} {s : Structure} {kept : List Kept} (k : KeepsAll root s kept) (i : ℕ) (m : Member) where

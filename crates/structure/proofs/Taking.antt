@@ -27,15 +27,16 @@ use Rattle.decode.specs.declared.place.Past.{Past}
 use Rattle.decode.specs.declared.view.View.{View}
 use Rattle.decode.specs.declared.element.Element.{Element}
 use Rattle.decode.specs.View.{view_of}
-use Rattle.decode.specs.Element.{child_of, NextIs, DroppedIs, PieceIs}
+use Rattle.decode.specs.Element.{child_of, FoundAt, NextIs, DroppedIs, PieceIs}
 use Rattle.output.specs.declared.kept.Kept.{Kept}
 use Rattle.output.specs.declared.Output.{Output}
 use Rattle.output.specs.Kept.{InBody}
 use Rattle.output.specs.Plans.{put_piece, put_scalar}
 use Rattle.output.proofs.Then.{does_nothing, Midway, midway_start, each_goes, each_stops, each_ends}
-use Rattle.structure.specs.Structure.{body_of, some_member}
+use Rattle.opening.specs.Opening.{body_of}
+use Rattle.structure.specs.Structure.{some_member}
 use Rattle.output.proofs.Siblings.{KeepsSiblings, keeps_start, keeps_other, keeps_more, keeps_flat, keeps_has}
-use Rattle.structure.specs.Children.{waiting, KeptMore, Taken, ChildrenTaken, ResumedAt}
+use Rattle.structure.specs.Children.{waiting, KeptMore, Taken, ChildrenTaken}
 use Rattle.decode.proofs.Scope.{child_at, no_more, one_more}
 
 -- ---- what is kept of one child
@@ -165,7 +166,7 @@ module _ (root : Element) (s : Structure) where
           let x = subst (λ (v : View). Taken v (child_of child) (resolve s name) l count l' b₁ b₂ (Err why)) in_root t in
           record { does = each_stops steps _ _ mid x.does; keeps = tt }
 
-      module _ {after : Element} (re : ResumedAt scope past.at after) where
+      module _ {after : Element} (re : FoundAt scope.view scope.start past.at after) where
         next_is : child_of after ≡ child_at scope.view scope.start past.at
         next_is = rw (re.view, re.start, re.at)
 

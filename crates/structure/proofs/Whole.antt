@@ -27,7 +27,8 @@ use Rattle.output.specs.Plans.{put_piece}
 use Rattle.output.specs.Held.{Does}
 use Rattle.output.proofs.Writing.{same_buffers}
 use Rattle.output.proofs.Then.{does_then, does_stop, tested_well, tested_ill}
-use Rattle.structure.specs.Structure.{body_of, opened_of, asked_of, root_or_members}
+use Rattle.opening.specs.Opening.{body_of, opened_of, asked_of}
+use Rattle.structure.specs.Structure.{root_or_members}
 use Rattle.structure.specs.Children.{ChildrenTaken}
 
 -- ---- attributes, children, 9, groups

@@ -9,7 +9,6 @@ use Rattle.sheet.specs.Sheet.{Structure}
 use Rattle.sheet.specs.Names.{Indexed}
 use Rattle.readings.specs.Plan.{one_by_one}
 use Rattle.readings.specs.Structure.{member_plan, child_plan, flat_member, group_of, has_group}
-use Rattle.decode.specs.declared.place.Cursor.{Cursor}
 use Rattle.decode.specs.declared.view.View.{View as Seen}
 use Rattle.decode.specs.declared.element.Element.{Element}
 use Rattle.decode.specs.View.{view_of}
@@ -17,8 +16,8 @@ use Rattle.decode.specs.Element.{child_of}
 use Rattle.output.specs.declared.Output.{Output}
 use Rattle.output.specs.declared.kept.Kept.{Kept}
 use Rattle.output.specs.Kept.{is_kept, flat, InBody, Inside}
-use Rattle.output.specs.Held.{Does}
-use Rattle.structure.specs.Structure.{body_of}
+use Rattle.output.specs.Held.{Does, done}
+use Rattle.opening.specs.Opening.{body_of}
 
 -- ---- what is kept of a root: the pieces of its groups, each in the body
 pub record KeepsAll (root : Element) (s : Structure) (kept : List Kept) : Type 0 where
@@ -28,10 +27,6 @@ pub record KeepsAll (root : Element) (s : Structure) (kept : List Kept) : Type 0
   pub few : length kept ≤ 4096
 
 -- ---- an answer that tells how many are kept
-abbrev pub done : {A : Type 0} → Result A Refusal → Result (Unit {0}) Refusal
-done (Ok a) = Ok tt
-done (Err r) = Err r
-
 -- where it is given, the fact about the number
 abbrev pub Counted : Result ℕ Refusal → (ℕ → Type 0) → Type 0
 Counted (Ok n) P = P n
@@ -69,9 +64,3 @@ pub record AllKept (root : Element) (s : Structure) (l : List Kept) (n : ℕ) : 
 pub record ChildrenTaken (root : Element) (s : Structure) (l : List Kept) (b b' : Output) (r : Result ℕ Refusal) : Type 0 where
   pub does : Does (one_by_one (child_plan (body_of root) (view_of root.view) s) (children_of (child_of root))) b b' (done r)
   pub keeps : Counted r (AllKept root s l)
-
--- an element whose reader stands at another place
-pub record ResumedAt (e : Element) (c : Cursor) (r : Element) : Type 0 where
-  pub view : r.view ≡ e.view
-  pub start : r.start ≡ e.start
-  pub at : r.at ≡ c

@@ -5,23 +5,8 @@ use Rattle.lists.specs.Tests.{pick}
 use Rattle.sheet.specs.Sheet.{Member, Structure}
 use Rattle.sheet.specs.Names.{Indexed}
 use Rattle.readings.specs.Plan.{Plan}
-use Rattle.readings.specs.Opening.{Opened, Asked}
+use Rattle.readings.specs.Opening.{Opened}
 use Rattle.readings.specs.Structure.{members_plan, unwrapped_plan}
-use Rattle.decode.specs.declared.element.Element.{Element}
-use Rattle.decode.specs.View.{view_of}
-use Rattle.decode.specs.Element.{child_of}
-
--- the body that an element is of
-abbrev pub body_of : Element → List ℕ
-body_of e = e.view.table.body.now
-
--- what is read: its view, and the element as the root
-abbrev pub opened_of : Element → Opened
-opened_of e = record { seen = view_of e.view; root = child_of e }
-
--- and the sheet beside it
-abbrev pub asked_of : Structure → Element → Asked Structure
-asked_of s e = record { sheet = s; opened = opened_of e }
 
 -- a member with its index
 abbrev pub indexed_as : ℕ → Member → Indexed

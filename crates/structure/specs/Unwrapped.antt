@@ -6,7 +6,7 @@ use Rattle.table.specs.Rules.{last_position}
 use Rattle.table.specs.Flat.{rows_from}
 use Rattle.table.specs.Piece.{closing, is_closed}
 use Rattle.decode.specs.declared.element.Element.{Element}
-use Rattle.structure.specs.Structure.{body_of}
+use Rattle.opening.specs.Opening.{body_of}
 
 -- where an element ends by its rows, n being open before them, after a row at position p
 abbrev pub end_from : ℕ → ℕ → ℕ → List Row → ℕ

@@ -5,7 +5,7 @@ ghost use Rattle.sheet.specs.Names.{resolve};
 ghost use Rattle.decode.specs.Place.{Outside};
 ghost use Rattle.decode.specs.Element.{DroppedIs, child_of};
 ghost use Rattle.structure.specs.Structure.{some_member};
-ghost use Rattle.structure.specs.Children.{ChildrenTaken, ResumedAt, Taken};
+ghost use Rattle.structure.specs.Children.{ChildrenTaken, Taken};
 
 use codec::members::Member;
 use codec::structure::StructureSheet;
@@ -66,18 +66,6 @@ fn take_child(
     }
 }
 
-// An element with the reader at another place of its content. (A store into a field of a local would part it from what its type says.)
-fn resumed<'a>(scope: &Element<'a>, at: Cursor) -> Element<'a>
-    requires { Outside scope.now.view.table.rows.now scope.now.view.count at }
-    ensures { ResumedAt scope.now at result }
-{
-    Element {
-        view: scope.view,
-        start: scope.start,
-        at,
-    }
-}
-
 // Takes the children of a root, in body order, to the first that is refused. Each has two rows or more, so that `kept` has room for all.
 // It answers how many are kept.
 pub(crate) fn take_children(
@@ -94,7 +82,7 @@ pub(crate) fn take_children(
     while let Ok(child) = scope.next_tag() {
         let past = child.drain();
         count = take_child(&child, past, sheet, kept, count, out)?;
-        scope = resumed(&scope, past.at);
+        scope = scope.from_place(past.at);
     }
     Ok(count)
 }

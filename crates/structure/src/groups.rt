@@ -7,7 +7,7 @@ ghost use Rattle.readings.specs.Structure.{group_plan};
 ghost use Rattle.decode.specs.View.{view_of};
 ghost use Rattle.decode.specs.Element.{child_of};
 ghost use Rattle.output.specs.Held.{Does};
-ghost use Rattle.structure.specs.Structure.{body_of};
+ghost use Rattle.opening.specs.Opening.{body_of};
 ghost use Rattle.structure.specs.Children.{KeepsAll};
 
 use codec::structure::StructureSheet;

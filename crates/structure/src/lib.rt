@@ -6,7 +6,8 @@
 ghost use Rattle.std.specs.Prelude.{◌*◌, ◌≤◌, length};
 ghost use Rattle.readings.specs.Structure.{members_plan, opened_plan};
 ghost use Rattle.output.specs.Held.{Does};
-ghost use Rattle.structure.specs.Structure.{asked_of, body_of, opened_of, root_or_members};
+ghost use Rattle.opening.specs.Opening.{asked_of, body_of, opened_of};
+ghost use Rattle.structure.specs.Structure.{root_or_members};
 
 mod attributes;
 mod children;

@@ -2,7 +2,7 @@
 ghost use Rattle.std.specs.Prelude.{◌≡◌};
 ghost use Rattle.readings.specs.Structure.{root_piece, unwrapped_plan};
 ghost use Rattle.output.specs.Held.{Does};
-ghost use Rattle.structure.specs.Structure.{body_of, opened_of};
+ghost use Rattle.opening.specs.Opening.{body_of, opened_of};
 ghost use Rattle.structure.specs.Unwrapped.{EndIs};
 
 use codec::structure::StructureSheet;

@@ -1,4 +1,4 @@
--- `size` is what the texts before the place come to: at most 65536 bytes a row, so the sum fits.
+-- `size` is what the texts before the place come to: at most 2 ^ 32 bytes a row, so the sum fits.
 use Prim.Native.Nat.{◌-◌}
 use Rattle.scalar.proofs.Joining.{MeasureAt}
 use Rattle.scalar.proofs.whole.measure_texts.Given as goal

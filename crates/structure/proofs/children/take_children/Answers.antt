@@ -7,7 +7,7 @@ loop-child-init c = children_start c.args.root.now c.args.sheet.now c.args.kept.
 
 pub loop-child-preserved : goal.loop-child-preserved
 loop-child-preserved c =
-    children_goes c.args.root.now c.args.sheet.now c.loop-child.invariant c.in-Ok.ensures c.drain-past.ensures c.resumed-scope.ensures
+    children_goes c.args.root.now c.args.sheet.now c.loop-child.invariant c.in-Ok.ensures c.drain-past.ensures c.from_place-scope.ensures
     c.in_ok-count.ensures c.take_child.auto.kept
 
 pub returns-in_err-count : goal.returns-in_err-count

@@ -3,7 +3,7 @@ use Rattle.document.specs.Scope.{children_of}
 use Rattle.readings.specs.Structure.{group_plan}
 use Rattle.decode.specs.View.{view_of}
 use Rattle.decode.specs.Element.{child_of}
-use Rattle.structure.specs.Structure.{body_of}
+use Rattle.opening.specs.Opening.{body_of}
 use Rattle.structure.proofs.Members.{MembersAt}
 use Rattle.structure.proofs.groups.write_groups.Given as goal
 
