@@ -6,7 +6,7 @@
  * C and C++, also into static and into freestanding programs, and calls nothing from
  * outside but what is named here, which every C library has:
  *
- *     needs: memcpy memmove memset
+ *     needs: memcpy memset
  *
  * Threads: there is no state, so calls may run at the same time, as long as nothing
  * that one of them writes is lent to another.
@@ -345,7 +345,7 @@ uint32_t falzheod_read_boolean(const uint8_t *body, size_t body_len,
 
 /* The same as an integer: an optional sign and one or more digits, in the range of 32
  * bits; FALZHEOD_NOT_INTEGER else. `*place` is as in falzheod_read_boolean. A call keeps
- * some 66 KB on the stack at most.
+ * some 69 KB on the stack at most.
  *
  * Not in place: `*value` and `*place` must not overlap `body`, `rows` or each other. */
 uint32_t falzheod_read_integer(const uint8_t *body, size_t body_len,

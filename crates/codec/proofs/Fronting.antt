@@ -3,10 +3,11 @@ use Rattle.std.proofs.Common.{◌≡◌, ℕ, ◌+◌, ◌≤◌, ◌<◌, Bool,
 use Rattle.std.proofs.Common.{leb-true}
 use Rattle.std.proofs.Math.Option.{Option, none, some}
 use Rattle.lists.specs.Tests.{pick}
+use Rattle.lists.proofs.Tests.{false_true}
 use Rattle.sheet.specs.Front.{Front, front, broken, then, where_holds, bit, name, name_if}
 use Rattle.sheet.specs.Sheet.{Member, member}
 use Rattle.sheet.specs.Names.{child_name}
-use Rattle.codec.specs.Members.{member_at, Stands}
+use Rattle.codec.specs.Members.{is_front, member_of, member_at, Stands}
 use Rattle.sheet.proofs.Exact.Fields.{front_value, not_broken}
 
 -- the name right after the bit map
@@ -62,17 +63,26 @@ named_by false true b s m r e =
     (λ h e. record { inside = h; is = rw (← front_value e) })
 named_by false false b s m r e = rw (← front_value e)
 
+-- what is left after it
+abbrev rest_of : Front Member → List ℕ
+rest_of (front m rest) = rest
+rest_of broken = []
+
+fronted : (x : Front Member) → is_front x ≡ true → x ≡ front (member_of x) (rest_of x)
+fronted (front m rest) e = refl
+fronted broken e = false_true e
+
 -- a member stands at the front
 module _ {s : List ℕ} (w : Stands s 0) where
   pub front_there : 0 < length s
-  front_there = go s w.is
+  front_there = go s (fronted (member s) w.is)
     where
       go : (s : List ℕ) {m : Member} {r : List ℕ} → member s ≡ front m r → 0 < length s
       go [] e = not_broken e
       go (b ∷ s) e = omega arith
 
   by_bits : pick (pick (bit 1 (get_or s 0 0)) true (bit 2 (get_or s 0 0))) (NameNext s (member_at s 0)) (child_name (member_at s 0) ≡ none)
-  by_bits = go s (member_at s 0) w.rest w.is
+  by_bits = go s (member_at s 0) (rest_of (member s)) (fronted (member s) w.is)
     where
       go : (s : List ℕ) (m : Member) (r : List ℕ) → member s ≡ front m r
           → pick (pick (bit 1 (get_or s 0 0)) true (bit 2 (get_or s 0 0))) (NameNext s m) (child_name m ≡ none)

@@ -7,7 +7,7 @@ use Rattle.std.proofs.Math.Seq.{take-length}
 use Rattle.sheet.specs.Front.{Front, front, broken, then, times}
 use Rattle.sheet.specs.Sheet.{most_members, Member, member}
 use Rattle.sheet.specs.Names.{child_name}
-use Rattle.codec.specs.Members.{member_of, member_at, Stands, members_at, nameless}
+use Rattle.codec.specs.Members.{is_front, member_of, member_at, Stands, members_at, nameless}
 use Rattle.codec.proofs.Onward.{After, after_same, after_after, after_member}
 
 -- ---- so many members in other words
@@ -70,7 +70,7 @@ module _ {count : ℕ} {s places : List ℕ} {i : ℕ} {rest : List ℕ} (g : Ga
       is_there = ap member_of there
 
       stands : Stands s (length s - length rest)
-      stands = record { rest = r; is = rw is_there there; inside = omega arith }
+      stands = record { is = ap is_front there; inside = omega arith }
 
       one_more : members_at s (set places i (length s - length rest)) (i + 1) ≡ members_at s places i ++ m ∷ []
       one_more =

@@ -6,20 +6,20 @@ use Rattle.sheet.specs.Sheet as defined
 use Rattle.codec.specs.Told.{told_name}
 use Rattle.codec.specs.declared.collection.Item.{Item}
 use Rattle.codec.specs.declared.collection.Value.{Value}
-use Rattle.codec.specs.declared.collection.ListSheet.TheInside as list
-use Rattle.codec.specs.declared.collection.MapSheet.TheInside as map
+use Rattle.codec.specs.declared.collection.ListSheet.{ListSheet}
+use Rattle.codec.specs.declared.collection.MapSheet.{MapSheet}
 
 abbrev pub item_said : Option Item → math.Option defined.Item
 item_said None = none
 item_said (Some i) = some (record { xml_name = told_name i.xml_name; member_name = told_name i.member_name })
 
-abbrev pub list_said : list.Inside → defined.ListSheet
+abbrev pub list_said : ListSheet → defined.ListSheet
 list_said a = record { item = item_said a.item; flattened = a.flattened }
 
 abbrev pub value_said : Option Value → math.Option defined.Value
 value_said None = none
 value_said (Some v) = some (record { xml_name = told_name v.xml_name; aggregate = v.aggregate })
 
-abbrev pub map_said : map.Inside → defined.MapSheet
+abbrev pub map_said : MapSheet → defined.MapSheet
 map_said a =
     record { flattened = a.flattened; key_xml_name = told_name a.key_xml_name; value = value_said a.value }

@@ -1,11 +1,10 @@
 -- The members of a structure sheet (01, "Sheets and entries"), by their places in its bytes.
-use Rattle.std.specs.Prelude.{ℕ, ◌≤◌, ◌<◌, ◌≡◌, false, List, Option, Some, None, get_or, length, map, take, drop}
+use Rattle.std.specs.Prelude.{ℕ, ◌≤◌, ◌<◌, ◌≡◌, Bool, true, false, List, Option, Some, None, get_or, length, map, take, drop}
 use Rattle.std.proofs.Math.Option as defined
 use Rattle.std.proofs.Math.Option.{none, some}
 use Rattle.sheet.specs.Front.{Front, front, broken}
 use Rattle.sheet.specs.Sheet.{most_members, Member, member}
 use Rattle.sheet.specs.Names.{Indexed}
-use Rattle.codec.specs.declared.members.Members.TheInside.{Inside}
 
 -- the member of an index past the last
 abbrev pub nameless : Member
@@ -27,21 +26,22 @@ member_of broken = nameless
 abbrev pub member_at : List ℕ → ℕ → Member
 member_at bytes place = member_of (member (drop place bytes))
 
--- one stands there
+-- whether one is at the front
+abbrev pub is_front : Front Member → Bool
+is_front (front m rest) = true
+is_front broken = false
+
+-- one stands there: an equation of flags, so that there is one proof of it at most
 pub record Stands (bytes : List ℕ) (place : ℕ) : Type 0 where
-  pub rest : List ℕ
-  pub is : member (drop place bytes) ≡ front (member_at bytes place) rest
+  pub is : is_front (member (drop place bytes)) ≡ true
   pub inside : place ≤ length bytes
 
 -- those at so many places
 abbrev pub members_at : List ℕ → List ℕ → ℕ → List Member
 members_at bytes places count = map (member_at bytes) (take count places)
 
-abbrev pub members_of : Inside → List Member
-members_of a = members_at a.bytes.now a.places a.count
-
 -- each stands at its place
-pub record AreMembers (a : Inside) : Type 0 where
-  pub few : a.count ≤ most_members
-  pub wide : length a.places ≡ most_members
-  pub each : (i : ℕ) → i < a.count → Stands a.bytes.now (get_or a.places i 0)
+pub record AreMembers (bytes places : List ℕ) (count : ℕ) : Type 0 where
+  pub few : count ≤ most_members
+  pub wide : length places ≡ most_members
+  pub each : (i : ℕ) → i < count → Stands bytes (get_or places i 0)

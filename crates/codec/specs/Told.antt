@@ -1,5 +1,5 @@
 -- What options of the code say in the words of `sheet`.
-use Rattle.std.specs.Prelude.{ℕ, List, Option, Some, None}
+use Rattle.std.specs.Prelude.{ℕ, Bool, true, false, List, Option, Some, None}
 use Rattle.std.specs.Borrow.{Bor}
 use Rattle.std.proofs.Math.Option as defined
 use Rattle.std.proofs.Math.Option.{none, some}
@@ -9,6 +9,16 @@ use Rattle.sheet.specs.Front.{Front, front, broken}
 abbrev pub told : {A : Type 0} → Option A → defined.Option A
 told None = none
 told (Some a) = some a
+
+-- what may be there, said by f
+abbrev pub told_as : {X A : Type 0} → (X → A) → Option X → defined.Option A
+told_as f None = none
+told_as f (Some x) = some (f x)
+
+-- whether it is there
+abbrev pub is_there : {A : Type 0} → defined.Option A → Bool
+is_there none = false
+is_there (some a) = true
 
 -- a name that may be there
 abbrev pub told_name : Option (Bor (List ℕ)) → defined.Option (List ℕ)

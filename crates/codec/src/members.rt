@@ -5,14 +5,13 @@ ghost use Rattle.lists.specs.Tests.{pick};
 ghost use Rattle.sheet.specs.Front.{bit};
 ghost use Rattle.sheet.specs.Sheet.{most_members, member, member_list};
 ghost use Rattle.sheet.specs.Names.{attribute_name, child_name, first_named, indexed, is_named};
-ghost use Rattle.codec.specs.Told.{came, itself, told_name};
-ghost use Rattle.codec.specs.Members.{Stands, found_in, member_at, nameless};
+ghost use Rattle.codec.specs.Told.{came, told_name};
+ghost use Rattle.codec.specs.Members.{AreMembers, Stands, found_in, member_at, nameless};
 
 use crate::reader::{Reader, has_bit};
-use std::marker::Model;
 
-// A member of a structure. A clause sees what the sheet says of it.
-#[derive(Drop)]
+// A member of a structure. A clause speaks of what the sheet says of it (`member_said`).
+#[derive(Clone, Copy)]
 pub struct Member<'a> {
     xml_name: Option<&'a [u8]>,
     member_name: Option<&'a [u8]>,
@@ -21,25 +20,12 @@ pub struct Member<'a> {
     aggregate: bool,
 }
 
-impl<'a> Model for Member<'a> {
-    ghost use Rattle.sheet.specs.Sheet.{Member as Said};
-    ghost use Rattle.codec.specs.Told.{told_name};
-
-    ghost Value = { Said };
-
-    ghost view = { λ a. record {
-      xml_name = told_name a.xml_name;
-      member_name = told_name a.member_name;
-      attribute = a.attribute;
-      flattened = a.flattened;
-      aggregate = a.aggregate;
-    } };
-}
-
 impl<'a> Member<'a> {
+    ghost use Rattle.codec.specs.Structure.{member_said};
+
     // Reads a member.
     fn read(reader: &mut Reader<'a>) -> Option<Self>
-        ensures { member reader.old ≡ came itself result reader.new }
+        ensures { member reader.old ≡ came member_said result reader.new }
     {
         let bits = reader.bit_map(32)?;
         let xml_name = reader.name_if(has_bit(bits, 1))?;
@@ -54,33 +40,33 @@ impl<'a> Member<'a> {
     }
 
     pub fn is_attribute(&self) -> bool
-        ensures { result ≡ self.now.attribute }
+        ensures { result ≡ (member_said self.now).attribute }
     {
         self.attribute
     }
 
     pub fn is_flattened(&self) -> bool
-        ensures { result ≡ self.now.flattened }
+        ensures { result ≡ (member_said self.now).flattened }
     {
         self.flattened
     }
 
     pub fn is_aggregate(&self) -> bool
-        ensures { result ≡ self.now.aggregate }
+        ensures { result ≡ (member_said self.now).aggregate }
     {
         self.aggregate
     }
 
     // The name of its children: the XML name, else the member name.
     pub fn child_name(&self) -> Option<&'a [u8]>
-        ensures { child_name self.now ≡ told_name result }
+        ensures { child_name (member_said self.now) ≡ told_name result }
     {
         self.xml_name.or(self.member_name)
     }
 
     // The name that an attribute member asks for; empty where it has none.
     pub fn attribute_name(&self) -> &'a [u8]
-        ensures { result.now ≡ attribute_name self.now }
+        ensures { result.now ≡ attribute_name (member_said self.now) }
     {
         self.child_name().unwrap_or(b"")
     }
@@ -117,33 +103,23 @@ fn front_name(bytes: &[u8]) -> Option<&[u8]>
     Some(&bytes[2..end])
 }
 
-// The members of a sheet, "a count 0..64": the bytes from the first of them on, and the places in these where they stand. A clause sees
-// the members.
-#[derive(Drop)]
+// The members of a sheet, "a count 0..64": the bytes from the first of them on, and the places in these where they stand. A clause speaks
+// of the members (`members_of`).
+#[derive(Clone, Copy)]
 pub struct Members<'a> {
     bytes: &'a [u8],
     count: usize,
     places: [u16; 64],
-}
-
-impl<'a> Model for Members<'a> {
-    ghost use Rattle.std.specs.Prelude.{List};
-    ghost use Rattle.sheet.specs.Sheet.{Member as Said};
-
-    ghost Value = { List Said };
-
-    ghost use Rattle.codec.specs.Members.{members_of, AreMembers};
-
-    ghost view = { members_of };
-
-    ghost invariant = { AreMembers };
+    ghost are: { AreMembers bytes.now places count },
 }
 
 impl<'a> Members<'a> {
+    ghost use Rattle.codec.specs.Structure.{member_said, members_of};
+
     // Reads the count and so many members.
     #[tactic(auto, using(crate::proofs::Gathering::gathered_laws))]
     pub(crate) fn read(reader: &mut Reader<'a>) -> Option<Self>
-        ensures { member_list reader.old ≡ came itself result reader.new }
+        ensures { member_list reader.old ≡ came members_of result reader.new }
     {
         let count = usize::from(reader.byte()?);
         if 64 < count {
@@ -163,17 +139,25 @@ impl<'a> Members<'a> {
     }
 
     pub fn len(&self) -> usize
-        ensures size { result ≡ length self.now }
+        ensures size { result ≡ length (members_of self.now) }
         ensures few { result ≤ most_members }
     {
         self.count
     }
 
-    // Member i.
+    // Member i; past the last, one of which the sheet says nothing.
     pub fn get(&self, i: usize) -> Member<'a>
-        requires { i < length self.now }
-        ensures { result ≡ get_or self.now i nameless }
+        ensures { member_said result ≡ get_or (members_of self.now) i nameless }
     {
+        if self.count <= i {
+            return Member {
+                xml_name: None,
+                member_name: None,
+                attribute: false,
+                flattened: false,
+                aggregate: false,
+            };
+        }
         let mut reader = Reader::new(&self.bytes[usize::from(self.places[i])..]);
         let Some(member) = Member::read(&mut reader) else {
             unreachable!();
@@ -183,8 +167,8 @@ impl<'a> Members<'a> {
 
     // The child name of member i.
     fn child_name(&self, i: usize) -> Option<&'a [u8]>
-        requires { i < length self.now }
-        ensures { child_name (get_or self.now i nameless) ≡ told_name result }
+        requires { i < length (members_of self.now) }
+        ensures { child_name (get_or (members_of self.now) i nameless) ≡ told_name result }
     {
         front_name(&self.bytes[usize::from(self.places[i])..])
     }
@@ -192,8 +176,8 @@ impl<'a> Members<'a> {
     // The index of the first member with this name, attribute members among them.
     #[tactic(auto, using(crate::proofs::Resolving::looking_laws))]
     pub fn resolve(&self, local: &[u8]) -> Option<usize>
-        ensures resolved { first_named (indexed 0 self.now) local.now ≡ found_in self.now result }
-        ensures within { IfSome result (λ i. i < length self.now) }
+        ensures resolved { first_named (indexed 0 (members_of self.now)) local.now ≡ found_in (members_of self.now) result }
+        ensures within { IfSome result (λ i. i < length (members_of self.now)) }
         ensures few { IfSome result (λ i. i < most_members) }
     {
         for i in 0..self.len() {

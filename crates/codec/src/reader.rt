@@ -7,7 +7,7 @@ use std::marker::Model;
 
 // A reader of a sheet. A clause sees the bytes that are left. A step that answers None met a broken sheet.
 #[derive(Drop)]
-pub(crate) struct Reader<'a> {
+pub struct Reader<'a> {
     rest: &'a [u8],
 }
 
@@ -20,7 +20,7 @@ impl<'a> Model for Reader<'a> {
 }
 
 // Whether the bit of a value (1, 2, 4, ..) stands in a bit map.
-pub(crate) fn has_bit(bits: u8, value: u8) -> bool
+pub fn has_bit(bits: u8, value: u8) -> bool
     requires { 0 < value }
     ensures { result ≡ bit value bits }
 {
@@ -28,20 +28,20 @@ pub(crate) fn has_bit(bits: u8, value: u8) -> bool
 }
 
 impl<'a> Reader<'a> {
-    pub(crate) fn new(bytes: &'a [u8]) -> Self
+    pub fn new(bytes: &'a [u8]) -> Self
         ensures { result ≡ bytes.now }
     {
         Reader { rest: bytes }
     }
 
     // The bytes that are left.
-    pub(crate) fn rest(&self) -> &'a [u8]
+    pub fn rest(&self) -> &'a [u8]
         ensures { result.now ≡ self.now }
     {
         self.rest
     }
 
-    pub(crate) fn byte(&mut self) -> Option<u8>
+    pub fn byte(&mut self) -> Option<u8>
         ensures { byte self.old ≡ came itself result self.new }
     {
         let (b, rest) = self.rest.split_first()?;
@@ -50,7 +50,7 @@ impl<'a> Reader<'a> {
     }
 
     // A bit map, below so many values.
-    pub(crate) fn bit_map(&mut self, values: u8) -> Option<u8>
+    pub fn bit_map(&mut self, values: u8) -> Option<u8>
         ensures { bit_map values self.old ≡ came itself result self.new }
     {
         let bits = self.byte()?;
@@ -60,7 +60,7 @@ impl<'a> Reader<'a> {
         Some(bits)
     }
 
-    pub(crate) fn name(&mut self) -> Option<&'a [u8]>
+    pub fn name(&mut self) -> Option<&'a [u8]>
         ensures { name self.old ≡ came lent result self.new }
     {
         let len = usize::from(self.byte()?);
@@ -73,7 +73,7 @@ impl<'a> Reader<'a> {
     }
 
     // The name that is there where its bit stands.
-    pub(crate) fn name_if(&mut self, stands: bool) -> Option<Option<&'a [u8]>>
+    pub fn name_if(&mut self, stands: bool) -> Option<Option<&'a [u8]>>
         ensures { name_if stands self.old ≡ came told_name result self.new }
     {
         if !stands {

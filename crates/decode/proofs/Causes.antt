@@ -11,7 +11,7 @@ use Rattle.reference.specs.declared.BadReference.{BadReference}
 use Rattle.reference.proofs.Place.{validate_within}
 use Rattle.table.specs.Row.{Row, rows_of, toks_of}
 use Rattle.table.specs.Flat.{rows_from}
-use Rattle.table.specs.Rows.{InTable, Obeys, value_at}
+use Rattle.table.specs.Rows.{InTable, Readable, Walkable, Obeys, value_at}
 use Rattle.table.proofs.Flat.{unroll, rolled_out, drop_from}
 use Rattle.table.proofs.Valid.{all_rows, few_bytes, spans_within}
 use Rattle.xml.specs.declared.Cause.{Cause}
@@ -29,11 +29,14 @@ module _ (body t : List ℕ) (k : ℕ) {from : ℕ} (f : from ≡ get_or t (k * 
     pub place_bad : from + bad.at ≡ failing_in body t k
     place_bad = rw (← p, ← e, ← f)
 
-    pub place_in : {final : ℕ} → Obeys body t final → InTable t k → from + bad.at < 2 ^ 64
+    place_in : Readable body t → InTable t k → from + bad.at ≤ length body
     place_in o i =
         let n = validate_within x refl (sym e) in
         let m = length-take (get_or t (k * 8 + 6) 0) (drop (get_or t (k * 8 + 5) 0) body) in
-        omega (arith, n, ap length p, m, (spans_within o i).value, few_bytes o)
+        omega (arith, n, ap length p, m, (spans_within o i).value)
+
+    pub place_fits : Readable body t → InTable t k → length body < 2 ^ 64 → from + bad.at < 2 ^ 64
+    place_fits o i h = omega (arith, place_in o i)
 
 -- ---- of a row of the table, or of none
 no_reference : (body : List ℕ) (rows : List Row) (k : ℕ) → drop k rows ≡ [] → reference_place body rows k ≡ 0
@@ -42,7 +45,7 @@ no_reference body [] k e = refl
 no_reference body (r ∷ rows) zero e = absurd (cons≢nil e)
 no_reference body (r ∷ rows) (suc k) e = no_reference body rows k e
 
-module _ {body t : List ℕ} {final : ℕ} (o : Obeys body t final) (k : ℕ) where
+module _ {body t : List ℕ} (o : Walkable body t) (k : ℕ) where
   pub row_in : k < length t / 8 → InTable t k
   row_in h = record { row = omega arith }
 

@@ -18,7 +18,7 @@ use Rattle.reference.specs.declared.BadReference.{BadReference}
 use Rattle.reference.proofs.Result.{plain_valid}
 use Rattle.reference.proofs.Grammar.{validated_none}
 use Rattle.table.specs.Row.{Name, cut, tok_as}
-use Rattle.table.specs.Rows.{InTable, Obeys, name_at, value_at}
+use Rattle.table.specs.Rows.{InTable, Readable, name_at, value_at}
 use Rattle.table.specs.Kinds.{kind_number}
 use Rattle.table.specs.declared.kinds.Kind.{Kind}
 use Rattle.table.proofs.Valid.{spans_within}
@@ -98,7 +98,7 @@ module _ (body t : List ℕ) (tag k : ℕ) where
 pub plain_none : (body : List ℕ) → Clear body 38 0 0
 plain_none body = record { low = omega arith; high = omega arith; none = λ k l h e. absurd (omega arith) }
 
-pub value_start_in : {body t : List ℕ} {final k : ℕ} → Obeys body t final → InTable t k → {from : ℕ} → from ≡ get_or t (k * 8 + 5) 0
+pub value_start_in : {body t : List ℕ} {k : ℕ} → Readable body t → InTable t k → {from : ℕ} → from ≡ get_or t (k * 8 + 5) 0
     → from ≤ length body
 value_start_in o h e = omega (arith, (spans_within o h).value)
 
@@ -110,13 +110,13 @@ plain_cut {body} x from len l h k e =
     x.none (from + k) (omega arith) (omega arith) (sym (get_or-take len (drop from body) k 0 g ∙ get_or-drop from body k 0) ∙ e)
 
 -- the length of a value is that of its span
-value_length : {body t : List ℕ} {final k : ℕ} → Obeys body t final → InTable t k → length (value_at body t k) ≡ get_or t (k * 8 + 6) 0
+value_length : {body t : List ℕ} {k : ℕ} → Readable body t → InTable t k → length (value_at body t k) ≡ get_or t (k * 8 + 6) 0
 value_length {body} {t} {k = k} o i =
     let m = length-take (get_or t (k * 8 + 6) 0) (drop (get_or t (k * 8 + 5) 0) body) in
     omega (arith, m, length-drop (get_or t (k * 8 + 5) 0) body, (spans_within o i).value)
 
 -- ---- the fault of a value
-module _ {body t : List ℕ} {final k : ℕ} (o : Obeys body t final) (i : InTable t k) where
+module _ {body t : List ℕ} {k : ℕ} (o : Readable body t) (i : InTable t k) where
   pub value_plain : {low high : ℕ} → Clear body 38 low high → {from : ℕ} → from ≡ get_or t (k * 8 + 5) 0 → {l : List ℕ}
       → l ≡ value_at body t k
       → {r : Bool} → LiesIn from (length l) low high r → r ≡ true

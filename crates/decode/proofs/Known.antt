@@ -3,21 +3,24 @@ use Prim.Native.Nat.{ℕ, zero, suc, ◌+◌, ◌-◌, ◌*◌, ◌/◌, ◌≤�
 use mathlib.Core.Path.{◌≡◌, refl, sym, ◌∙◌, ap}
 use mathlib.Core.Bool.{Bool, true, false}
 use mathlib.Core.List.{List, [], ◌∷◌}
+use mathlib.Core.HLevel.{⊥_prop}
+use mathlib.Core.Logic.{∥∥₁_elim}
+use native.Mathlib.Numerals.{add-one}
 use native.Mathlib.Omega.{arith}
 use borrow.Author.Tests.{leb-true, leb-false}
 use lib.Dec.{eqb, leb}
 use lib.ListN.{length, get_or, take}
+use Rattle.std.specs.Coded.{le_prop}
 use Rattle.lists.specs.Tests.{pick}
 use Rattle.lists.proofs.Tests.{false_true, less_is}
 use Rattle.table.specs.Row.{Row, Name, Tok, bad, tok_as, toks_of}
-use Rattle.table.specs.Rules.{closes_element, in_tag_only, open_count, Place, EachRow, after}
+use Rattle.table.specs.Rules.{closes_element, in_tag_only, open_count, at_first}
 use Rattle.table.specs.Flat.{row_at, rows_from}
-use Rattle.table.specs.Rows.{InTable, Readable, RulesAt, Obeys, name_at, value_at, tok_at}
-use Rattle.table.specs.Kinds.{kind_number}
+use Rattle.table.specs.Rows.{InTable, Readable, RulesAt, Walkable, name_at, value_at, tok_at}
+use Rattle.table.specs.Kinds.{IsKind, kind_number}
 use Rattle.table.specs.declared.kinds.Kind.{Kind as Kinds}
-use Rattle.table.proofs.Test.{first}
-use Rattle.table.proofs.Valid.{each_row, few_bytes, few_rows, readable, rules_at, error_last}
-use Rattle.table.proofs.Flat.{here_or_later, unroll, rolled_out}
+use Rattle.table.proofs.Valid.{each_row, rules_at, error_last}
+use Rattle.table.proofs.Flat.{unroll, rolled_out}
 use Rattle.table.proofs.Classes.{Kind, of_start, of_attr, of_gt, of_close, of_slash, of_matter, of_error, kind_of_lem}
 use Rattle.document.specs.declared.Depth.{Depth}
 use Rattle.document.specs.Reader.{depth, depth_after, Scope, ends_at}
@@ -25,6 +28,7 @@ use Rattle.document.specs.Tags.{may_stand, in_tag_after, Tags, no_token, token}
 use Rattle.document.proofs.Laws.Tags.{rows_tags}
 use Rattle.decode.specs.declared.place.Cursor.{Cursor}
 use Rattle.decode.specs.declared.view.View.{View}
+use Rattle.decode.specs.Ruled.{Ruled}
 use Rattle.decode.specs.Place.{Outside}
 use Rattle.decode.specs.Element.{toks_from}
 
@@ -62,7 +66,7 @@ pub record Tagged (body t : List ℕ) (n k : ℕ) : Type 0 where
 pub record Sees (body t : List ℕ) (n : ℕ) : Type 0 where
   pub rows : n * 8 ≤ length t
   pub readable : Readable body t
-  pub each : (k : ℕ) → k < n → RulesAt body t k
+  pub each : (k : ℕ) → k < n → ∥ RulesAt body t k ∥₁
   pub last : (k : ℕ) → k < n → get_or t (k * 8 + 0) 0 ≡ 8 → n ≤ k + 1
   pub tagged : (k : ℕ) → k ≤ n → Tagged body t n k
   pub small : length body ≤ 65536
@@ -71,23 +75,35 @@ pub record Sees (body t : List ℕ) (n : ℕ) : Type 0 where
 pub row_seen : {body t : List ℕ} {n k : ℕ} → Sees body t n → k < n → InTable t k
 row_seen q h = record { row = omega (arith, q.rows) }
 
--- the rules of row k, and of those after it
-record EachAt (body t : List ℕ) (k m : ℕ) : Type 0 where
-  place : Place
-  each : EachRow body place (rows_from t k m)
-
-each_at : (body t : List ℕ) {p : Place} (s m k : ℕ) → EachRow body p (rows_from t s m) → s ≤ k → k ≤ s + m → EachAt body t k (s + m - k)
-each_at body t {p} s zero k e l u =
-    let y : s + 0 - k ≡ 0 = omega arith in rw y (record { place = p; each = e })
-each_at body t {p} s (suc m) k e l u =
-    here_or_later (λ i. EachAt body t i (s + suc m - i)) s k l here
-    (λ h. later (each_at body t {p = after p (row_at t s)} (suc s) m k (first e).1 h (omega arith)))
+-- whether start tags are in order can be decided
+dec_tags : (b : Bool) (l : List Tok) → Dec (Tags b l)
+dec_tags b [] = yes no_token
+dec_tags b (u ∷ l) = go (may_stand u b) refl (dec_tags (in_tag_after u b) l)
   where
-    here : EachAt body t s (s + suc m - s)
-    here = let z : s + suc m - s ≡ suc m = omega arith in rw z (record { place = p; each = e })
+    head : Tags b (u ∷ l) → may_stand u b ≡ true
+    head (token m r) = m
 
-    later : EachAt body t k (suc s + m - k) → EachAt body t k (s + suc m - k)
-    later x = let z : suc s + m ≡ s + suc m = omega arith in rw z at x
+    tail : Tags b (u ∷ l) → Tags (in_tag_after u b) l
+    tail (token m r) = r
+
+    go : (x : Bool) → may_stand u b ≡ x → Dec (Tags (in_tag_after u b) l) → Dec (Tags b (u ∷ l))
+    go true e (yes r) = yes (token e r)
+    go true e (no n) = no (λ g. n (tail g))
+    go false e d = no (λ g. false_true {A = ⊥} (sym e ∙ head g))
+
+tags_of : {b : Bool} {l : List Tok} → ∥ Tags b l ∥₁ → Tags b l
+tags_of {b} {l} h = go (dec_tags b l)
+  where
+    go : Dec (Tags b l) → Tags b l
+    go (yes g) = g
+    go (no n) = absurd (∥∥₁_elim h ⊥_prop n)
+
+-- if they are from one row on, they are from each later one on
+tagged_from : (body t : List ℕ) (n m s : ℕ) {b : Bool} → Tags b (toks_from body t n s) → s + m ≤ n → Tagged body t n (s + m)
+tagged_from body t n zero s {b} g h = let z : s + 0 ≡ s = omega arith in rw z (record { in_tag = b; tags = g })
+tagged_from body t n (suc m) s {b} g h =
+    let z : s + suc m ≡ suc s + m = omega arith in
+    rw z (tagged_from body t n m (suc s) (rw (add-one s) at (tags_next body t n s g (omega arith)).1) (omega arith))
 
 -- the tokens of the first rows have their tags in order if those of all have
 tags_front : (body t : List ℕ) (n s m : ℕ) {b : Bool} → n ≤ m → Tags b (toks_of body (rows_from t s m))
@@ -96,27 +112,38 @@ tags_front body t zero s m h g = no_token
 tags_front body t (suc n) s zero h g = absurd (omega arith)
 tags_front body t (suc n) s (suc m) h (token e g) = token e (tags_front body t n (suc s) m (omega arith) g)
 
-pub sees : {body t : List ℕ} {final : ℕ} → Obeys body t final → (n : ℕ) → n * 8 ≤ length t → Sees body t n
-sees {body} {t} o n h =
+-- of rows that can be walked, the first n
+pub ruled : {body t : List ℕ} → Walkable body t → (n : ℕ) → n * 8 ≤ length t → Ruled body t n
+ruled {body} {t} w n h =
     record {
-      rows = h;
-      readable = readable o;
-      each = λ k l. rules_at o (record { row = omega arith });
-      last = λ k l q. let z = error_last o (record { row = omega arith }) q in omega (arith, z, h);
-      tagged =
-          λ k l. let e = at_row k (omega arith) in
-          record { in_tag = e.place.in_tag; tags = tags_front body t (n - k) k (length t / 8 - k) (omega arith) (rows_tags e.each) };
-      small = few_bytes o;
-      few = omega (arith, few_rows o);
+      each = λ k l. ∣ rules_at w (record { row = omega arith }) ∣₁;
+      last = λ k l q. let z = error_last w (record { row = omega arith }) q in omega (arith, z, h);
+      tags = ∣ tags_front body t n 0 (length t / 8) (omega arith) (rows_tags {p = at_first} (each_row w)) ∣₁;
     }
-  where
-    at_row : (k : ℕ) → k ≤ length t / 8 → EachAt body t k (length t / 8 - k)
-    at_row k l =
-        let z : 0 + length t / 8 ≡ length t / 8 = omega arith in
-        rw z at (each_at body t 0 (length t / 8) k (each_row o) (omega arith) (omega arith))
 
-pub sees_of : (v : View) → Sees v.table.body.now v.table.rows.now v.count
-sees_of v = sees v.table.obeys v.count v.seen
+-- those that a view sees
+module _ (v : View) where
+  in_order : Tags false (toks_from v.table.body.now v.table.rows.now v.count 0)
+  in_order = let z : v.count - 0 ≡ v.count = omega arith in rw z (tags_of v.ruled.tags)
+
+  pub sees_of : Sees v.table.body.now v.table.rows.now v.count
+  sees_of =
+      record {
+        rows = v.seen;
+        readable = v.table.readable;
+        each = v.ruled.each;
+        last = v.ruled.last;
+        tagged =
+            λ k l. let z : 0 + k ≡ k = omega arith in
+            rw z at (tagged_from v.table.body.now v.table.rows.now v.count k 0 in_order (omega arith));
+        small = v.small;
+        few = v.few;
+      }
+
+  -- a row has a kind
+  pub kind_seen : {k : ℕ} → k < v.count → IsKind (get_or v.table.rows.now (k * 8 + 0) 0)
+  kind_seen {k} h =
+      (∥∥₁_elim (v.ruled.each k h) le_prop (λ r. r.rules.known_kind.0), ∥∥₁_elim (v.ruled.each k h) le_prop (λ r. r.rules.known_kind.1))
 
 -- ---- kinds of one number are the same
 kind_from : ℕ → Kinds
@@ -183,12 +210,7 @@ pub record Stands (body t : List ℕ) (n d k : ℕ) : Type 0 where
 
 -- the first row does
 pub fresh : (v : View) → Stands v.table.body.now v.table.rows.now v.count 0 0
-fresh v =
-    let n = v.count in
-    let m = length v.table.rows.now / 8 in
-    let z : n - 0 ≡ n = omega arith in
-    let g = tags_front v.table.body.now v.table.rows.now n 0 m (omega (arith, v.seen)) (rows_tags (each_row v.table.obeys)) in
-    record { high = omega arith; low = omega arith; tags = rw z g }
+fresh v = record { high = omega arith; low = omega arith; tags = in_order v }
 
 -- a token outside of a start tag is of no kind that comes in one alone
 not_in_tag : {m : Name} {v : List ℕ} {kind : ℕ} {u : Tok} → Kind m v kind u → may_stand u false ≡ true → in_tag_only kind ≡ false
@@ -226,8 +248,8 @@ module _ {body t : List ℕ} {n : ℕ} (q : Sees body t n) where
   -- a token error in row k is its last
   pub error_end : (k : ℕ) → k < n → tok_at body t k ≡ bad → n ≤ k + 1
   error_end k h e =
-      let r = (q.each k h).rules.known_kind in
-      q.last k h (error_number (kind_at k) e r.0 r.1)
+      q.last k h (error_number (kind_at k) e (∥∥₁_elim (q.each k h) le_prop (λ r. r.rules.known_kind.0))
+      (∥∥₁_elim (q.each k h) le_prop (λ r. r.rules.known_kind.1)))
 
   pub stands : {c : Cursor} → Outside t n c → Stands body t n c.depth.0 c.row
   stands {c} o = record { high = o.at.high; low = o.at.low; tags = go (q.tagged c.row o.at.high).in_tag (q.tagged c.row o.at.high).tags }

@@ -3,8 +3,10 @@ use Prim.Native.Nat.{ℕ, zero, suc, ◌+◌, ◌-◌, ◌*◌, ◌^◌, ◌≤�
 use mathlib.Core.Path.{◌≡◌, refl, sym, ◌∙◌, ap}
 use mathlib.Core.Bool.{true, false}
 use mathlib.Core.List.{List, ◌∷◌}
+use mathlib.Core.Logic.{∥∥₁_elim}
 use native.Mathlib.Omega.{arith}
 use lib.ListN.{length, get_or, take, drop}
+use Rattle.std.specs.Coded.{le_prop}
 use Rattle.table.specs.Rules.{last_position, begin_of}
 use Rattle.table.specs.Flat.{row_at, rows_from}
 use Rattle.table.specs.Piece.{piece_start}
@@ -78,8 +80,11 @@ module _ (e : Element) where
   pub begins_low : begin_of e.view.table.body.now (row_at e.view.table.rows.now e.start.row) ≤ length e.view.table.body.now
   begins_low =
       let q = sees_of e.view in
-      let x = (q.each e.start.row (omega (arith, e.start_in.low, e.start_in.high))).rules.tag_begins (rw e.start_in.starts) in
-      omega (arith, x.before, (q.readable.each e.start.row start_row.row).local)
+      let x : begin_of e.view.table.body.now (row_at e.view.table.rows.now e.start.row)
+      < get_or e.view.table.rows.now (e.start.row * 8 + 3) 0 =
+      ∥∥₁_elim (q.each e.start.row (omega (arith, e.start_in.low, e.start_in.high))) le_prop
+      (λ r. (r.rules.tag_begins (rw e.start_in.starts)).before) in
+      omega (arith, x, (q.readable.each e.start.row start_row.row).local)
 
 -- ---- the piece
 module _ {e : Element} {p : Past} (w : DroppedIs e p) {from end : ℕ}

@@ -10,11 +10,9 @@ use Rattle.document.specs.Reader.{Reader, StartEl, Past, Next, found, gone}
 use Rattle.document.specs.Scope.{Child, scope_of, shut, done, on_next, next_from, children, children_of, level_from, dropping}
 use Rattle.document.proofs.Laws.Fuel.{level_step, dropping_shortens}
 use Rattle.decode.specs.declared.place.Past.{Past as PastAt}
-use Rattle.decode.specs.declared.place.Cursor.{Cursor}
-use Rattle.decode.specs.declared.place.Start.{Start}
 use Rattle.decode.specs.declared.view.View.{View}
 use Rattle.decode.specs.declared.element.Element.{Element}
-use Rattle.decode.specs.Element.{start_at, child_of, reader_of, NextIs, DroppedIs}
+use Rattle.decode.specs.Element.{child_at, child_of, reader_of, NextIs, DroppedIs}
 
 -- those of an element that ended in `/>` or not, from a reader on
 abbrev kids : Bool → StartEl → Reader → List Child
@@ -39,9 +37,6 @@ kids_one true el r e = let z : ◌≡◌ {A = ℕ} 0 1 = cc in absurd (omega ari
 kids_one false el r e = ap children (turn el r e)
 
 -- ---- as the code reads them
-abbrev pub child_at : View → Start → Cursor → Child
-child_at v s c = record { start = start_at v.table.body.now v.table.rows.now s; inner = reader_of v c }
-
 module _ {scope : Element} where
   pub no_more : {p : PastAt} → NextIs scope (Err p) → children_of (child_of scope) ≡ []
   unfolding children_of

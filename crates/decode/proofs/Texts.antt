@@ -14,10 +14,10 @@ use Rattle.reference.specs.Text.{decode, unescaped}
 use Rattle.table.specs.Row.{Row, Name, Matter, text, misc, Tok, matter, tok_as}
 use Rattle.table.specs.Rules.{open_count}
 use Rattle.table.specs.Flat.{rows_from}
-use Rattle.table.specs.Rows.{InTable, Obeys, name_at, value_at, tok_at}
+use Rattle.table.specs.Rows.{InTable, Readable, name_at, value_at, tok_at}
 use Rattle.table.proofs.Classes.{OfMatter, Kind, of_start, of_attr, of_gt, of_close, of_slash, of_matter, of_error, kind_of_lem}
 use Rattle.table.proofs.Flat.{unroll, drop_from}
-use Rattle.table.proofs.Valid.{few_bytes, spans_within}
+use Rattle.table.proofs.Valid.{spans_within}
 use Rattle.document.specs.declared.Depth.{Depth}
 use Rattle.document.specs.declared.part.Text.{Text}
 use Rattle.document.specs.Reader.{depth, depth_after, Scope, ends_at}
@@ -26,19 +26,22 @@ use Rattle.document.specs.Text.{value_start_at, at_end, text_turn, take_first, f
 use Rattle.document.specs.Part.{given}
 use Rattle.document.proofs.Laws.Steps.{first_text_end, first_text_token}
 use Rattle.document.proofs.Laws.Place.{value_start_lem}
-use Rattle.decode.specs.declared.element.Element.{Element}
+use Rattle.decode.specs.declared.place.Cursor.{Cursor}
+use Rattle.decode.specs.declared.place.Start.{Start}
+use Rattle.decode.specs.declared.view.View.{View}
 use Rattle.decode.specs.View.{failure_at, view_of}
-use Rattle.decode.specs.Element.{toks_from, child_of, ValueIs}
-use Rattle.decode.proofs.Known.{toks_next, toks_none, open_low}
+use Rattle.decode.specs.Element.{toks_from, child_at, start_at, ValueIs}
+use Rattle.decode.proofs.Known.{toks_next, toks_none}
 use Rattle.decode.proofs.Skipping.{depth_here}
 
 -- ---- the value of a row is small
-pub value_small : {body t : List ℕ} {final k : ℕ} → Obeys body t final → InTable t k → {from : ℕ} → from ≡ get_or t (k * 8 + 5) 0
+pub value_small : {body t : List ℕ} {k : ℕ} → Readable body t → length body ≤ 65536 → InTable t k → {from : ℕ}
+    → from ≡ get_or t (k * 8 + 5) 0
     → {l : List ℕ} → l ≡ value_at body t k
     → from + length l ≤ 2 ^ 16
-value_small {body} {t} {k = k} o i e f =
+value_small {body} {t} {k = k} o small i e f =
     let m = length-take (get_or t (k * 8 + 6) 0) (drop (get_or t (k * 8 + 5) 0) body) in
-    omega (arith, m, ap length f, (spans_within o i).value, few_bytes o)
+    omega (arith, m, ap length f, (spans_within o i).value, small)
 
 -- where it begins, by the definition
 pub value_begins : (t : List ℕ) (n k : ℕ) → k < n → value_start_at (rows_from t 0 n) k ≡ get_or t (k * 8 + 5) 0
@@ -46,30 +49,29 @@ value_begins t n k h =
     let z : 0 + k ≡ k = omega arith in value_start_lem (rows_from t 0 n) k (rw z at (drop_from t 0 k n) ∙ unroll t k n h)
 
 -- ---- the loop: at depth d and row k what is left gives the whole
-abbrev first_from : Element → ℕ → ℕ → Answer (List ℕ)
-first_from e d k =
-    first_text (view_of e.view).rows (view_of e.view).failure (scope_of (child_of e).start) (depth d) k
-    (toks_from e.view.table.body.now e.view.table.rows.now e.view.count k)
+abbrev first_from : View → Start → ℕ → ℕ → Answer (List ℕ)
+first_from v s d k =
+    first_text (view_of v).rows (view_of v).failure (scope_of (start_at v.table.body.now v.table.rows.now s)) (depth d) k
+    (toks_from v.table.body.now v.table.rows.now v.count k)
 
-abbrev the_text : Element → Answer (List ℕ)
-the_text e = text_of (view_of e.view) (child_of e)
+abbrev the_text : View → Start → Cursor → Answer (List ℕ)
+the_text v s c = text_of (view_of v) (child_at v s c)
 
-pub record TextFrom (e : Element) (d k : ℕ) : Type 0 where
-  pub low : d ≤ k
-  pub rest : first_from e d k ≡ the_text e
+pub record TextFrom (v : View) (s : Start) (c : Cursor) (d k : ℕ) : Type 0 where
+  pub rest : first_from v s d k ≡ the_text v s c
 
 -- one without a byte is the empty text
 pub empty_is : (r : Text) → r.bytes.now ≡ [] → given (Ok r) ≡ gives []
 unfolding unescaped decode
 empty_is r x = rw x
 
-pub text_closed : (e : Element) → e.start.closed ≡ true → (r : Text) → r.bytes.now ≡ [] → given (Ok r) ≡ the_text e
+pub text_closed : (v : View) (s : Start) (c : Cursor) → s.closed ≡ true → (r : Text) → r.bytes.now ≡ [] → given (Ok r) ≡ the_text v s c
 unfolding text_of
-text_closed e q r x = rw q (empty_is r x)
+text_closed v s c q r x = rw q (empty_is r x)
 
-pub text_start : (e : Element) → e.start.closed ≡ false → TextFrom e e.at.depth.0 e.at.row
+pub text_start : (v : View) (s : Start) (c : Cursor) → s.closed ≡ false → TextFrom v s c c.depth.0 c.row
 unfolding text_of
-text_start e q = record { low = e.outside.at.low; rest = rw q }
+text_start v s c q = record { rest = rw q }
 
 -- what is no text and no start is passed over, unless it ends the scope
 pub passed : {m : Name} {l : List ℕ} {kind : ℕ} {u : Tok} → Kind m l kind u → (kind ≡ 1 → ⊥) → (kind ≡ 6 → ⊥)
@@ -93,63 +95,64 @@ failed_is o q = rw q
 none_is : (o : Option Refusal) → o ≡ None → at_end (failure_at o) ≡ gives []
 none_is o q = rw q
 
-module _ {e : Element} {d k : ℕ} (w : TextFrom e d k) where
+module _ {v : View} {start : Start} {c : Cursor} {d k : ℕ} (w : TextFrom v start c d k) where
   abbrev body : List ℕ
-  body = e.view.table.body.now
+  body = v.table.body.now
 
   abbrev t : List ℕ
-  t = e.view.table.rows.now
+  t = v.table.rows.now
 
   abbrev n : ℕ
-  n = e.view.count
+  n = v.count
 
   abbrev s : Scope
-  s = scope_of (child_of e).start
+  s = scope_of (start_at body t start)
 
   abbrev rows : List Row
-  rows = (view_of e.view).rows
+  rows = (view_of v).rows
 
   -- where the rows run out
-  ended : n ≤ k → at_end (failure_at e.view.failure) ≡ the_text e
-  ended h = sym (first_text_end rows (failure_at e.view.failure) s (depth d) k) ∙ rw (toks_none body t n k h) at w.rest
+  ended : n ≤ k → at_end (failure_at v.failure) ≡ the_text v start c
+  ended h = sym (first_text_end rows (failure_at v.failure) s (depth d) k) ∙ rw (toks_none body t n k h) at w.rest
 
-  pub text_failed : {why : Refusal} → n ≤ k → e.view.failure ≡ Some why → given (Err why) ≡ the_text e
-  text_failed h q = sym (failed_is e.view.failure q) ∙ ended h
+  pub text_failed : {why : Refusal} → n ≤ k → v.failure ≡ Some why → given (Err why) ≡ the_text v start c
+  text_failed h q = sym (failed_is v.failure q) ∙ ended h
 
-  pub text_empty : n ≤ k → e.view.failure ≡ None → (r : Text) → r.bytes.now ≡ [] → given (Ok r) ≡ the_text e
-  text_empty h q r x = empty_is r x ∙ (sym (none_is e.view.failure q) ∙ ended h)
+  pub text_empty : n ≤ k → v.failure ≡ None → (r : Text) → r.bytes.now ≡ [] → given (Ok r) ≡ the_text v start c
+  text_empty h q r x = empty_is r x ∙ (sym (none_is v.failure q) ∙ ended h)
 
   module _ (h : k < n) where
     -- what one row does
     turned : text_turn (take_first (get_or t (k * 8 + 5) 0)) s (depth_after (tok_at body t k) (depth d)) (tok_at body t k)
-        (first_text rows (failure_at e.view.failure) s (depth_after (tok_at body t k) (depth d)) (k + 1) (toks_from body t n (k + 1)))
-        ≡ the_text e
+        (first_text rows (failure_at v.failure) s (depth_after (tok_at body t k) (depth d)) (k + 1) (toks_from body t n (k + 1)))
+        ≡ the_text v start c
     turned =
         let u = tok_at body t k in
-        let x = first_text_token rows (failure_at e.view.failure) s (depth d) k u (toks_from body t n (suc k)) in
+        let x = first_text_token rows (failure_at v.failure) s (depth d) k u (toks_from body t n (suc k)) in
         rw (← add-one k) at
         (sym (rw (value_begins t n k h) at x)
-        ∙ (ap (first_text rows (failure_at e.view.failure) s (depth d) k) (sym (rw (add-one k) at (toks_next body t n k h))) ∙ w.rest))
+        ∙ (ap (first_text rows (failure_at v.failure) s (depth d) k) (sym (rw (add-one k) at (toks_next body t n k h))) ∙ w.rest))
 
     module _ {kind : ℕ} (g : kind ≡ get_or t (k * 8 + 0) 0) where
-      pub text_element : kind ≡ 1 → given (Err Refusal.ElementInText) ≡ the_text e
+      pub text_element : kind ≡ 1 → given (Err Refusal.ElementInText) ≡ the_text v start c
       unfolding tok_as
       text_element q = rw (← g, q) at turned
 
-      pub text_row : {r : Text} → kind ≡ 6 → ValueIs body t k r → given (Ok r) ≡ the_text e
+      pub text_row : {r : Text} → kind ≡ 6 → ValueIs body t k r → given (Ok r) ≡ the_text v start c
       unfolding tok_as
       text_row q x = rw (x.from, x.bytes) (rw (← g, q) at turned)
 
       module _ (a : (kind ≡ 6 → ⊥)) (b : (kind ≡ 1 → ⊥)) {d' : ℕ} (x : d' ≡ open_count d kind) {r : Bool}
           (i : r ≡ ends_at s (depth d') (tok_at body t k)) where
-        on : pick r (gives []) (first_from e d' (k + 1)) ≡ the_text e
+        on : pick r (gives []) (first_from v start d' (k + 1)) ≡ the_text v start c
         on =
-            let c = kind_of_lem (get_or t (k * 8 + 0) 0) (name_at body t k) (value_at body t k) in
-            let z = passed c (rw g at b) (rw g at a) (take_first (get_or t (k * 8 + 5) 0)) s (depth d') (first_from e d' (k + 1)) in
+            let kind_is = kind_of_lem (get_or t (k * 8 + 0) 0) (name_at body t k) (value_at body t k) in
+            let z =
+            passed kind_is (rw g at b) (rw g at a) (take_first (get_or t (k * 8 + 5) 0)) s (depth d') (first_from v start d' (k + 1)) in
             rw i (sym z ∙ rw (depth_here body t d k g x) at turned)
 
-        pub text_on : r ≡ false → TextFrom e d' (k + 1)
-        text_on q = record { low = rw x (open_low d kind k w.low); rest = rw q at on }
+        pub text_on : r ≡ false → TextFrom v start c d' (k + 1)
+        text_on q = record { rest = rw q at on }
 
-        pub text_ended : r ≡ true → (f : Text) → f.bytes.now ≡ [] → given (Ok f) ≡ the_text e
+        pub text_ended : r ≡ true → (f : Text) → f.bytes.now ≡ [] → given (Ok f) ≡ the_text v start c
         text_ended q f y = empty_is f y ∙ rw q at on

@@ -9,6 +9,8 @@ use lib.Dec.{ltb}
 use lib.ListN.{length, get_or, length-append}
 use Rattle.std.specs.Prelude.{Ok, Err, Some, None}
 use Rattle.std.proofs.Math.Option as math
+use Rattle.std.proofs.Math.Bridge.{le_prop}
+use Rattle.std.proofs.Props.{props}
 use Rattle.refusal.specs.declared.Refusal.{Refusal}
 use Rattle.table.specs.Row.{Name, Tok, tok_as, toks_of, rows_of}
 use Rattle.table.proofs.Classes.{Kind, of_start, of_attr, of_gt, of_close, of_slash, of_matter, of_error, kind_of_lem}
@@ -19,7 +21,7 @@ use Rattle.table.specs.Rows.{Obeys, InTable, name_at, value_at, tok_at}
 use Rattle.table.specs.declared.rows.ValidTable.{ValidTable}
 use Rattle.table.proofs.Test.{first}
 use Rattle.table.proofs.Flat.{length_rows}
-use Rattle.table.proofs.Valid.{all_rows, each_row, end_within, readable, rules_at}
+use Rattle.table.proofs.Valid.{walks, all_rows, each_row, end_within, few_bytes, few_rows, rules_at}
 use Rattle.xml.specs.declared.Cause.{Cause}
 use Rattle.xml.specs.declared.DrainError.{DrainError}
 use Rattle.xml.specs.Drain.{walked, cause_place}
@@ -27,9 +29,32 @@ use Rattle.xml.specs.Passed.{FirstFault, at_row, at_the_end}
 use Rattle.xml.proofs.First.{walk_ill_formed_is}
 use Rattle.document.specs.View.{position_at, failure_of, is_error, error_at, view}
 use Rattle.decode.specs.declared.view.View.{View}
+use Rattle.decode.specs.Ruled.{Ruled}
 use Rattle.decode.specs.View.{whole_of, ViewIs}
 use Rattle.decode.proofs.Walking.{length_toks}
-use Rattle.decode.proofs.Known.{take_rows}
+use Rattle.decode.proofs.Known.{take_rows, ruled}
+
+-- ---- a view is what its fields are, whatever proofs stand beside them
+ruled_prop : (body t : List ℕ) (n : ℕ) → IsProp (Ruled body t n)
+ruled_prop body t n = hlevel props
+
+pub same_view : (v : View) {s : v.count * 8 ≤ length v.table.rows.now} {r : Ruled v.table.body.now v.table.rows.now v.count}
+    {w : v.ends ≤ length v.table.body.now} {m : length v.table.body.now ≤ 65536} {f : v.count ≤ 8192}
+    → record {
+      table = v.table;
+      count = v.count;
+      failure = v.failure;
+      ill_formed = v.ill_formed;
+      ends = v.ends;
+      seen = s;
+      ruled = r;
+      within = w;
+      small = m;
+      few = f;
+    } ≡ v
+same_view v {s} {r} {w} {m} {f} =
+    let same = ruled_prop v.table.body.now v.table.rows.now v.count r v.ruled in
+    rw (le_prop s v.seen, same, le_prop w v.within, le_prop m v.small, le_prop f v.few)
 
 -- ---- the position of a row, or the final one
 position_row : (t : List ℕ) (final s k m : ℕ) → k < m → position_at final (rows_from t s m) k ≡ get_or t ((s + k) * 8 + 7) 0
@@ -45,10 +70,12 @@ position_past t final s (suc k) (suc m) h = position_past t final (suc s) k m (o
 
 module _ {body t : List ℕ} {final : ℕ} (o : Obeys body t final) (k : ℕ) where
   pub position_in : {x : ℕ} → k < length t / 8 → x ≡ get_or t (k * 8 + 7) 0 → x ≡ position_at final (rows_of t) k
-  position_in h e = let z : 0 + k ≡ k = omega arith in rw (all_rows o) (e ∙ sym (rw z at (position_row t final 0 k (length t / 8) h)))
+  position_in h e =
+      let z : 0 + k ≡ k = omega arith in
+      rw (all_rows (walks o)) (e ∙ sym (rw z at (position_row t final 0 k (length t / 8) h)))
 
   pub position_out : length t / 8 ≤ k → final ≡ position_at final (rows_of t) k
-  position_out h = rw (all_rows o) (sym (position_past t final 0 k (length t / 8) h))
+  position_out h = rw (all_rows (walks o)) (sym (position_past t final 0 k (length t / 8) h))
 
   pub position_low : position_at final (rows_of t) k ≤ length body
   position_low = go (ltb k (length t / 8)) refl
@@ -56,7 +83,7 @@ module _ {body t : List ℕ} {final : ℕ} (o : Obeys body t final) (k : ℕ) wh
       go : (b : Bool) → ltb k (length t / 8) ≡ b → position_at final (rows_of t) k ≤ length body
       go true q =
           let h = ltb-true k (length t / 8) q in
-          rw (← position_in h refl) ((readable o).each k (omega arith)).position
+          rw (← position_in h refl) ((walks o).readable.each k (omega arith)).position
       go false q = rw (← position_out (ltb-false k (length t / 8) q)) (end_within o)
 
 -- ---- what a token error in the last row says of all
@@ -113,19 +140,41 @@ module _ (v : ValidTable) where
   n = length t / 8
 
   -- nothing stops the reader
-  pub whole_seen : n * 8 ≤ length t
-  whole_seen = omega arith
+  pub whole_seen : {x : ℕ} → x ≡ n → x * 8 ≤ length t
+  whole_seen e = omega (arith, e)
 
-  pub whole_is : {r : View} → r.table ≡ v → r.count ≡ n → r.failure ≡ None → r.ill_formed ≡ false → r.ends ≡ v.end
+  -- but for the last row
+  pub last_seen : {x : ℕ} → x ≡ n → (x - 1) * 8 ≤ length t
+  last_seen e = omega (arith, e)
+
+  pub whole_is : {r : View} → r.table.body.now ≡ body → r.table.rows.now ≡ t → r.count ≡ n → r.failure ≡ None → r.ill_formed ≡ false
+      → r.ends ≡ v.end
       → ViewIs v (whole_of v) r
-  whole_is a b c d e = record { same = rw (a, b, c, d, e, all_rows v.obeys); table = a }
+  whole_is g a b c d e = record { same = rw (a, b, c, d, e, all_rows (walks v.obeys)); body = g; rows = a }
+
+  -- the facts of a view of the first k rows
+  module _ {b u : List ℕ} (f : b ≡ body) (g : u ≡ t) (k : ℕ) (h : k * 8 ≤ length t) where
+    pub seen_of : k * 8 ≤ length u
+    seen_of = rw g h
+
+    pub ruled_of : Ruled b u k
+    ruled_of = rw (f, g) (ruled (walks v.obeys) k h)
+
+    pub within_of : {p : ℕ} → p ≤ length body → p ≤ length b
+    within_of q = rw f q
+
+    pub small_of : length b ≤ 65536
+    small_of = rw f (few_bytes v.obeys)
+
+    pub few_of : k ≤ 8192
+    few_of = omega (arith, h, few_rows v.obeys)
 
   module _ {k : ℕ} {c : Cause} (e : Err (DrainError.IllFormed k c) ≡ walked (toks_of body (rows_of t))) where
     first_in : k ≤ n
     first_in = go ((walk_ill_formed_is (toks_of body (rows_of t)) k c).0 (sym e))
       where
         size : length (toks_of body (rows_of t)) ≡ n
-        size = length_toks body (rows_of t) ∙ rw (all_rows v.obeys) (length_rows t 0 n)
+        size = length_toks body (rows_of t) ∙ rw (all_rows (walks v.obeys)) (length_rows t 0 n)
 
         go : FirstFault (toks_of body (rows_of t)) k c → k ≤ n
         go (at_row a x b s l f g) = omega (arith, size, ap length s, length-append a (x ∷ b))
@@ -136,11 +185,11 @@ module _ (v : ValidTable) where
 
     pub view_ill : {x : ℕ} {f : Refusal} {p : ℕ} → x ≡ cause_place body (rows_of t) k c → f ≡ failure_of x c
         → p ≡ position_at v.end (rows_of t) k
-        → {r : View} → r.table ≡ v → r.count ≡ k → r.failure ≡ Some f → r.ill_formed ≡ true → r.ends ≡ p
+        → {r : View} → r.table.body.now ≡ body → r.table.rows.now ≡ t → r.count ≡ k → r.failure ≡ Some f → r.ill_formed ≡ true → r.ends ≡ p
         → ViewIs v (view true body (rows_of t) v.end) r
     unfolding view
-    view_ill a i j {r} h l m o q =
-        record { same = rw (← e, h, l, m, o, q, i, a, j, all_rows v.obeys, take_rows t 0 k n first_in); table = h }
+    view_ill a i j {r} g h l m o q =
+        record { same = rw (← e, h, l, m, o, q, i, a, j, all_rows (walks v.obeys), take_rows t 0 k n first_in); body = g; rows = h }
 
   pub view_passes : Ok tt ≡ walked (toks_of body (rows_of t)) → {r : View} → ViewIs v (whole_of v) r
       → ViewIs v (view true body (rows_of t) v.end) r
@@ -155,7 +204,7 @@ module _ (v : ValidTable) where
   -- lenient: the last row alone can be a token error
   pub lenient_none : n ≡ 0 → {r : View} → ViewIs v (whole_of v) r → ViewIs v (view false body (rows_of t) v.end) r
   unfolding view error_at
-  lenient_none e x = let z : rows_of t ≡ rows_from t 0 0 = all_rows v.obeys ∙ ap (rows_from t 0) e in rw z (rw z at x)
+  lenient_none e x = let z : rows_of t ≡ rows_from t 0 0 = all_rows (walks v.obeys) ∙ ap (rows_from t 0) e in rw z (rw z at x)
 
   module _ (h : (n ≡ 0 → ⊥)) where
     count : n ≡ suc (n - 1)
@@ -166,27 +215,25 @@ module _ (v : ValidTable) where
         some_rows (suc m) z = omega arith
 
     rows_are : rows_of t ≡ rows_from t 0 (suc (n - 1))
-    rows_are = all_rows v.obeys ∙ ap (rows_from t 0) count
+    rows_are = all_rows (walks v.obeys) ∙ ap (rows_from t 0) count
 
     each : EachRow body at_first (rows_from t 0 (suc (n - 1)))
-    each = rw count at (each_row v.obeys)
-
-    pub last_seen : (n - 1) * 8 ≤ length t
-    last_seen = omega arith
+    each = rw count at (each_row (walks v.obeys))
 
     pub last_in : InTable t (n - 1)
     last_in = record { row = omega (arith, count) }
 
-    pub lenient_error : 8 ≡ get_or t ((n - 1) * 8 + 0) 0 → {r : View} → r.table ≡ v → r.count ≡ n - 1 → r.failure ≡ Some Refusal.TokenError
+    pub lenient_error : 8 ≡ get_or t ((n - 1) * 8 + 0) 0 → {r : View} → r.table.body.now ≡ body → r.table.rows.now ≡ t → r.count ≡ n - 1
+        → r.failure ≡ Some Refusal.TokenError
         → r.ill_formed ≡ false
         → r.ends ≡ v.end
         → ViewIs v (view false body (rows_of t) v.end) r
     unfolding view tok_as
-    lenient_error q a b c d e =
+    lenient_error q g a b c d e =
         let m = n - 1 in
         let z : 0 + m ≡ m = omega arith in
         let x = error_is body t 0 m each (rw (z, ← q)) in
-        record { same = rw (a, b, c, d, e, rows_are, x, take_rows t 0 m (suc m) (omega arith)); table = a }
+        record { same = rw (a, b, c, d, e, rows_are, x, take_rows t 0 m (suc m) (omega arith)); body = g; rows = a }
 
     pub lenient_whole : {kind : ℕ} → kind ≡ get_or t ((n - 1) * 8 + 0) 0 → (kind ≡ 8 → ⊥) → {r : View} → ViewIs v (whole_of v) r
         → ViewIs v (view false body (rows_of t) v.end) r
@@ -200,5 +247,5 @@ module _ (v : ValidTable) where
         not_error : (u : Bool) → is_error (tok_at body t (n - 1)) ≡ u → u ≡ false
         not_error false e = refl
         not_error true e =
-            let r = (rules_at v.obeys last_in).rules.known_kind in
+            let r = (rules_at (walks v.obeys) last_in).rules.known_kind in
             absurd (q (f ∙ bad_is body t (n - 1) e r.0 r.1))

@@ -17,7 +17,7 @@ use Rattle.lists.specs.Decide.{is_yes}
 use Rattle.reference.specs.Text.{validated}
 use Rattle.reference.specs.declared.BadReference.{BadReference}
 use Rattle.table.specs.Row.{Row, Name, Tok, references_in, bad, toks_of, rows_of}
-use Rattle.table.specs.Rows.{InTable, Obeys, name_at, value_at, tok_at}
+use Rattle.table.specs.Rows.{InTable, Walkable, Obeys, name_at, value_at, tok_at}
 use Rattle.table.proofs.Classes.{Kind, of_start, of_attr, of_gt, of_close, of_slash, of_matter, of_error, kind_of_lem}
 use Rattle.table.specs.Rules.{closes_element, ends_tag, in_tag_only, may_be_in_tag, open_count, Place, at_first, after, RowRules, EachRow}
 use Rattle.table.specs.Rules.{TableRules}
@@ -185,7 +185,7 @@ pub record WalkAt (body t : List ℕ) (starts : List ℕ) (depth k : ℕ) : Type
   rest : walk k (going (stack_of body t starts depth) names) (toks_of body (rows_from t k (length t / 8 - k)))
       ≡ walk 0 (going [] []) (toks_of body (rows_of t))
 
-pub walk_start : {body t : List ℕ} {final : ℕ} (starts : List ℕ) → Obeys body t final → WalkAt body t starts 0 0
+pub walk_start : {body t : List ℕ} (starts : List ℕ) → Walkable body t → WalkAt body t starts 0 0
 walk_start {body} {t} starts o =
     let z : length t / 8 - 0 ≡ length t / 8 = omega arith in
     record {
@@ -299,7 +299,7 @@ pub length_toks : (body : List ℕ) (l : List Row) → length (toks_of body l) �
 length_toks body [] = refl
 length_toks body (r ∷ l) = ap suc (length_toks body l)
 
-module _ {body t : List ℕ} {final : ℕ} {starts : List ℕ} {depth k : ℕ} (o : Obeys body t final)
+module _ {body t : List ℕ} {starts : List ℕ} {depth k : ℕ} (o : Walkable body t)
     (w : WalkAt body t starts depth k)
     (h : length t / 8 ≤ k) where
   ended : walk 0 (going [] []) (toks_of body (rows_of t)) ≡ going (stack_of body t starts depth) w.names

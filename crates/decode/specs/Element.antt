@@ -3,11 +3,12 @@ use Rattle.std.specs.Prelude.{ℕ, zero, suc, ◌+◌, ◌-◌, ◌*◌, ◌≤�
 use Rattle.std.specs.Prelude.{Some, None, Result, Ok, Err}
 use Rattle.std.proofs.Math.Option as math
 use Rattle.lists.specs.Tests.{pick}
+use Rattle.refusal.specs.declared.Refusal.{Refusal}
 use Rattle.reference.specs.Text.{bytes, unescaped, meaning}
 use Rattle.table.specs.Row.{Tok, toks_of}
 use Rattle.table.specs.Flat.{rows_from}
 use Rattle.table.specs.Names.{name_matches}
-use Rattle.table.specs.Rows.{name_at, value_at}
+use Rattle.table.specs.Rows.{InTable, name_at, value_at}
 use Rattle.document.specs.Reader.{Reader, reader, depth, Scope, StartEl, blank, found, gone, next}
 use Rattle.document.specs.Reader as doc
 use Rattle.document.specs.Scope.{Child, scope_of, shut, skip_from, next_from, dropped, leave, root_of, piece_end, piece_of}
@@ -59,8 +60,11 @@ abbrev pub past_of : View → Past → doc.Past
 past_of v p = past_at v.table.body.now v.table.rows.now v.count p
 
 -- an element, and the reader at its content
+abbrev pub child_at : View → Start → Cursor → Child
+child_at v s c = record { start = start_at v.table.body.now v.table.rows.now s; inner = reader_of v c }
+
 abbrev pub child_of : Element → Child
-child_of e = record { start = start_at e.view.table.body.now e.view.table.rows.now e.start; inner = reader_of e.view e.at }
+child_of e = child_at e.view e.start e.at
 
 abbrev pub next_of : View → Result Element Past → doc.Next
 next_of v (Ok e) = let c = child_of e in found c.start c.inner
@@ -167,6 +171,16 @@ pub record ValueIs (body t : List ℕ) (k : ℕ) (r : Text) : Type 0 where
   pub from : r.from ≡ get_or t (k * 8 + 5) 0
   pub bytes : r.bytes.now ≡ value_at body t k
 
+-- a text is empty, or it is the value of a row of the table
+pub data TextIn (body t : List ℕ) (r : Text) : Type 0 where
+  no_text : r.bytes.now ≡ [] → TextIn body t r
+  row_text : (k : ℕ) → InTable t k → ValueIs body t k r → TextIn body t r
+
+-- and so is one that is given
+abbrev pub GivenIn : List ℕ → List ℕ → Result Text Refusal → Type 0
+GivenIn body t (Ok r) = TextIn body t r
+GivenIn body t (Err e) = Unit {0}
+
 -- by row: a pattern asks for the name of none of the rows from one on and before another
 pub record NoMatch (body t pattern : List ℕ) (from end : ℕ) : Type 0 where
   pub none : (j : ℕ) → from ≤ j → j < end → name_matches (name_at body t j) pattern ≡ false
@@ -184,10 +198,13 @@ abbrev pub MatchIn : List ℕ → List ℕ → List ℕ → ℕ → ℕ → Opti
 MatchIn body t pattern from end None = NoMatch body t pattern from end
 MatchIn body t pattern from end (Some r) = FirstMatch body t pattern from end r
 
-pub record AttributeIs (e : Element) (pattern : List ℕ) (r : Option Text) : Type 0 where
-  pub is : attribute_value r ≡ first_named pattern (child_of e).start.attributes
+pub record AttributeOf (v : View) (s : Start) (pattern : List ℕ) (r : Option Text) : Type 0 where
+  pub is : attribute_value r ≡ first_named pattern (start_at v.table.body.now v.table.rows.now s).attributes
   pub value : Unescapes r
-  pub row : MatchIn e.view.table.body.now e.view.table.rows.now pattern (e.start.row + 1) e.start.end r
+  pub row : MatchIn v.table.body.now v.table.rows.now pattern (s.row + 1) s.end r
+
+abbrev pub AttributeIs : Element → List ℕ → Option Text → Type 0
+AttributeIs e pattern r = AttributeOf e.view e.start pattern r
 
 -- ---- pieces: the definition's, which lies in the body
 pub record PieceIs (e : Element) (r : Piece) : Type 0 where

@@ -26,7 +26,8 @@ view_of v =
 abbrev pub whole_of : ValidTable → doc.View
 whole_of t = doc.whole (rows_of t.rows.now) t.end
 
--- what is answered: the definition's view, of this table
+-- what is answered: the definition's view, of this table's rows
 pub record ViewIs (t : ValidTable) (is : doc.View) (v : View) : Type 0 where
   pub same : view_of v ≡ is
-  pub table : v.table ≡ t
+  pub body : v.table.body.now ≡ t.body.now
+  pub rows : v.table.rows.now ≡ t.rows.now

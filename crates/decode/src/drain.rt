@@ -9,7 +9,7 @@ ghost use Rattle.xml.specs.Drain.{cause_place, drained, has_name, reference_plac
 ghost use Rattle.decode.specs.Drain.{Entered, FaultIs, LiesIn, WellPlaced, failing_in, names_back, top_of, value_fault};
 ghost use Rattle.table.specs.Kinds.{kind_number};
 
-use table::{Kind, Table, ValidTable};
+use table::{Kind, ReadableRows, RuledRows, Table};
 use xml::{Cause, DrainError};
 
 // A part of a body where no `&` stands.
@@ -88,7 +88,7 @@ impl Open {
 }
 
 // Whether a row between a start row and row k has the name of row k: a look over the attributes of one start tag.
-fn is_repeated(table: ValidTable, tag: usize, k: usize) -> bool
+fn is_repeated(table: ReadableRows, tag: usize, k: usize) -> bool
     requires in_table { InTable table.rows.now k }
     requires in_tag { tag < k }
     ensures { result ≡ has_name (name_at table.entry.body.now table.entry.rows.now k)
@@ -103,7 +103,7 @@ fn is_repeated(table: ValidTable, tag: usize, k: usize) -> bool
 }
 
 // Whether each reference in the value of row k is right: one in a part without `&` has none.
-fn check_references(table: ValidTable, k: usize, plain: Plain) -> Result<(), Cause>
+fn check_references(table: ReadableRows, k: usize, plain: Plain) -> Result<(), Cause>
     requires in_table { InTable table.rows.now k }
     requires of_body { plain.body.now ≡ table.body.now }
     ensures { result ≡ value_fault (value_at table.entry.body.now table.entry.rows.now k) }
@@ -117,22 +117,23 @@ fn check_references(table: ValidTable, k: usize, plain: Plain) -> Result<(), Cau
 
 // What is wrong with row k, if anything is, where the innermost open element starts in row `top`: an attribute stands in that one's start
 // tag.
-fn row_fault(table: ValidTable, top: usize, k: usize, plain: Plain) -> Result<(), Cause>
+fn row_fault(table: RuledRows, top: usize, k: usize, plain: Plain) -> Result<(), Cause>
     requires placed { WellPlaced table.rows.now top k }
     requires of_body { plain.body.now ≡ table.body.now }
     ensures { FaultIs table.entry.body.now table.entry.rows.now top k result }
 {
+    let rows = table.readable();
     match table.kind(k) {
         Kind::Attribute => {
-            if is_repeated(table, top, k) {
+            if is_repeated(rows, top, k) {
                 Err(Cause::RepeatedAttribute)
             } else {
-                check_references(table, k, plain)
+                check_references(rows, k, plain)
             }
         }
-        Kind::Text => check_references(table, k, plain),
+        Kind::Text => check_references(rows, k, plain),
         Kind::Close => {
-            if table.same_name(k, top) {
+            if rows.same_name(k, top) {
                 Ok(())
             } else {
                 Err(Cause::MismatchedEnd)
@@ -143,11 +144,12 @@ fn row_fault(table: ValidTable, top: usize, k: usize, plain: Plain) -> Result<()
     }
 }
 
-// The walk of the drain, over the rows of a table that obeys the rules.
-pub fn walk(table: ValidTable) -> Result<(), DrainError>
+// The walk of the drain, over rows that obey the rules.
+pub fn walk(table: RuledRows) -> Result<(), DrainError>
     ensures { result ≡ walked (toks_of table.entry.body.now (rows_of table.entry.rows.now)) }
 {
     let n = table.len();
+    let rows = table.readable();
     let mut open = Open {
         rows: [0; 256],
         depth: 0,
@@ -158,7 +160,7 @@ pub fn walk(table: ValidTable) -> Result<(), DrainError>
         to: 0,
     };
     for k in 0..n {
-        plain = plain.at(table.value_start(k));
+        plain = plain.at(rows.value_start(k));
         if let Err(cause) = row_fault(table, open.top(), k, plain) {
             return Err(DrainError::IllFormed { row: k, cause });
         }
@@ -179,13 +181,13 @@ pub fn drain(table: Table) -> Result<(), DrainError>
     ensures { result ≡ drained table.entry.body.now table.entry.rows.now table.entry.end }
 {
     match table.check() {
-        Some(valid) => walk(valid),
+        Some(valid) => walk(valid.ruled()),
         None => Err(DrainError::Table),
     }
 }
 
 // Where validating the value of row k fails, as an offset in the body: the start of the value where it is valid.
-fn value_place(table: ValidTable, k: usize) -> usize
+fn value_place(table: ReadableRows, k: usize) -> usize
     requires { InTable table.rows.now k }
     ensures { result ≡ failing_in table.entry.body.now table.entry.rows.now k }
 {
@@ -197,11 +199,11 @@ fn value_place(table: ValidTable, k: usize) -> usize
 }
 
 // The place of the failing `&` in row k, or 0 where there is no such row.
-fn reference_place(table: ValidTable, k: usize) -> usize
+fn reference_place(table: RuledRows, k: usize) -> usize
     ensures { result ≡ reference_place table.entry.body.now (rows_of table.entry.rows.now) k }
 {
     if k < table.len() {
-        value_place(table, k)
+        value_place(table.readable(), k)
     } else {
         0
     }
@@ -209,7 +211,7 @@ fn reference_place(table: ValidTable, k: usize) -> usize
 
 // The place of a cause that the drain answers with row k, as an offset in the body: only a reference has one, that of the failing `&`.
 // The value is validated once more, so that the walk need not keep the place.
-pub fn cause_place(table: ValidTable, k: usize, cause: Cause) -> usize
+pub fn cause_place(table: RuledRows, k: usize, cause: Cause) -> usize
     ensures { result ≡ cause_place table.entry.body.now (rows_of table.entry.rows.now) k cause }
 {
     match cause {

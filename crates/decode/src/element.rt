@@ -46,14 +46,16 @@ fn shut(at: Cursor) -> Past
 }
 
 impl<'a> View<'a> {
-    ghost use Rattle.decode.specs.Element.{FoundAt, RootIs, StartsAt, TagEnd, TagIs, ValueIs, good_attribute};
+    ghost use Rattle.decode.specs.View.{view_of};
+    ghost use Rattle.decode.specs.Element.{AttributeOf, FoundAt, GivenIn, RootIs, StartsAt, TagEnd, TagIs, ValueIs};
+    ghost use Rattle.decode.specs.Element.{child_at, good_attribute, start_at};
 
     // The first start element of all.
     pub fn root(&self) -> Option<Element<'a>>
         ensures { RootIs self.now result }
     {
         for k in 0..self.count {
-            if let Kind::Start = self.table.kind(k) {
+            if let Kind::Start = self.kind(k) {
                 return self.start_tag(0, k).ok();
             }
         }
@@ -73,10 +75,10 @@ impl<'a> View<'a> {
 
     // Whether row k is an attribute that unescapes.
     fn is_good(&self, k: usize) -> bool
-        requires { InTable self.now.table.rows.now k }
+        requires { k < self.now.count }
         ensures { result ≡ good_attribute self.now.table.body.now self.now.table.rows.now k }
     {
-        match self.table.kind(k) {
+        match self.kind(k) {
             Kind::Attribute => unescape::measure(self.table.value(k)).is_ok(),
             _ => false,
         }
@@ -96,21 +98,47 @@ impl<'a> View<'a> {
         self.count
     }
 
-    // An element whose start tag was read.
+    // An element whose start tag was read. Field by field: a copy of the whole has the bytes between the fields too, and these cost most.
+    #[inline(always)]
     fn found(&self, start: Start, at: Cursor) -> Element<'a>
         requires start_in { StartIn self.now.table.body.now self.now.table.rows.now self.now.count start }
         requires outside { Outside self.now.table.rows.now self.now.count at }
         ensures { FoundAt self.now start at result }
     {
+        let View {
+            table,
+            count,
+            failure,
+            ill_formed,
+            ends,
+        } = *self;
+        let Start {
+            row,
+            end,
+            closed,
+            depth,
+        } = start;
         Element {
-            view: *self,
-            start,
+            view: View {
+                table,
+                count,
+                failure,
+                ill_formed,
+                ends,
+            },
+            start: Start {
+                row,
+                end,
+                closed,
+                depth,
+            },
             at,
         }
     }
 
     // The start element of a row, at depth d. The search for it ends at an attribute that does not unescape, and at a token error, which
     // is the last row.
+    #[inline(always)]
     fn start_tag(&self, d: usize, row: usize) -> Result<Element<'a>, Past>
         requires { StartsAt self.now d row }
         ensures { TagIs self.now d row result }
@@ -120,7 +148,7 @@ impl<'a> View<'a> {
         if self.count <= end {
             return Err(over(false, end, d + 1));
         }
-        match self.table.kind(end) {
+        match self.kind(end) {
             Kind::Gt => {
                 let start = Start {
                     row,
@@ -150,11 +178,75 @@ impl<'a> View<'a> {
             _ => Err(over(false, end + 1, d + 1)),
         }
     }
+
+    // The first attribute of a start element that a pattern asks for.
+    pub fn attr(&self, start: Start, pattern: Pattern) -> Option<Text<'a>>
+        requires { StartIn self.now.table.body.now self.now.table.rows.now self.now.count start }
+        ensures { AttributeOf self.now start pattern.entry.whole.now result }
+    {
+        for k in start.row + 1..start.end {
+            if self.table.matches(k, pattern) {
+                return Some(self.text(k));
+            }
+        }
+        None
+    }
+
+    // Whether row k, which leaves depth d, ends a start element.
+    #[inline(always)]
+    pub fn ends_at(&self, start: Start, k: usize, d: usize) -> bool
+        requires in_table { InTable self.now.table.rows.now k }
+        requires start_in_table { InTable self.now.table.rows.now start.row }
+        ensures { result ≡ ends_at (scope_of (start_at self.now.table.body.now self.now.table.rows.now start)) (depth d)
+            (tok_at self.now.table.body.now self.now.table.rows.now k) }
+    {
+        let Some(kind) = self.table.kind(k) else {
+            return false;
+        };
+        match kind {
+            Kind::Close => d == start.depth.0 && self.table.same_name(k, start.row),
+            _ => false,
+        }
+    }
+
+    // The first text of a start element, from a place on: one that ended in `/>` has the empty text.
+    #[inline(always)]
+    pub fn try_data(&self, start: Start, at: Cursor) -> Result<Text<'a>, Refusal>
+        requires { StartIn self.now.table.body.now self.now.table.rows.now self.now.count start }
+        ensures same { given result ≡ text_of (view_of self.now) (child_at self.now start at) }
+        ensures row { GivenIn self.now.table.body.now self.now.table.rows.now result }
+    {
+        if start.closed {
+            return Ok(Text::empty());
+        }
+        let mut d = at.depth.0;
+        for k in at.row..self.count {
+            let kind = self.kind(k);
+            match kind {
+                Kind::Text => {
+                    return Ok(self.text(k));
+                }
+                Kind::Start => {
+                    return Err(Refusal::ElementInText);
+                }
+                _ => {
+                    d = kind.open_after(d);
+                    if self.ends_at(start, k, d) {
+                        return Ok(Text::empty());
+                    }
+                }
+            }
+        }
+        match self.failure {
+            Some(why) => Err(why),
+            None => Ok(Text::empty()),
+        }
+    }
 }
 
 impl<'a> Element<'a> {
     ghost use Rattle.decode.specs.View.{view_of};
-    ghost use Rattle.decode.specs.Element.{AttributeIs, DroppedIs, EndIs, FoundAt, LeftIs, NextIs, PieceIs, SkipIs, child_of};
+    ghost use Rattle.decode.specs.Element.{AttributeIs, DroppedIs, EndIs, FoundAt, GivenIn, LeftIs, NextIs, PieceIs, SkipIs, child_of};
 
     // Whether a pattern asks for its name.
     pub fn matches(&self, pattern: Pattern) -> bool
@@ -171,32 +263,25 @@ impl<'a> Element<'a> {
     }
 
     // Its first attribute that a pattern asks for.
+    #[inline(always)]
     pub fn attr(&self, pattern: Pattern) -> Option<Text<'a>>
         ensures { AttributeIs self.now pattern.entry.whole.now result }
     {
-        for k in self.start.row + 1..self.start.end {
-            if self.view.table.matches(k, pattern) {
-                return Some(self.view.text(k));
-            }
-        }
-        None
+        self.view.attr(self.start, pattern)
     }
 
     // Whether row k, which leaves depth d, ends it.
+    #[inline(always)]
     pub fn ends_at(&self, k: usize, d: usize) -> bool
         requires { InTable self.now.view.table.rows.now k }
         ensures { result ≡ ends_at (scope_of (child_of self.now).start) (depth d)
             (tok_at self.now.view.table.body.now self.now.view.table.rows.now k) }
     {
-        match self.view.table.kind(k) {
-            Kind::Close => {
-                d == self.start.depth.0 && self.view.table.same_name(k, self.start.row)
-            }
-            _ => false,
-        }
+        self.view.ends_at(self.start, k, d)
     }
 
     // The same with the reader at another place of its content: the children that are still to come from there on.
+    #[inline(always)]
     pub fn from_place(&self, at: Cursor) -> Element<'a>
         requires { Outside self.now.view.table.rows.now self.now.view.count at }
         ensures { FoundAt self.now.view self.now.start at result }
@@ -205,6 +290,7 @@ impl<'a> Element<'a> {
     }
 
     // Its next child, or where its scope ended: one that ended in `/>` has none.
+    #[inline(always)]
     pub fn next_tag(&self) -> Result<Element<'a>, Past>
         ensures { NextIs self.now result }
     {
@@ -213,7 +299,7 @@ impl<'a> Element<'a> {
         }
         let mut d = self.at.depth.0;
         for k in self.at.row..self.view.count {
-            let kind = self.view.table.kind(k);
+            let kind = self.view.kind(k);
             if let Kind::Start = kind {
                 return self.view.start_tag(d, k);
             }
@@ -232,7 +318,7 @@ impl<'a> Element<'a> {
     {
         let mut d = at.depth.0;
         for k in at.row..self.view.count {
-            d = self.view.table.kind(k).open_after(d);
+            d = self.view.kind(k).open_after(d);
             if self.ends_at(k, d) {
                 return over(true, k + 1, d);
             }
@@ -264,34 +350,12 @@ impl<'a> Element<'a> {
     }
 
     // Its first text: one that ended in `/>` has the empty text.
+    #[inline(always)]
     pub fn try_data(&self) -> Result<Text<'a>, Refusal>
-        ensures { given result ≡ text_of (view_of self.now.view) (child_of self.now) }
+        ensures same { given result ≡ text_of (view_of self.now.view) (child_of self.now) }
+        ensures row { GivenIn self.now.view.table.body.now self.now.view.table.rows.now result }
     {
-        if self.start.closed {
-            return Ok(Text::empty());
-        }
-        let mut d = self.at.depth.0;
-        for k in self.at.row..self.view.count {
-            let kind = self.view.table.kind(k);
-            match kind {
-                Kind::Text => {
-                    return Ok(self.view.text(k));
-                }
-                Kind::Start => {
-                    return Err(Refusal::ElementInText);
-                }
-                _ => {
-                    d = kind.open_after(d);
-                    if self.ends_at(k, d) {
-                        return Ok(Text::empty());
-                    }
-                }
-            }
-        }
-        match self.view.failure {
-            Some(why) => Err(why),
-            None => Ok(Text::empty()),
-        }
+        self.view.try_data(self.start, self.at)
     }
 
     // Where it ends: at the position of the last row read for it, or where the view ends.

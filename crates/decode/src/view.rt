@@ -1,25 +1,30 @@
 // What a reading sees of a table: how many rows, and what is met where they run out.
-ghost use Rattle.std.specs.Prelude.{◌≡◌, true, false, ◌*◌, ◌≤◌, length};
+ghost use Rattle.std.specs.Prelude.{◌≡◌, true, false, ◌+◌, ◌*◌, ◌≤◌, ◌<◌, length, get_or};
 ghost use Rattle.table.specs.Row.{rows_of, toks_of};
 ghost use Rattle.xml.specs.Drain.{walked};
 ghost use Rattle.document.specs.View.{failure_of, position_at, view};
+ghost use Rattle.decode.specs.Ruled.{Ruled};
+ghost use Rattle.table.specs.Kinds.{kind_number};
 
 use crate::drain::{cause_place, walk};
 use refusal::Refusal;
-use table::{Kind, ValidTable};
+use table::{Kind, ReadableRows, ValidTable};
 use xml::{Cause, DrainError};
 
-// The view: the table, how many of its rows are seen, what is met where they run out, whether the reading is refused with 9 at its end,
+// The view: rows of a table, how many of them are seen, what is met where they run out, whether the reading is refused with 9 at its end,
 // and the stream position where the rows run out.
 #[derive(Clone, Copy)]
 pub struct View<'a> {
-    pub table: ValidTable<'a>,
+    pub table: ReadableRows<'a>,
     pub count: usize,
     pub failure: Option<Refusal>,
     pub ill_formed: bool,
     pub ends: usize,
     pub ghost seen: { count * 8 ≤ length table.rows.now },
+    pub ghost ruled: { Ruled table.body.now table.rows.now count },
     pub ghost within: { ends ≤ length table.body.now },
+    pub ghost small: { length table.body.now ≤ 65536 },
+    pub ghost few: { count ≤ 8192 },
 }
 
 // What a text meets after a row that fails the drain; a reference has the place of the drain's cause.
@@ -41,8 +46,9 @@ impl<'a> View<'a> {
     fn whole(table: ValidTable<'a>) -> Self
         ensures { ViewIs table.entry (whole_of table.entry) result }
     {
+        let rows = table.ruled().readable();
         View {
-            table,
+            table: rows,
             count: table.len(),
             failure: None,
             ill_formed: false,
@@ -55,11 +61,13 @@ impl<'a> View<'a> {
         requires { Err (DrainError.IllFormed row cause) ≡ walked (toks_of table.body.now (rows_of table.rows.now)) }
         ensures { ViewIs table.entry (view true table.entry.body.now (rows_of table.entry.rows.now) table.entry.end) result }
     {
-        let at = cause_place(table, row, cause) as u16;
+        let ruled = table.ruled();
+        let rows = ruled.readable();
+        let at = cause_place(ruled, row, cause) as u16;
         let failure = failure_of(at, cause);
         let ends = position_at(table, row);
         View {
-            table,
+            table: rows,
             count: row,
             failure: Some(failure),
             ill_formed: true,
@@ -71,7 +79,7 @@ impl<'a> View<'a> {
     fn strict(table: ValidTable<'a>) -> Self
         ensures { ViewIs table.entry (view true table.entry.body.now (rows_of table.entry.rows.now) table.entry.end) result }
     {
-        match walk(table) {
+        match walk(table.ruled()) {
             Err(DrainError::IllFormed { row, cause }) => Self::before(table, row, cause),
             // A walk never answers that the table breaks a rule.
             Err(DrainError::Table) => Self::whole(table),
@@ -88,8 +96,9 @@ impl<'a> View<'a> {
             return Self::whole(table);
         }
         if let Kind::Error = table.kind(n - 1) {
+            let rows = table.ruled().readable();
             return View {
-                table,
+                table: rows,
                 count: n - 1,
                 failure: Some(Refusal::TokenError),
                 ill_formed: false,
@@ -97,6 +106,15 @@ impl<'a> View<'a> {
             };
         }
         Self::whole(table)
+    }
+
+    // The kind of a row that is seen.
+    #[inline(always)]
+    pub fn kind(&self, k: usize) -> Kind
+        requires { k < self.now.count }
+        ensures { kind_number result ≡ get_or self.now.table.rows.now (k * 8 + 0) 0 }
+    {
+        self.table.kind(k).unwrap()
     }
 
     // What a reading sees of a table.

@@ -1,6 +1,7 @@
 -- The promise of a reading by a sheet: number, count, every entry, every text byte, and all else of both buffers as it was, on every input;
 -- and the place beside the number.
 use Rattle.std.specs.Prelude.{ℕ, ◌/◌, ◌%◌, ◌≡◌, List, eqb}
+use Rattle.lists.specs.Tests.{pick}
 use Rattle.sheet.specs.declared.ShapeDepth.{ShapeDepth}
 use Rattle.sheet.specs.declared.Settings.{Settings}
 use Rattle.readings.specs.Call.{Upload, Call}
@@ -48,3 +49,7 @@ settings_by flags max =
 
 abbrev pub shape_depth : ℕ → ShapeDepth
 shape_depth d = record { 0 = d }
+
+-- a shape by its number: 1 structure, 2 list, 3 map, and any other a string list
+abbrev pub shape_of : ℕ → Shape
+shape_of kind = pick (eqb kind 1) Shape.Struct (pick (eqb kind 2) Shape.List (pick (eqb kind 3) Shape.Map Shape.StringList))

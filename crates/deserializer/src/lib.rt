@@ -9,7 +9,7 @@ ghost use Rattle.readings.specs.Shape.{plan_of};
 ghost use Rattle.output.specs.Call.{number_of, place_of};
 ghost use Rattle.output.specs.Held.{Does};
 ghost use Rattle.opening.specs.Opening.{upload_of};
-ghost use Rattle.deserializer.specs.Call.{SheetCall, SheetPlace, settings_by};
+ghost use Rattle.deserializer.specs.Call.{SheetCall, SheetPlace, settings_by, shape_of};
 ghost use Rattle.deserializer.specs.Demand.{Demanded, defined_as};
 
 use codec::collection::{ListSheet, MapSheet};
@@ -37,6 +37,20 @@ pub enum Shape {
     List,
     Map,
     StringList,
+}
+
+impl Shape {
+    // The shape that a number names: 1 a structure, 2 a list, 3 a map, and any other a string list.
+    pub fn of(number: u32) -> Shape
+        ensures { result ≡ shape_of number }
+    {
+        match number {
+            1 => Shape::Struct,
+            2 => Shape::List,
+            3 => Shape::Map,
+            _ => Shape::StringList,
+        }
+    }
 }
 
 // What came of a reading: how many entries and how many text bytes are written, and whether it finished.

@@ -2,8 +2,8 @@
 // text, what `validate_references` answers, and the bytes that `unescape` gives, in hexadecimal; a refusal is its number, and the place
 // of the failing `&`. For each body with a table a line: the body, and the drain's number, row, cause and place, the causes counted from
 // 1 in the paper's order; then readings, with their entries and texts, and integers. `stdout` has what the paper expects, written by
-// hand from the paper and from change request 1, and the check compares. A line that cannot be printed, or memory that runs out, ends
-// the program with status 1. It rests on `unescape` and `falzheod`.
+// hand from the paper and from change request 1, and the check compares. What cannot be printed is let go: the status is 0 all the same,
+// and the lines that are expected are missing. It rests on `unescape` and `falzheod`.
 #![tactic(auto)]
 
 mod bodies;
@@ -52,18 +52,23 @@ fn print_drained(rt: &impl Print, upload: Upload) -> Result<()> {
     Ok(())
 }
 
-fn main(rt: HostRuntime) -> Result<()> {
+fn print_edges(rt: &impl Print) -> Result<()> {
     for text in TEXTS {
-        text::print_references(&rt, text)?;
+        text::print_references(rt, text)?;
     }
     for upload in DRAINED {
-        print_drained(&rt, upload)?;
+        print_drained(rt, upload)?;
     }
     for reading in READINGS {
-        reading.print(&rt)?;
+        reading.print(rt)?;
     }
     for (text, value) in INTEGERS {
-        text::print_integer(&rt, text, value)?;
+        text::print_integer(rt, text, value)?;
     }
     Ok(())
+}
+
+// Nothing is printed after a write that failed, and its error is no failure of the program.
+fn main(rt: HostRuntime) {
+    let _ = print_edges(&rt);
 }

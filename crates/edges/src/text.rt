@@ -6,8 +6,16 @@ use reference::UnescapeError;
 // As long as the longest text here; a result is never longer than its text.
 const ROOM: usize = 64;
 
+// Without a text of them, which would need memory.
+fn print_hex(rt: &impl Print, bytes: &[u8]) -> Result<()> {
+    for byte in bytes {
+        print!(rt; "{byte:02x}")?;
+    }
+    Ok(())
+}
+
 /// The text, whether its references are valid, and what it is without them; a refusal by 01's number, with the place of the failing `&`.
-pub(crate) fn print_references(rt: &(impl Print + AllocGlobal), text: &str) -> Result<()> {
+pub(crate) fn print_references(rt: &impl Print, text: &str) -> Result<()> {
     print!(rt; "{text} validate: ")?;
     match unescape::validate_references(text.as_bytes()) {
         Ok(()) => print!(rt; "valid")?,
@@ -18,7 +26,8 @@ pub(crate) fn print_references(rt: &(impl Print + AllocGlobal), text: &str) -> R
     match unescape::unescape(text.as_bytes(), &mut out) {
         Ok(n) => {
             let bytes = out.get(..n).context("a result longer than its room")?;
-            println!(rt; "{}", hex::encode(rt.alloc(), bytes)?)?
+            print_hex(rt, bytes)?;
+            println!(rt)?
         }
         Err(UnescapeError::BadReference { at }) => println!(rt; "7 at {at}")?,
         Err(UnescapeError::NoRoom) => println!(rt; "10")?,

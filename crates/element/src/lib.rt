@@ -2,13 +2,12 @@
 // position (01, the end of "Token table"). What they are is defined in `table` (Piece.antt); the crate rests on it for the rows.
 #![tactic(auto)]
 
-ghost use Rattle.std.specs.Prelude.{◌≡◌, ◌+◌, ◌-◌, ◌*◌, ◌/◌, ◌≤◌, ◌<◌, ◌^◌, length};
+ghost use Rattle.std.specs.Prelude.{◌≡◌, ◌+◌, ◌-◌, ◌*◌, ◌/◌, ◌≤◌, length};
 ghost use Rattle.std.proofs.lemmas.List.Edits.{sets};
 ghost use Rattle.lists.specs.Decide.{Says};
-ghost use Rattle.table.specs.Flat.{row_at, rows_from};
+ghost use Rattle.table.specs.Flat.{rows_from};
 ghost use Rattle.table.specs.Held.{row_is};
 ghost use Rattle.table.specs.Piece.{moved, moved_span, closing};
-ghost use Rattle.table.specs.Rules.{open_count};
 ghost use Rattle.element.specs.Rows.{eight_numbers, moved_table, StartsAfter, FirstAfter, OwnRows};
 
 use table::{Kind, Row, Span};
@@ -38,17 +37,6 @@ fn start_row(rows: &[u32], place: u32) -> usize
     n
 }
 
-// How many elements are open after row k, where n are before it.
-fn open_after(rows: &[u32], k: usize, n: usize) -> usize
-    requires { (k * 8 + 8 ≤ length rows.now) × (n + 1 < 2 ^ 64) }
-    ensures { result ≡ open_count n (row_at rows.now k).kind }
-{
-    match Kind::of(Row::at(rows, k).kind) {
-        Some(kind) => kind.open_after(n),
-        None => n,
-    }
-}
-
 // How many rows an element has that starts in row k: up to the row after which no element of its is open, or to the last.
 #[tactic(auto, using(crate::proofs::Rows::counting_laws))]
 fn row_count(rows: &[u32], k: usize) -> usize
@@ -58,7 +46,7 @@ fn row_count(rows: &[u32], k: usize) -> usize
     let n = rows.len() / 8;
     let mut open = 0;
     for j in k..n {
-        open = open_after(rows, j, open);
+        open = Row::at(rows, j).open_after(open);
         if open == 0 {
             return j + 1 - k;
         }
@@ -89,10 +77,9 @@ fn moved_local(row: Row, place: u32) -> Span
     ensures start { result.start ≡ (moved place (row_is row)).local_start }
     ensures len { result.len ≡ row.local.len }
 {
-    let named = Kind::of(row.kind).is_some_and(|kind| kind.uses_name());
     let from = row.local.start;
     Span {
-        start: if named {
+        start: if row.uses_name() {
             from.saturating_sub(place)
         } else {
             from

@@ -97,9 +97,10 @@ pub fn falzheod_drain(
     *cause = 0;
     *place = 0;
     let lent = Table { body, rows, end };
-    let Some(table) = lent.check() else {
+    let Some(valid) = lent.check() else {
         return Refusal::Table.number();
     };
+    let table = valid.ruled();
     match walk(table) {
         Ok(()) => 0,
         Err(DrainError::Table) => Refusal::Table.number(),

@@ -1,7 +1,8 @@
 // A caller's view of the main theorem. `pieces` drains an upload, reads it only where it passed whole, and reads each piece again by its
 // own rows; that this gets no refusal but the six is proved from the contracts of the drain and of the readings alone. Here it runs: a
-// list of two cores, each core read as a structure, and then the same upload cut after its first core, of which nothing is handed on. A
-// line that cannot be printed ends the program with status 1. It rests on `decode` for the drain, on `deserializer` and on `element`.
+// list of two cores, each core read as a structure, and then the same upload cut after its first core, of which nothing is handed on.
+// What cannot be printed is let go: the status is 0 all the same, and the lines that are expected are missing. It rests on `decode` for
+// the drain, on `deserializer` and on `element`.
 #![tactic(auto)]
 
 mod pieces;
@@ -92,17 +93,22 @@ fn show(rt: &impl Print, upload: Table) -> anyhow::Result<()> {
     Ok(())
 }
 
-fn main(rt: HostRuntime) -> anyhow::Result<()> {
+fn show_uploads(rt: &impl Print) -> anyhow::Result<()> {
     let whole = Table {
         body: b"<cores><core><id>7</id></core><core/></cores>",
         rows: ROWS.as_flattened(),
         end: 45,
     };
-    show(&rt, whole)?;
+    show(rt, whole)?;
     let cut = Table {
         body: b"<cores><core><id>7</id></core>",
         rows: ROWS[..9].as_flattened(),
         end: 30,
     };
-    show(&rt, cut)
+    show(rt, cut)
+}
+
+// Nothing is printed after a write that failed, and its error is no failure of the program.
+fn main(rt: HostRuntime) {
+    let _ = show_uploads(&rt);
 }

@@ -2,6 +2,7 @@
 ghost use Rattle.document.specs.Scope.{dropping};
 ghost use Rattle.document.proofs.Laws.Fuel.{dropping_shortens};
 ghost use Rattle.readings.specs.Collection.{items_plan, strings_plan};
+ghost use Rattle.codec.specs.Collection.{list_said};
 ghost use Rattle.output.specs.Held.{Does};
 ghost use Rattle.opening.specs.Opening.{asked_of, body_of};
 ghost use Rattle.opening.specs.Wanted.{asked_by};
@@ -74,7 +75,7 @@ pub fn read_list(
     settings: Settings,
     out: &mut Output,
 ) -> Result<(), Refusal>
-    ensures { Does (items_plan (body_of root.now) settings (asked_of sheet.now root.now)) out.old out.new result }
+    ensures { Does (items_plan (body_of root.now) settings (asked_of (list_said sheet.now) root.now)) out.old out.new result }
 {
     let name = pattern_of(sheet.item_name(settings));
     read_children(root, &Pieces { name }, out)
@@ -87,7 +88,7 @@ pub fn read_string_list(
     settings: Settings,
     out: &mut Output,
 ) -> Result<(), Refusal>
-    ensures { Does (strings_plan settings (asked_of sheet.now root.now)) out.old out.new result }
+    ensures { Does (strings_plan settings (asked_of (list_said sheet.now) root.now)) out.old out.new result }
 {
     let name = pattern_of(sheet.item_name(settings));
     read_children(root, &Texts { name }, out)

@@ -1,4 +1,5 @@
 // The entries of a map: each child of the root, or each of the entries' name.
+ghost use Rattle.codec.specs.Collection.{map_said};
 ghost use Rattle.opening.specs.Wanted.{asked_by};
 ghost use Rattle.map.specs.Fields.{FieldsRead};
 
@@ -13,15 +14,15 @@ use refusal::Refusal;
 use table::patterns::Pattern;
 
 // The fields of an entry, and where the reader stands after it.
-#[derive(Drop)]
-pub(crate) struct Read<'a> {
+#[derive(Clone, Copy)]
+pub struct Read<'a> {
     pub fields: Fields<'a>,
     pub at: Cursor,
 }
 
 // Reads the children of an entry, to the first that is refused.
-fn read_fields<'a>(entry: &Element<'a>, sheet: &MapSheet) -> Result<Read<'a>, Refusal>
-    ensures { FieldsRead sheet.now entry.now result }
+pub fn read_fields<'a>(entry: &Element<'a>, sheet: &MapSheet) -> Result<Read<'a>, Refusal>
+    ensures { FieldsRead (map_said sheet.now) entry.now result }
 {
     let mut scope = *entry;
     let mut fields = Fields {
@@ -45,7 +46,7 @@ fn read_fields<'a>(entry: &Element<'a>, sheet: &MapSheet) -> Result<Read<'a>, Re
 
 // The entries of a map, by their name and its sheet.
 #[derive(Drop)]
-pub(crate) struct Entries<'a> {
+pub struct Entries<'a> {
     pub name: Option<Pattern<'a>>,
     pub sheet: &'a MapSheet<'a>,
 }
@@ -54,7 +55,7 @@ impl ReadChild for Entries<'_> {
     ghost use Rattle.readings.specs.Collection.{after_entry, entry_plan};
     ghost use Rattle.readings.proofs.Laws.Fuel.{after_entry_shortens};
 
-    ghost plan = { λ s body v c. entry_plan body v s.sheet.now (asked_by s.name) c };
+    ghost plan = { λ s body v c. entry_plan body v (map_said s.sheet.now) (asked_by s.name) c };
 
     ghost after = { λ s c. after_entry (asked_by s.name) c };
 

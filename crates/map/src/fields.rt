@@ -5,6 +5,7 @@ ghost use Rattle.std.proofs.Math.Option.{some};
 ghost use Rattle.document.specs.Text.{text_of};
 ghost use Rattle.document.specs.Part.{bytes_of, measured_as};
 ghost use Rattle.readings.specs.Collection.{fields_plan, read_field, value_in};
+ghost use Rattle.codec.specs.Collection.{map_said};
 ghost use Rattle.decode.specs.View.{view_of};
 ghost use Rattle.decode.specs.Element.{DroppedIs, child_of};
 ghost use Rattle.output.specs.Held.{Does};
@@ -26,7 +27,7 @@ pub enum Value<'a> {
 }
 
 // The key and the value of an entry, as far as they were met: of several the last.
-#[derive(Drop)]
+#[derive(Clone, Copy)]
 pub struct Fields<'a> {
     pub key: Option<Measured<'a>>,
     pub value: Option<Value<'a>>,
@@ -58,8 +59,8 @@ impl<'a> Fields<'a> {
     // Takes what a child of the entry is: one that has both names is a key.
     pub fn read(&mut self, child: &Element<'a>, past: Past, sheet: &MapSheet) -> Result<(), Refusal>
         requires { DroppedIs child.now past }
-        ensures { fields_as self.new result ≡ read_field (body_of child.now) (view_of child.now.view) sheet.now (fields_of self.old)
-            (child_of child.now) }
+        ensures { fields_as self.new result ≡ read_field (body_of child.now) (view_of child.now.view) (map_said sheet.now)
+            (fields_of self.old) (child_of child.now) }
     {
         let local = child.local();
         if sheet.is_key(local) {

@@ -4,11 +4,12 @@
 #![tactic(auto)]
 
 ghost use Rattle.readings.specs.Collection.{entries_plan};
+ghost use Rattle.codec.specs.Collection.{map_said};
 ghost use Rattle.output.specs.Held.{Does};
 ghost use Rattle.opening.specs.Opening.{asked_of, body_of};
 
-mod entries;
-mod fields;
+pub mod entries;
+pub mod fields;
 
 use crate::entries::Entries;
 use codec::collection::MapSheet;
@@ -25,7 +26,7 @@ pub fn read_map(
     settings: Settings,
     out: &mut Output,
 ) -> Result<(), Refusal>
-    ensures { Does (entries_plan (body_of root.now) settings (asked_of sheet.now root.now)) out.old out.new result }
+    ensures { Does (entries_plan (body_of root.now) settings (asked_of (map_said sheet.now) root.now)) out.old out.new result }
 {
     let name = pattern_of(sheet.entry_name(settings));
     read_children(root, &Entries { name, sheet }, out)

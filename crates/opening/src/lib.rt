@@ -9,15 +9,16 @@ ghost use Rattle.document.specs.View.{view};
 ghost use Rattle.readings.specs.Collection.{is_wanted};
 ghost use Rattle.readings.specs.Opening.{opened, rooted};
 ghost use Rattle.table.specs.Row.{rows_of};
+ghost use Rattle.table.specs.Rows.{InTable, name_at};
 ghost use Rattle.decode.specs.Element.{child_of};
 ghost use Rattle.opening.specs.Opening.{AskedIs, OpeningIs, asked_where, upload_of};
-ghost use Rattle.opening.specs.Wanted.{asked_by, last_of};
+ghost use Rattle.opening.specs.Wanted.{asked_by, last_of, wanted};
 
 use decode::element::Element;
 use decode::view::View;
 use refusal::Refusal;
 use table::patterns::Pattern;
-use table::rows::{Table, ValidTable};
+use table::rows::{ReadableRows, Table, ValidTable};
 
 // The root of a table that obeys the rules, or 4.
 pub fn root<'a>(strict: bool, table: ValidTable<'a>) -> Result<Element<'a>, Refusal>
@@ -60,8 +61,16 @@ pub fn ask<'a, S: Drop>(
 pub fn is_wanted(name: Option<Pattern>, child: &Element) -> bool
     ensures { result ≡ is_wanted (asked_by name.entry) (child_of child.now) }
 {
+    is_row_wanted(name, child.view.table, child.start.row)
+}
+
+// The same of a row, of any rows that can be read.
+pub fn is_row_wanted(name: Option<Pattern>, rows: ReadableRows, k: usize) -> bool
+    requires { InTable rows.rows.now k }
+    ensures { result ≡ wanted (asked_by name.entry) (name_at rows.entry.body.now rows.entry.rows.now k) }
+{
     match name {
-        Some(pattern) => child.matches(pattern),
+        Some(pattern) => rows.matches(k, pattern),
         None => true,
     }
 }

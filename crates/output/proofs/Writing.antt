@@ -1,14 +1,14 @@
 -- Laws of an entry and its bytes: what the buffers hold once both are stored, and that they stay as they were where there is no room.
-use Prim.Native.Nat.{ℕ, ◌+◌, ◌-◌, ◌*◌, ◌/◌, ◌^◌, ◌≤◌, min}
+use Prim.Native.Nat.{ℕ, ◌+◌, ◌-◌, ◌*◌, ◌/◌, ◌^◌, ◌≤◌, ◌<◌, min}
 use mathlib.Core.Path.{◌≡◌, refl, sym, ◌∙◌, ap, subst}
 use mathlib.Core.Bool.{Bool, true, false}
-use mathlib.Core.List.{List, [], ◌∷◌, ◌++◌, append_assoc}
+use mathlib.Core.List.{List, [], ◌∷◌, ◌++◌, append-nil}
+use native.Mathlib.Nat.{add-zero}
 use native.Mathlib.Omega.{arith}
-use borrow.Author.Tests.{ltb-true, leb-true}
+use borrow.Author.Tests.{ltb-true, leb-true, le-leb}
 use lib.Dec.{ltb, leb}
-use lib.ListN.{length, take, drop, length-append}
-use lib.Seq.{sets, length-sets, sets-eq, drop-drop}
-use borrow.Rule.Slice.PartMut.{put_mid}
+use lib.ListN.{length, length-append}
+use lib.Seq.{sets, length-sets}
 use borrow.Rule.Slice.Mut.{set_vals}
 use Rattle.std.specs.Prelude.{Result, Ok, Err, IsErrAnd, MatchResult}
 use Rattle.std.proofs.lemmas.Result.{err_from_is_err_and}
@@ -18,23 +18,24 @@ use Rattle.lists.specs.Overwrite.{overwritten, Stored}
 use Rattle.lists.proofs.Overwrite.{overwrite_more, rest, back, back_stored, sets_append}
 use Rattle.refusal.specs.declared.Refusal.{Refusal}
 use Rattle.refusal.specs.Answer.{Answer, gives, refuses}
+use Rattle.refusal.specs.Numbers.{number, place}
+use Rattle.document.specs.declared.part.Piece.{Piece}
 use Rattle.document.specs.declared.part.Text.{Text}
 use Rattle.document.specs.declared.part.Measured.{Measured}
 use Rattle.document.specs.Part.{text_at, given, bytes_of, measured_as}
-use Rattle.readings.specs.Output.{Output, refused, six_numbers, numbers_of, fits}
+use Rattle.readings.specs.Output.{Output, refused, six_numbers, numbers_of, fits, keyless, piece_kind, failed_kind}
 use Rattle.readings.specs.Output as reading
-use Rattle.readings.specs.Plan.{stop, perform, one}
+use Rattle.readings.specs.Plan.{Plan, end, stop, perform, one}
 use Rattle.readings.specs.Structure.{scalar_plan}
 use Rattle.output.specs.declared.entry.Entry.{Entry}
 use Rattle.output.specs.declared.Output.{Output as Buffers}
 use Rattle.output.specs.Entry.{entry_of}
-use Rattle.output.specs.Plans.{put_failed, put_measured, text_or, put_text, put_scalar}
-use Rattle.output.specs.Held.{room_in, Holds, Ends, SameBuffers, Does, Fits, has_room, PlaceFor, Pushed}
+use Rattle.output.specs.Plans.{put_entry, put_piece, put_failed, put_measured, text_or, put_text, put_scalar}
+use Rattle.output.specs.Call.{room_of}
+use Rattle.output.specs.Held.{room_in, Holds, Ends, SameBuffers, Does, HoldsAny, EndsAny, Enters}
+use Rattle.output.specs.Held.{Fits, has_entry, has_room, PlaceFor, Pushed}
 
--- ---- numbers and bytes, stored in a part that was lent
-pub put_sets : (a k : ℕ) (l s : List ℕ) {p : List ℕ} → p ≡ s → k ≡ length s → a + length s ≤ length l → put_mid a k l p ≡ sets l a s
-put_sets a k l s q z h = rw (q, z, drop-drop, sets-eq s l a h) (sym (append_assoc (take a l) s (drop (a + length s) l)))
-
+-- ---- numbers of entries
 numbers_more : (l : List reading.Entry) (e : reading.Entry) → numbers_of (l ++ e ∷ []) ≡ numbers_of l ++ six_numbers e
 unfolding numbers_of
 numbers_more [] e = refl
@@ -78,6 +79,18 @@ module _ {b : Buffers} {n : ℕ} where
 pub same_buffers : (b : Buffers) → SameBuffers b b
 same_buffers b = record { entries = refl; texts = refl }
 
+-- the numbers of an entry more
+stored_more : (l : List reading.Entry) (entry : reading.Entry) (e : List ℕ) {e' e'' : List ℕ} {n : ℕ} → n ≡ length l
+    → e' ≡ overwritten e (numbers_of l) → length e' ≡ length e → n < length e' / 6 → e'' ≡ sets e' (n * 6) (six_numbers entry)
+    → e'' ≡ overwritten e (numbers_of (l ++ entry ∷ []))
+stored_more l entry e c h z f p =
+    let six = six_numbers entry in
+    let few : length (numbers_of l ++ six) ≤ length e = omega (arith, length-append (numbers_of l) six, numbers_length l, f, c, z) in
+    p ∙ rw (c, ← numbers_length l, h, overwrite_more e (numbers_of l) six few, numbers_more l entry)
+
+held_bytes : {out : Output} {e t : List ℕ} {b : Buffers} → Holds out e t b → b.used ≤ min (length b.texts.now) (2 ^ 32 - 1)
+held_bytes h = rw (h.used, h.same_texts) h.bytes
+
 module _ {out : Output} {e t : List ℕ} {b : Buffers} (h : Holds out e t b) (entry : ℕ → reading.Entry) (x : List ℕ) where
   fits_is : fits (room_in (length e) (length t)) x out ≡ has_room b (length x)
   fits_is = rw (h.count, h.used, h.same_entries, h.same_texts)
@@ -90,10 +103,7 @@ module _ {out : Output} {e t : List ℕ} {b : Buffers} (h : Holds out e t b) (en
   unfolding perform
   ends_written {b'} room p q c u =
       let m = length out.texts in
-      let six = six_numbers (entry m) in
       let both = room_is b (length x) room in
-      let few : length (numbers_of out.entries ++ six) ≤ length e =
-      omega (arith, length-append (numbers_of out.entries) six, numbers_length out.entries, both.entry, h.count, h.same_entries) in
       let less : length (out.texts ++ x) ≤ length t = omega (arith, length-append out.texts x, both.bytes, h.used, h.same_texts) in
       rw (fits_is ∙ room)
       (record {
@@ -101,15 +111,7 @@ module _ {out : Output} {e t : List ℕ} {b : Buffers} (h : Holds out e t b) (en
         holds = record {
           count = omega (arith, c, h.count, length-append out.entries (entry m ∷ []));
           used = omega (arith, u, h.used, length-append out.texts x);
-          entries =
-              p ∙ rw (
-                h.used,
-                h.count,
-                ← numbers_length out.entries,
-                h.entries,
-                overwrite_more e (numbers_of out.entries) six few,
-                numbers_more out.entries (entry m),
-              );
+          entries = stored_more out.entries (entry m) e h.count h.entries h.same_entries both.entry (rw h.used at p);
           texts = q ∙ rw (h.used, h.texts, overwrite_more t out.texts x less);
           same_entries = ap length p ∙ length-sets b.entries.now (b.count * 6) (six_numbers (entry b.used)) ∙ h.same_entries;
           same_texts = ap length q ∙ length-sets b.texts.now b.used x ∙ h.same_texts;
@@ -191,6 +193,93 @@ module _ (x : List ℕ) {b : Buffers} {p : List ℕ} where
         used = refl;
         name = refl;
       }
+
+-- ---- an entry without text: room for it is room for itself alone
+entry_alone : (b : Bool) → pick b true false ≡ b
+entry_alone true = refl
+entry_alone false = refl
+
+alone : {n m : ℕ} (c : Bool) → n ≤ m → pick c (leb (n + 0) m) false ≡ c
+alone {n} {m} c h = rw (le-leb (n + 0) m (omega (arith, h))) (entry_alone c)
+
+module _ {out : Output} {e t e' t' : List ℕ} {n m : ℕ} (h : HoldsAny out e t e' t' n m) (entry : ℕ → reading.Entry) where
+  any_fits : fits (room_of e t) [] out ≡ ltb n (length e' / 6)
+  any_fits = rw (h.count, h.same_entries) (alone (ltb (length out.entries) (length e / 6)) h.bytes)
+
+  any_written : {e'' : List ℕ} {k : ℕ} → ltb n (length e' / 6) ≡ true → e'' ≡ sets e' (n * 6) (six_numbers (entry m)) → k ≡ n + 1
+      → EndsAny (perform (room_of e t) (one entry []) out) e t e'' t' k m (Ok (tt {0}))
+  unfolding perform
+  any_written room p q =
+      rw (any_fits ∙ room)
+      (record {
+        is = refl;
+        holds = record {
+          count = omega (arith, q, h.count, length-append out.entries (entry (length out.texts) ∷ []));
+          used = h.used ∙ ap length (sym (append-nil out.texts));
+          entries =
+              stored_more out.entries (entry (length out.texts)) e h.count h.entries h.same_entries (ltb-true _ _ room) (rw h.used at p);
+          texts = h.texts ∙ ap (overwritten t) (sym (append-nil out.texts));
+          same_entries = ap length p ∙ length-sets e' (n * 6) (six_numbers (entry m)) ∙ h.same_entries;
+          same_texts = h.same_texts;
+          bytes = rw (append-nil out.texts) h.bytes;
+        };
+      })
+
+  any_none : ltb n (length e' / 6) ≡ false → EndsAny (perform (room_of e t) (one entry []) out) e t e' t' n m (Err Refusal.NoRoom)
+  unfolding perform
+  any_none room = rw (any_fits ∙ room) (record { is = refl; holds = h })
+
+module _ (s : Entry) {b : Buffers} where
+  module _ (q : has_entry b ≡ false) where
+    pub entry_none : Does (put_entry s) b b (Err Refusal.NoRoom)
+    unfolding put_entry
+    entry_none =
+        record { is = λ h. ends_no_room h (λ (at : ℕ). entry_of s) [] (alone (has_entry b) (held_bytes h) ∙ q); same = same_buffers b }
+
+    pub enters_none : Enters (put_entry s) b b (Err Refusal.NoRoom)
+    unfolding put_entry
+    enters_none = record { is = λ x h. any_none h (λ (at : ℕ). entry_of s) q; texts = refl }
+
+  module _ (q : has_entry b ≡ true) {b' : Buffers} (p : Pushed s 0 b b') where
+    pub entry_written : Does (put_entry s) b b' (Ok (tt {0}))
+    unfolding put_entry
+    entry_written =
+        record {
+          is = λ h. ends_written h (λ (at : ℕ). entry_of s) [] (alone (has_entry b) (held_bytes h) ∙ q) p.entries p.texts p.count p.used;
+          same = p.same;
+        }
+
+    pub enters_written : Enters (put_entry s) b b' (Ok (tt {0}))
+    unfolding put_entry
+    enters_written =
+        record {
+          is = λ x h. rw (p.used ∙ add-zero b.used) (any_written h (λ (at : ℕ). entry_of s) q p.entries p.count);
+          texts = p.texts;
+        }
+
+-- those that are written
+pub piece_put : (member : ℕ) (p : Piece) (s : Entry) → entry_of s ≡ keyless piece_kind member p.start p.len
+    → put_piece member p ≡ put_entry s
+unfolding put_piece put_entry
+piece_put member p s q = rw q
+
+pub failed_put : (member : ℕ) (why : Refusal) (s : Entry) → entry_of s ≡ keyless failed_kind member (number why) (place why)
+    → put_failed member why ≡ put_entry s
+unfolding put_failed put_entry
+failed_put member why s q = rw q
+
+-- nothing, and a refusal
+pub enters_nothing : (b : Buffers) → Enters end b b (Ok (tt {0}))
+unfolding perform
+enters_nothing b = record { is = λ x h. record { is = refl; holds = h }; texts = refl }
+
+pub enters_stop : (b : Buffers) (r : Refusal) → Enters (stop r) b b (Err r)
+unfolding perform
+enters_stop b r = record { is = λ x h. record { is = refl; holds = h }; texts = refl }
+
+-- a plan that is another
+pub enters_as : {f g : Plan} {b b' : Buffers} {r : Result (Unit {0}) Refusal} → f ≡ g → Enters g b b' r → Enters f b b' r
+enters_as p d = rw p d
 
 -- ---- what measuring found decides
 module _ (member : ℕ) (t : Text) {b : Buffers} {r : Result (Unit {0}) Refusal} where

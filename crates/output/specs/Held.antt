@@ -10,6 +10,7 @@ use Rattle.readings.specs.Plan.{Plan, perform}
 use Rattle.output.specs.declared.entry.Entry.{Entry}
 use Rattle.output.specs.declared.Output.{Output as Buffers}
 use Rattle.output.specs.Entry.{entry_of}
+use Rattle.output.specs.Call.{room_of}
 
 -- the room of two buffers of these lengths: no more text is written than has places of 32 bits, and no reading comes to more
 abbrev pub room_in : ℕ → ℕ → Room
@@ -52,6 +53,30 @@ pub record Does (plan : Plan) (b b' : Buffers) (r : Result (Unit {0}) Refusal) :
       → Ends (perform (room_in (length e) (length t)) plan out) e t b' r
   pub same : SameBuffers b b'
 
+-- ---- a function that asks no room for texts
+-- two buffers, which held e and t at first and hold e' and t', hold all of an output at their fronts; n and m count its entries and texts,
+-- however many bytes these are
+pub record HoldsAny (out : Output) (e t e' t' : List ℕ) (n m : ℕ) : Type 0 where
+  pub count : n ≡ length out.entries
+  pub used : m ≡ length out.texts
+  pub entries : e' ≡ overwritten e (numbers_of out.entries)
+  pub texts : t' ≡ overwritten t out.texts
+  pub same_entries : length e' ≡ length e
+  pub same_texts : length t' ≡ length t
+  pub bytes : length out.texts ≤ length t
+
+-- they hold what a reading wrote, and the answer is its answer
+pub record EndsAny (x : Reading) (e t e' t' : List ℕ) (n m : ℕ) (r : Result (Unit {0}) Refusal) : Type 0 where
+  pub is : x ≡ reading_of r (output x)
+  pub holds : HoldsAny (output x) e t e' t' n m
+
+-- ITS PROMISE: whatever the texts x are that the counts are of, the entries end as the definition's plan ends in the whole room of both;
+-- and the texts that stand beside the entries stay as they are
+pub record Enters (plan : Plan) (b b' : Buffers) (r : Result (Unit {0}) Refusal) : Type 0 where
+  pub is : (x : List ℕ) {e t : List ℕ} {out : Output} → HoldsAny out e t b.entries.now x b.count b.used
+      → EndsAny (perform (room_of e t) plan out) e t b'.entries.now x b'.count b'.used r
+  pub texts : b'.texts.now ≡ b.texts.now
+
 -- nothing is written yet into two buffers
 pub record Begun (e t : MutBor (List ℕ)) (b : Buffers) : Type 0 where
   pub entries : b.entries ≡ e
@@ -69,9 +94,12 @@ pub record Fits (b : Buffers) (n : ℕ) : Type 0 where
 abbrev pub place_in : Buffers → ℕ → Bool → Result ℕ Refusal
 place_in b n fits = pick fits (Ok b.used) (Err Refusal.NoRoom)
 
--- `fits`, in numbers
+-- `fits`, in numbers: of the entry, and of both
+abbrev pub has_entry : Buffers → Bool
+has_entry b = ltb b.count (length b.entries.now / 6)
+
 abbrev pub has_room : Buffers → ℕ → Bool
-has_room b n = pick (ltb b.count (length b.entries.now / 6)) (leb (b.used + n) (min (length b.texts.now) (2 ^ 32 - 1))) false
+has_room b n = pick (has_entry b) (leb (b.used + n) (min (length b.texts.now) (2 ^ 32 - 1))) false
 
 pub record PlaceFor (b : Buffers) (n : ℕ) (r : Result ℕ Refusal) : Type 0 where
   pub is : r ≡ pick (has_room b n) (Ok b.used) (Err Refusal.NoRoom)

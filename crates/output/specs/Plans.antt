@@ -9,6 +9,12 @@ use Rattle.document.specs.Part.{text_at, given, bytes_of}
 use Rattle.readings.specs.Output.{text_entry, piece_entry, group_entry, failed_entry, key_text_entry, key_piece_entry}
 use Rattle.readings.specs.Plan.{Plan, stop, one}
 use Rattle.readings.specs.Structure.{scalar_plan}
+use Rattle.output.specs.declared.entry.Entry.{Entry}
+use Rattle.output.specs.Entry.{entry_of}
+
+-- an entry, and no text
+unfoldable pub put_entry : Entry → Plan
+put_entry e = one (λ (at : ℕ). entry_of e) []
 
 unfoldable pub put_piece : ℕ → Piece → Plan
 put_piece member p = one (piece_entry member p) []

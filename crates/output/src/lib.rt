@@ -3,10 +3,14 @@
 // were. The crate rests on `document` for the texts and pieces of a body, on `slices` for a copy, and on `refusal` for numbers.
 #![tactic(auto)]
 
-ghost use Rattle.std.specs.Prelude.{◌≡◌, ◌+◌, ◌^◌, ◌≤◌, ◌<◌, length};
+ghost use Rattle.std.specs.Prelude.{◌≡◌, ◌+◌, ◌*◌, ◌/◌, ◌^◌, ◌≤◌, ◌<◌, length};
+ghost use Rattle.std.proofs.lemmas.List.Edits.{sets};
 ghost use Rattle.output.specs.Kept.{flat, Inside};
-ghost use Rattle.output.specs.Plans.{put_piece, put_failed, put_measured, put_text, put_scalar, put_key_text, put_key_piece, put_group};
-ghost use Rattle.output.specs.Held.{Begun, Does, PlaceFor, Pushed, Fits};
+ghost use Rattle.output.specs.Plans.{put_entry, put_piece, put_failed, put_measured, put_text, put_scalar};
+ghost use Rattle.output.specs.Plans.{put_key_text, put_key_piece, put_group};
+ghost use Rattle.readings.specs.Output.{six_numbers};
+ghost use Rattle.output.specs.Entry.{entry_of};
+ghost use Rattle.output.specs.Held.{Begun, Does, Enters, PlaceFor, Pushed, Fits, has_entry};
 
 pub mod entry;
 pub mod kept;
@@ -18,6 +22,21 @@ use refusal::Refusal;
 
 // Places in the text buffer are told as 32-bit numbers, so no more of it is written. No body comes to so many bytes of text.
 const MOST: usize = 0xffff_ffff;
+
+// Stores the six numbers of an entry, one by one: a copy of all would read them right after they are written, and wait.
+fn store(entries: &mut [u32], k: usize, entry: Entry)
+    requires { k * 6 + 6 ≤ length entries.old }
+    ensures { entries.new ≡ sets entries.old (k * 6) (six_numbers (entry_of entry)) }
+{
+    let at = k * 6;
+    let numbers = entry.numbers();
+    entries[at] = numbers[0];
+    entries[at + 1] = numbers[1];
+    entries[at + 2] = numbers[2];
+    entries[at + 3] = numbers[3];
+    entries[at + 4] = numbers[4];
+    entries[at + 5] = numbers[5];
+}
 
 // The two lent buffers, and how much of them is written: how many entries, and how many text bytes.
 #[derive(Drop)]
@@ -41,49 +60,70 @@ impl<'a> Output<'a> {
         }
     }
 
+    // Whether there is room for an entry more.
+    fn has_entry(&self) -> bool
+        ensures { result ≡ has_entry self.now }
+    {
+        self.count < self.entries.len() / 6
+    }
+
     // Tests the room for an entry with so many bytes of text, and answers where these begin.
     fn place(&self, len: usize) -> Result<u32, Refusal>
         ensures { PlaceFor self.now len result }
     {
         let room = self.texts.len().min(MOST);
-        if self.count < self.entries.len() / 6 && self.used <= room && len <= room - self.used {
+        if self.has_entry() && self.used <= room && len <= room - self.used {
             return Ok(self.used as u32);
         }
         Err(Refusal::NoRoom)
     }
 
-    // Stores an entry, and counts it with its bytes of text.
-    #[tactic(auto, using(crate::proofs::Writing::put_sets))]
+    // Stores an entry, and counts it.
+    fn enter(&mut self, entry: Entry)
+        requires { self.old.count < length self.old.entries.now / 6 }
+        ensures { Pushed entry 0 self.old self.new }
+    {
+        store(self.entries, self.count, entry);
+        self.count += 1;
+    }
+
+    // And counts its bytes of text.
     fn push(&mut self, entry: Entry, len: usize)
         requires { Fits self.old len }
         ensures { Pushed entry len self.old self.new }
     {
-        let at = self.count * 6;
-        self.entries[at..at + 6].copy_from_slice(&entry.numbers());
-        self.count += 1;
+        self.enter(entry);
         self.used += len;
+    }
+
+    // An entry without text: it needs room for itself alone, whatever texts there are.
+    fn write_entry(&mut self, entry: Entry) -> Result<(), Refusal>
+        ensures does { Does (put_entry entry) self.old self.new result }
+        ensures enters { Enters (put_entry entry) self.old self.new result }
+    {
+        if !self.has_entry() {
+            return Err(Refusal::NoRoom);
+        }
+        self.enter(entry);
+        Ok(())
     }
 
     // A piece of the body, for a member.
     pub fn write_piece(&mut self, member: u32, piece: Piece) -> Result<(), Refusal>
-        ensures { Does (put_piece member piece) self.old self.new result }
+        ensures does { Does (put_piece member piece) self.old self.new result }
+        ensures enters { Enters (put_piece member piece) self.old self.new result }
     {
-        self.place(0)?;
-        self.push(
-            Entry::keyless(Kind::Piece, member, piece.start, piece.len),
-            0,
-        );
-        Ok(())
+        let entry = Entry::keyless(Kind::Piece, member, piece.start, piece.len);
+        self.write_entry(entry)
     }
 
     // A text that failed, for a member: the refusal's number, and the place beside it.
     pub fn write_failed(&mut self, member: u32, why: Refusal) -> Result<(), Refusal>
-        ensures { Does (put_failed member why) self.old self.new result }
+        ensures does { Does (put_failed member why) self.old self.new result }
+        ensures enters { Enters (put_failed member why) self.old self.new result }
     {
-        self.place(0)?;
         let entry = Entry::keyless(Kind::Failed, member, why.number(), why.place());
-        self.push(entry, 0);
-        Ok(())
+        self.write_entry(entry)
     }
 
     // A text that was measured, for a member.

@@ -1,14 +1,14 @@
 // A recorded answer, as compare/src/bin/record.rs writes it: the letter of its operation, and the fields that the operation's module
 // names. Bytes are in lower-case hexadecimal and numbers in decimal; the numbers of a table's rows, and of entries, are parted by
-// commas.
+// commas. The lines of readings may be less exact: fields past those that are named are passed over, one that is missing is empty, an
+// empty one has no bytes, and a number that is none is the largest.
 use crate::field::LineError;
 use crate::reading::Shape;
 use crate::{drain, reading, scalars, text};
 use std::alloc::Global;
-use std::str;
 
 // The recorder writes shorter lines.
-const LONGEST_LINE: usize = 1023;
+pub const LONGEST_LINE: usize = 1023;
 
 #[derive(Clone, Copy, Debug, PartialEq, Eq)]
 pub enum Kind {
@@ -44,12 +44,15 @@ pub(crate) fn replay(alloc: Global, line: &[u8]) -> Result<Replayed, LineError> 
     if line.len() > LONGEST_LINE {
         return Err(LineError::NotRecorded);
     }
-    let fields = str::from_utf8(line)?
-        .split(' ')
-        .collect::<Vec<&str>>(alloc)?;
+    // Bytes that are not UTF-8 spoil the field that they stand in, and no other.
+    let line = String::from_utf8_lossy(alloc, line)?;
+    let fields = line.split(' ').collect::<Vec<&str>>(alloc)?;
     let Some((operation, fields)) = fields.split_first() else {
         return Err(LineError::NotRecorded);
     };
+    if fields.is_empty() {
+        return Err(LineError::NotRecorded);
+    }
     let (kind, agrees) = match *operation {
         "u" => (Kind::Unescape, text::replay_unescape(alloc, fields)?),
         "v" => (Kind::Validate, text::replay_validate(alloc, fields)?),

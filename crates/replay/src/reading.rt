@@ -1,6 +1,6 @@
 // The readings by a sheet: `BODY END ROWS SHEET FLAGS MAXIMUM DEPTH NUMBER ENTRIES TEXTS`, but for a refused string list, whose entries
 // and texts the Rust does not show.
-use crate::field::{LineError, Upload, bytes, number, numbers};
+use crate::field::{LineError, Upload, bytes_or_none, nth, number_or_max, numbers};
 use crate::lent::{BYTE, MARK, TEXT_ROOM, holds};
 use falzheod::aggregates::{
     falzheod_read_list, falzheod_read_map, falzheod_read_string_list, falzheod_read_struct,
@@ -105,6 +105,11 @@ impl Asked {
             && holds_entries(&lent.entries, entries)
             && holds(&lent.texts, &[BYTE; TEXT_ROOM], texts)
     }
+
+    // Whether the reading refuses with this number.
+    fn refuses_with(&self, recorded: u32) -> bool {
+        recorded != FINISHED && self.read(&mut Lent::new()) == recorded
+    }
 }
 
 // Whether an entry is the recorded one. The length of a failed text is a place where its number is that of a bad reference; the Rust tells
@@ -123,51 +128,35 @@ fn holds_entries(lent: &[u32], entries: &[u32]) -> bool {
     };
     rest.iter().all(|&n| n == MARK)
         && written
-            .chunks_exact(ENTRY)
-            .zip(entries.chunks_exact(ENTRY))
+            .chunks(ENTRY)
+            .zip(entries.chunks(ENTRY))
             .all(|(found, recorded)| is_entry(found, recorded))
 }
 
 fn parse_entries(alloc: Global, field: &str) -> Result<Vec<u32>, LineError> {
     let entries = numbers(alloc, field)?;
-    if entries.len() % ENTRY != 0 || entries.len() > ENTRIES_ROOM {
+    if entries.len() > ENTRIES_ROOM {
         return Err(LineError::NotRecorded);
     }
     Ok(entries)
 }
 
+// A line without entries is that of a refused string list, whatever its letter.
 pub(crate) fn replay(alloc: Global, shape: Shape, fields: &[&str]) -> Result<bool, LineError> {
-    let [
-        body,
-        end,
-        rows,
-        sheet,
-        flags,
-        max_depth,
-        depth,
-        answer,
-        written @ ..,
-    ] = fields
-    else {
-        return Err(LineError::NotRecorded);
-    };
+    let is_refusal = matches!(fields.get(8..), None | Some([] | [""]));
     let asked = Asked {
-        shape,
-        upload: Upload::parse(alloc, body, end, rows)?,
-        sheet: bytes(alloc, sheet)?,
-        flags: number(flags)?,
-        max_depth: number(max_depth)?,
-        depth: number(depth)?,
+        shape: if is_refusal { Shape::StringList } else { shape },
+        upload: Upload::of_reading(alloc, fields)?,
+        sheet: bytes_or_none(alloc, nth(fields, 3))?,
+        flags: number_or_max(nth(fields, 4)),
+        max_depth: number_or_max(nth(fields, 5)),
+        depth: number_or_max(nth(fields, 6)),
     };
-    let answer = number(answer)?;
-    match written {
-        [entries, texts] => {
-            let entries = parse_entries(alloc, entries)?;
-            Ok(asked.reads_to(answer, &entries, &bytes(alloc, texts)?))
-        }
-        [] if shape == Shape::StringList && answer != FINISHED => {
-            Ok(asked.read(&mut Lent::new()) == answer)
-        }
-        _ => Err(LineError::NotRecorded),
+    let answer = number_or_max(nth(fields, 7));
+    if is_refusal {
+        return Ok(asked.refuses_with(answer));
     }
+    let entries = parse_entries(alloc, nth(fields, 8))?;
+    let texts = bytes_or_none(alloc, nth(fields, 9))?;
+    Ok(asked.reads_to(answer, &entries, &texts))
 }

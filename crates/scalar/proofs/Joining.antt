@@ -29,7 +29,6 @@ use Rattle.table.specs.Rows.{name_at, value_at, tok_at}
 use Rattle.table.specs.declared.rows.ValidTable.{ValidTable}
 use Rattle.table.proofs.Classes.{kind_of_lem}
 use Rattle.table.proofs.Flat.{unroll, drop_from}
-use Rattle.table.proofs.Valid.{few_rows}
 use Rattle.xml.proofs.First.{walk_not_table}
 use Rattle.xml.specs.declared.DrainError.{DrainError}
 use Rattle.xml.specs.Drain.{walked, drained_by, drained}
@@ -210,7 +209,7 @@ module _ {e : Element} {c c' : Cursor} {size : ℕ} (w : MeasureAt e c size) whe
           }
 
       pub measure_fits : Fits w64 (size + m.len)
-      measure_fits = record { fits = omega (arith, w.small, m.short, w.at.stands.high, e.view.seen, few_rows e.view.table.obeys) }
+      measure_fits = record { fits = omega (arith, w.small, m.short, w.at.stands.high, e.view.few) }
 
 -- ---- written
 sets_over : (old acc l : List ℕ) {out : List ℕ} {size : ℕ} → out ≡ overwritten old acc → size ≡ length acc → length (acc ++ l) ≤ length old
@@ -407,7 +406,7 @@ module _ (u : Upload) where
     well (Err (DrainError.IllFormed k cause)) q h room = false_true (sym h ∙ rw q at (ap (λ (s : doc.View). s.ill_formed) seen))
 
     body_is : w.table.body.now ≡ u.body
-    body_is = ap (λ (t : ValidTable). t.body.now) y.table ∙ x.0
+    body_is = y.body ∙ x.0
 
     module _ (h : w.ill_formed ≡ false) where
       pub whole_rootless : RootIs w None → (old : List ℕ) → CopyIs (whole_text u (length old)) old old (Err Refusal.NoRoot)

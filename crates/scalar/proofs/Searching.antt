@@ -31,11 +31,11 @@ use Rattle.decode.specs.declared.place.Start.{Start}
 use Rattle.decode.specs.declared.view.View.{View}
 use Rattle.decode.specs.declared.element.Element.{Element}
 use Rattle.decode.specs.View.{view_of}
-use Rattle.decode.specs.Element.{child_of, NextIs, DroppedIs, FoundAt, PieceIs}
+use Rattle.decode.specs.Element.{child_at, child_of, NextIs, DroppedIs, FoundAt, PieceIs}
 use Rattle.opening.specs.Opening.{body_of, OpeningIs}
 use Rattle.scalar.specs.Find.{first_piece, FindingIs}
 use Rattle.scalar.proofs.Bytes.{same_pointwise}
-use Rattle.decode.proofs.Scope.{child_at, no_more, one_more}
+use Rattle.decode.proofs.Scope.{no_more, one_more}
 
 -- ---- whether a name is the one
 pub local_is : (a name : List ℕ) {n : List ℕ} {u : Bool} → a ≡ n → u ≡ pointwise eqb a name → u ≡ sameb n name

@@ -1,34 +1,33 @@
 -- Laws of booleans, integers and strings from a text.
 use Prim.Native.Nat.{ℕ, zero, suc, ◌+◌, ◌-◌, ◌*◌, ◌^◌, ◌≤◌, ◌<◌}
 use mathlib.Core.Path.{◌≡◌, refl, sym, ◌∙◌, ap}
-use mathlib.Core.Bool.{Bool, true, false, cond}
+use mathlib.Core.Bool.{Bool, true, false}
 use mathlib.Core.List.{List, [], ◌∷◌, ◌++◌}
+use native.Mathlib.Nat.{zero-add}
+use native.Mathlib.Numerals.{add-one}
 use native.Mathlib.Omega.{arith}
-use borrow.Author.Tests.{le-leb, lt-leb, lt-ltb, le-ltb, leb-true, eqb-true, eqb-false}
+use borrow.Author.Rules.{rules}
+use borrow.Author.Tests.{le-leb, lt-leb, leb-true, leb-false, lt-ltb, le-ltb, eq-eqb, ne_eqb}
 use mir.Syntax.{w32}
-use mir.Val.{hbits, to_z, of_z, SFits}
-use mir.Facts.{to_z-of_z}
+use mir.Val.{bits, to_z, of_z, SFits}
+use mir.Facts.{to_z_pos, to_z-neg, to_z-of_z}
 use lib.Dec.{leb, ltb, eqb}
-use lib.IntN.{ℤ, pos, neg_ℤ}
-use lib.ListN.{length, drop}
+use lib.IntN.{ℤ, pos, negsuc, ◌-ℤ◌}
+use lib.ListN.{length, get_or, drop, drop_of_length-le}
 use lib.Pointwise.{pointwise}
-use Rattle.std.specs.Prelude.{Option, Some, None, Result, Ok, Err, IsAscii, IsUtf8}
-use Rattle.std.specs.Char.{digit_value}
-use Rattle.std.specs.Result.{OkIff}
-use Rattle.std.specs.Str.Parse.{AllDigits, digits_value, digits_value_after, without_leading_sign, ParsesSigned}
-use Rattle.std.proofs.lemmas.Str.{digit_value_digit, IsUtf8-from_ascii}
-use Rattle.std.proofs.lemmas.Str.Parse.{digit_from_value, numerals_by_value, tells_digits, IsNumeralModel, parse_signed_minus}
-use Rattle.std.proofs.lemmas.Str.Parse.{parse_signed_plus, parse_signed_plain}
+use lib.Seq.{drop-cons, sets-eq}
+use Rattle.std.specs.Prelude.{Option, Some, None, Ok, Err}
 use Rattle.lists.specs.Tests.{pick, within}
 use Rattle.lists.proofs.Tests.{is_within, within_is}
 use Rattle.lists.specs.Bytes.{ascii, sameb}
-use Rattle.lists.specs.Overwrite.{overwritten}
+use Rattle.lists.specs.Overwrite.{overwritten, Stored}
 use Rattle.refusal.specs.declared.Refusal.{Refusal}
 use Rattle.refusal.specs.Answer.{Answer, gives, refuses}
 use Rattle.reference.specs.Number.{digit, numeral}
 use Rattle.document.specs.Part.{CopyIs}
 use Rattle.document.specs.Text.{string_in}
-use Rattle.readings.specs.Scalar.{boolean_of, digits_of, positive, negative, minus, integer_of}
+use Rattle.readings.specs.Scalar.{boolean_of, digits_of, positive, negative, integer_of}
+use Rattle.scalar.specs.Digits.{bounded}
 use Rattle.scalar.proofs.Bytes.{same_pointwise}
 
 -- ---- a boolean
@@ -70,159 +69,170 @@ digit_other b e = rw e (go (within 65 70 b) refl)
     go true q = le-ltb (b - 55) 10 (omega (arith, (within_is 65 70 b q).0))
     go false q = last (within 97 102 b) refl
 
--- the library's numeral is the definition's
-data Reads (acc : ℕ) (ds : List ℕ) (o : Option ℕ) : Type 0 where
-  number : AllDigits 10 ds → o ≡ Some (digits_value_after 10 acc ds) → Reads acc ds o
-  other : (AllDigits 10 ds → ⊥) → o ≡ None → Reads acc ds o
-
-reads : (acc : ℕ) (ds : List ℕ) → Reads acc ds (numeral 10 acc ds)
+-- a number only grows
+big : (s : List ℕ) (acc : ℕ) → 2147483648 < acc → bounded (numeral 10 acc s) ≡ None
 unfolding numeral
-reads acc [] = number tt refl
-reads acc (b ∷ s) = go (λ n. reads n s) (within 48 57 b) refl
+big [] acc h = rw (lt-leb acc 2147483648 h)
+big (b ∷ s) acc h = go (ltb (digit b) 10) (big s (acc * 10 + digit b) (omega arith))
   where
-    more : digit_value b < 10 → Reads (acc * 10 + digit_value b) s (numeral 10 (acc * 10 + digit_value b) s)
-        → Reads acc (b ∷ s) (numeral 10 (acc * 10 + digit_value b) s)
-    more l (number a e) = number (l, a) e
-    more l (other n e) = other (λ h. n h.1) e
+    go : (t : Bool) → bounded (numeral 10 (acc * 10 + digit b) s) ≡ None → bounded (pick t (numeral 10 (acc * 10 + digit b) s) None) ≡ None
+    go true e = e
+    go false e = refl
 
-    go : ((n : ℕ) → Reads n s (numeral 10 n s)) → (t : Bool) → within 48 57 b ≡ t
-        → Reads acc (b ∷ s) (pick (ltb (digit b) 10) (numeral 10 (acc * 10 + digit b) s) None)
-    go f true q =
-        let w = within_is 48 57 b q in
-        let e : digit b ≡ digit_value b = digit_is b w.0 w.1 ∙ omega (arith, digit_value_digit b w) in
-        let l : digit_value b < 10 = omega (arith, digit_value_digit b w, w.1) in
-        rw (e, lt-ltb (digit_value b) 10 l) (more l (f (acc * 10 + digit_value b)))
-    go f false q = rw (digit_other b q) (other (λ h. out (digit_from_value b h.0)) refl)
-      where
-        out : (48 ≤ b) × (b ≤ 57) → ⊥
-        out r = let z : true ≡ false = sym (is_within 48 57 b r.0 r.1) ∙ q in let y : ◌≡◌ {A = ℕ} 0 1 = cc in omega arith
+-- the loop: the digits so far are acc, and the rest gives the whole
+pub record DigitsAt (s : List ℕ) (from acc i : ℕ) : Type 0 where
+  pub small : acc ≤ 2147483648
+  pub rest : bounded (numeral 10 acc (drop i s)) ≡ bounded (digits_of (drop from s))
 
--- one digit or more
-data Digits (ds : List ℕ) (o : Option ℕ) : Type 0 where
-  number : AllDigits 10 ds → 0 < length ds → o ≡ Some (digits_value 10 ds) → Digits ds o
-  other : (AllDigits 10 ds → 0 < length ds → ⊥) → o ≡ None → Digits ds o
+pub digits_none : (s : List ℕ) {from : ℕ} → from ≡ length s → None ≡ bounded (digits_of (drop from s))
+digits_none s {from} e = rw (drop_of_length-le s {i = from} (omega arith))
 
-digits : (ds : List ℕ) → Digits ds (digits_of ds)
-digits [] = other (λ a l. omega arith) refl
-digits (b ∷ s) = go (reads 0 (b ∷ s))
+pub digits_start : (s : List ℕ) {from : ℕ} → from ≤ length s → (from ≡ length s → ⊥) → DigitsAt s from 0 from
+digits_start s {from} l h = go (leb (suc from) (length s)) refl
   where
-    go : Reads 0 (b ∷ s) (numeral 10 0 (b ∷ s)) → Digits (b ∷ s) (numeral 10 0 (b ∷ s))
-    go (Reads.number a e) = number a (omega arith) e
-    go (Reads.other n e) = other (λ a l. n a) e
+    go : (b : Bool) → leb (suc from) (length s) ≡ b → DigitsAt s from 0 from
+    go true q = record { small = omega arith; rest = rw (drop-cons s from 0 (leb-true (suc from) (length s) q)) }
+    go false q = absurd (h (omega (arith, leb-false (suc from) (length s) q)))
 
--- ---- an integer, as the library reads it
-abbrev pub parsed : {E : Type 0} → Result ℤ E → Answer ℤ
-parsed (Ok z) = gives z
-parsed (Err e) = refuses Refusal.NotInteger
+module _ {s : List ℕ} {from acc i : ℕ} (w : DigitsAt s from acc i) where
+  pub digits_end : length s ≤ i → Some acc ≡ bounded (digits_of (drop from s))
+  unfolding numeral
+  digits_end h = rw (← w.rest, drop_of_length-le s {i = i} h, le-leb acc 2147483648 w.small)
 
-minus_is : (n : ℕ) → neg_ℤ (pos n) ≡ minus n
-minus_is zero = refl
-minus_is (suc n) = refl
+  module _ (h : i < length s) where
+    step : bounded (pick (ltb (digit (get_or s i 0)) 10) (numeral 10 (acc * 10 + digit (get_or s i 0)) (drop (suc i) s)) None)
+        ≡ bounded (digits_of (drop from s))
+    unfolding numeral
+    step = rw (drop-cons s i 0 h) at w.rest
 
-module _ (ds : List ℕ) where
-  abbrev value : ℕ
-  value = digits_value 10 ds
+    pub digits_low : get_or s i 0 < 48 → None ≡ bounded (digits_of (drop from s))
+    digits_low l = rw (digit_other (get_or s i 0) (rw (lt-leb 48 (get_or s i 0) l))) at step
 
-  positive_is : {E : Type 0} (r : Result ℤ E) → OkIff r (AllDigits 10 ds × (0 < length ds) × (value < 2 ^ hbits w32)) (pos value)
-      → parsed r ≡ positive (digits_of ds)
-  positive_is (Ok z) h = go (digits ds)
-    where
-      go : Digits ds (digits_of ds) → gives z ≡ positive (digits_of ds)
-      go (number a l e) = rw (e, le-leb value 2147483647 (omega (arith, h.0.2)), h.1)
-      go (other n e) = absurd (n h.0.0 h.0.1)
-  positive_is (Err d) h = go (digits ds)
-    where
-      over : AllDigits 10 ds → 0 < length ds → (t : Bool) → leb value 2147483647 ≡ t
-          → refuses Refusal.NotInteger ≡ pick t (gives (pos value)) (refuses Refusal.NotInteger)
-      over a l true q = absurd (h (a, l, omega (arith, leb-true value 2147483647 q)))
-      over a l false q = refl
+    pub digits_high : 57 < get_or s i 0 → None ≡ bounded (digits_of (drop from s))
+    digits_high l = rw (digit_other (get_or s i 0) (rw (le-leb 48 (get_or s i 0) (omega arith), lt-leb (get_or s i 0) 57 l))) at step
 
-      go : Digits ds (digits_of ds) → refuses Refusal.NotInteger ≡ positive (digits_of ds)
-      go (number a l e) = rw e (over a l (leb value 2147483647) refl)
-      go (other n e) = rw e
+    module _ (a : 48 ≤ get_or s i 0) (b : get_or s i 0 ≤ 57) where
+      on : bounded (numeral 10 (acc * 10 + (get_or s i 0 - 48)) (drop (suc i) s)) ≡ bounded (digits_of (drop from s))
+      on =
+          let e = digit_is (get_or s i 0) a b in
+          let d : ltb (digit (get_or s i 0)) 10 ≡ true = rw e (lt-ltb (get_or s i 0 - 48) 10 (omega arith)) in
+          rw (d, e) at step
 
-  negative_is : {E : Type 0} (r : Result ℤ E) → OkIff r (AllDigits 10 ds × (0 < length ds) × (value ≤ 2 ^ hbits w32)) (neg_ℤ (pos value))
-      → parsed r ≡ negative (digits_of ds)
-  negative_is (Ok z) h = go (digits ds)
-    where
-      go : Digits ds (digits_of ds) → gives z ≡ negative (digits_of ds)
-      go (number a l e) = rw (e, le-leb value 2147483648 (omega (arith, h.0.2)), h.1, minus_is value)
-      go (other n e) = absurd (n h.0.0 h.0.1)
-  negative_is (Err d) h = go (digits ds)
-    where
-      over : AllDigits 10 ds → 0 < length ds → (t : Bool) → leb value 2147483648 ≡ t
-          → refuses Refusal.NotInteger ≡ pick t (gives (minus value)) (refuses Refusal.NotInteger)
-      over a l true q = absurd (h (a, l, omega (arith, leb-true value 2147483648 q)))
-      over a l false q = refl
+      pub digits_over : 2147483648 < acc * 10 + (get_or s i 0 - 48) → None ≡ bounded (digits_of (drop from s))
+      digits_over g = sym (big (drop (suc i) s) (acc * 10 + (get_or s i 0 - 48)) g) ∙ on
 
-      go : Digits ds (digits_of ds) → refuses Refusal.NotInteger ≡ negative (digits_of ds)
-      go (number a l e) = rw e (over a l (leb value 2147483648) refl)
-      go (other n e) = rw e
+      pub digits_on : acc * 10 + (get_or s i 0 - 48) ≤ 2147483648 → DigitsAt s from (acc * 10 + (get_or s i 0 - 48)) (i + 1)
+      digits_on g = record { small = g; rest = rw (add-one i) on }
 
-own : IsNumeralModel (AllDigits 10) (digits_value 10)
-own = numerals_by_value (AllDigits 10) tells_digits
+pub ruleset digits_laws = (rules, digits_none, digits_start, digits_end, digits_low, digits_high, digits_over, digits_on)
 
--- by its first byte
-pub integer_is : {E : Type 0} (s : List ℕ) (r : Result ℤ E) → ParsesSigned w32 10 s r → parsed r ≡ integer_of s
+-- ---- the sign
+module _ (x : Option ℕ) where
+  pub positive_no : x ≡ None → refuses Refusal.NotInteger ≡ positive x
+  positive_no e = rw e
+
+  pub negative_no : x ≡ None → refuses Refusal.NotInteger ≡ negative x
+  negative_no e = rw e
+
+  module _ {n : ℕ} (e : x ≡ Some n) where
+    pub positive_is : n ≤ 2147483647 → gives (to_z w32 n) ≡ positive x
+    positive_is h = rw (e, le-leb n 2147483647 h, to_z_pos w32 {n = n} (omega arith))
+
+    pub positive_over : 2147483647 < n → refuses Refusal.NotInteger ≡ positive x
+    positive_over h = rw (e, lt-leb n 2147483647 h)
+
+    pub negative_zero : n ≡ 0 → gives (pos 0) ≡ negative x
+    negative_zero z = rw (e, z)
+
+    pub negative_over : 2147483648 < n → refuses Refusal.NotInteger ≡ negative x
+    negative_over h = rw (e, lt-leb n 2147483648 h)
+
+-- -1 - (n - 1)
+abbrev less_one : ℕ → ℤ
+less_one n = to_z w32 (2 ^ bits w32 - 1) -ℤ to_z w32 (n - 1)
+
+less_one_lem : (k : ℕ) → k < 2147483648 → less_one (suc k) ≡ negsuc k
+less_one_lem k h =
+    let a : to_z w32 (2 ^ bits w32 - 1) ≡ negsuc 0 = to_z-neg w32 0 (omega arith) in
+    let e : suc k - 1 ≡ k = omega arith in
+    let b : to_z w32 k ≡ pos k = to_z_pos w32 {n = k} h in
+    rw (a, e, b) (negate k)
+  where
+    negate : (k : ℕ) → negsuc 0 -ℤ pos k ≡ negsuc k
+    negate zero = refl
+    negate (suc k) = ap (λ n. negsuc (suc n)) (zero-add k)
+
+pub less_fits : {n : ℕ} → (n ≡ 0 → ⊥) → n ≤ 2147483648 → SFits w32 (less_one n)
+less_fits {n = zero} z h = absurd (z refl)
+less_fits {n = suc k} z h = rw (less_one_lem k (omega arith)) (record { sfits = omega arith })
+
+pub negative_is : (x : Option ℕ) {n : ℕ} → x ≡ Some n → (n ≡ 0 → ⊥) → n ≤ 2147483648
+    → gives (to_z w32 (of_z w32 (less_one n))) ≡ negative x
+negative_is x {n = zero} e z h = absurd (z refl)
+negative_is x {n = suc k} e z h =
+    let a = to_z-of_z {w = w32} {z = less_one (suc k)} (less_fits z h) ∙ less_one_lem k (omega arith) in
+    rw (e, le-leb (suc k) 2147483648 h, a)
+
+pub ruleset sign_laws = (rules, positive_is, positive_over, positive_no, negative_zero, negative_over, negative_no, less_fits, negative_is)
+
+-- ---- an integer: a number out of every range is refused with any sign
+unbounded : (f : Option ℕ → Answer ℤ) → ((n : ℕ) → 2147483648 < n → f None ≡ f (Some n)) → (x : Option ℕ) → f (bounded x) ≡ f x
+unbounded f over None = refl
+unbounded f over (Some n) = go (leb n 2147483648) refl
+  where
+    go : (t : Bool) → leb n 2147483648 ≡ t → f (pick t (Some n) None) ≡ f (Some n)
+    go true q = refl
+    go false q = over n (leb-false n 2147483648 q)
+
+positive_bounded : (x : Option ℕ) → positive (bounded x) ≡ positive x
+positive_bounded = unbounded positive (λ n h. rw (lt-leb n 2147483647 (omega arith)))
+
+negative_bounded : (x : Option ℕ) → negative (bounded x) ≡ negative x
+negative_bounded = unbounded negative (λ n h. rw (lt-leb n 2147483648 h))
+
+pub integer_none : (s : List ℕ) → length s ≡ 0 → refuses Refusal.NotInteger ≡ integer_of s
 unfolding integer_of
-integer_is [] (Ok z) h = let l : 0 < 0 = h.0.0.0 in absurd (omega arith)
-integer_is [] (Err e) h = refl
-integer_is (b ∷ s) r h = go (eqb b 43) refl
-  where
-    plain : (t : Bool) → (b ≡ 43 → ⊥) → eqb b 45 ≡ t
-        → parsed r ≡ pick t (negative (digits_of s)) (positive (digits_of (b ∷ s)))
-    plain true n q = negative_is s r (parse_signed_minus own w32 (b ∷ s) r h (eqb-true b 45 q))
-    plain false n q = positive_is (b ∷ s) r (parse_signed_plain own w32 (b ∷ s) r h n (eqb-false b 45 q))
+integer_none [] e = refl
+integer_none (b ∷ s) e = absurd (omega (arith, e))
 
-    go : (t : Bool) → eqb b 43 ≡ t
-        → parsed r ≡ pick t (positive (digits_of s)) (pick (eqb b 45) (negative (digits_of s)) (positive (digits_of (b ∷ s))))
-    go true q = positive_is s r (parse_signed_plus own w32 (b ∷ s) r h (eqb-true b 43 q))
-    go false q = plain (eqb b 45) (eqb-false b 43 q) refl
+module _ (s : List ℕ) (h : (length s ≡ 0 → ⊥)) where
+  -- by its first byte
+  signed : integer_of s
+      ≡ pick (eqb (get_or s 0 0) 43) (positive (digits_of (drop 1 s)))
+      (pick (eqb (get_or s 0 0) 45) (negative (digits_of (drop 1 s))) (positive (digits_of (drop 0 s))))
+  unfolding integer_of
+  signed = go s h
+    where
+      go : (s : List ℕ) → (length s ≡ 0 → ⊥) → integer_of s
+          ≡ pick (eqb (get_or s 0 0) 43) (positive (digits_of (drop 1 s)))
+          (pick (eqb (get_or s 0 0) 45) (negative (digits_of (drop 1 s))) (positive (digits_of (drop 0 s))))
+      go [] h = absurd (h refl)
+      go (b ∷ s) h = refl
 
-pub integer_ok : {E : Type 0} (s : List ℕ) {n : ℤ} {r : Result ℤ E} → ParsesSigned w32 10 s r → r ≡ Ok n
-    → gives (to_z w32 (of_z w32 n)) ≡ integer_of s
-integer_ok {E} s {n} {r} h e =
-    let k : ParsesSigned {E = E} w32 10 s (Ok n) = rw e at h in
-    let f : SFits w32 n = rw k.1 k.0.1 in
-    ap gives (to_z-of_z {w = w32} {z = n} f) ∙ (ap parsed (sym e) ∙ integer_is s r h)
+  module _ {x : Option ℕ} {a : Answer ℤ} where
+    pub integer_plus : get_or s 0 0 ≡ 43 → x ≡ bounded (digits_of (drop 1 s)) → a ≡ positive x → a ≡ integer_of s
+    integer_plus e q p = rw (signed, eq-eqb (get_or s 0 0) 43 e) (p ∙ rw q (positive_bounded (digits_of (drop 1 s))))
 
-pub integer_err : {E : Type 0} (s : List ℕ) {x : E} {r : Result ℤ E} → ParsesSigned w32 10 s r → r ≡ Err x
-    → refuses Refusal.NotInteger ≡ integer_of s
-integer_err s {r = r} h e = ap parsed (sym e) ∙ integer_is s r h
+    module _ (n : (get_or s 0 0 ≡ 43 → ⊥)) where
+      pub integer_minus : get_or s 0 0 ≡ 45 → x ≡ bounded (digits_of (drop 1 s)) → a ≡ negative x → a ≡ integer_of s
+      integer_minus e q p =
+          rw (signed, ne_eqb (get_or s 0 0) 43 n, eq-eqb (get_or s 0 0) 45 e) (p ∙ rw q (negative_bounded (digits_of (drop 1 s))))
 
--- digits and signs are text
-ascii_more : (b : ℕ) (s : List ℕ) → b < 128 → IsAscii s → IsAscii (b ∷ s)
-ascii_more b s l h zero = l
-ascii_more b s l h (suc i) = h i
+      pub integer_plain : (get_or s 0 0 ≡ 45 → ⊥) → x ≡ bounded (digits_of (drop 0 s)) → a ≡ positive x → a ≡ integer_of s
+      integer_plain m q p =
+          rw (signed, ne_eqb (get_or s 0 0) 43 n, ne_eqb (get_or s 0 0) 45 m) (p ∙ rw q (positive_bounded (digits_of (drop 0 s))))
 
-digits_ascii : (ds : List ℕ) → AllDigits 10 ds → IsAscii ds
-digits_ascii [] a = λ i. omega arith
-digits_ascii (b ∷ s) a = ascii_more b s (omega (arith, (digit_from_value b a.0).1)) (digits_ascii s a.1)
-
-signed_ascii : (s : List ℕ) → AllDigits 10 (without_leading_sign s) → IsAscii s
-signed_ascii [] a = λ i. omega arith
-signed_ascii (b ∷ s) a = go (eqb b 45) refl a
-  where
-    plus : (t : Bool) → eqb b 43 ≡ t → AllDigits 10 (drop (cond t 1 0) (b ∷ s)) → IsAscii (b ∷ s)
-    plus true q a = ascii_more b s (omega (arith, eqb-true b 43 q)) (digits_ascii s a)
-    plus false q a = digits_ascii (b ∷ s) a
-
-    go : (t : Bool) → eqb b 45 ≡ t → AllDigits 10 (cond t s (drop (cond (eqb b 43) 1 0) (b ∷ s))) → IsAscii (b ∷ s)
-    go true q a = ascii_more b s (omega (arith, eqb-true b 45 q)) (digits_ascii s a)
-    go false q a = plus (eqb b 43) refl a
-
-pub integer_text : (s : List ℕ) → (IsUtf8 s → ⊥) → refuses Refusal.NotInteger ≡ integer_of s
-integer_text s n =
-    let r : Result ℤ (Unit {0}) = Err tt in
-    integer_is s r (λ p. n (IsUtf8-from_ascii s (signed_ascii s p.0.1)))
+pub ruleset integer_laws = (rules, integer_none, integer_plus, integer_minus, integer_plain)
 
 -- ---- a string
 module _ (text : List ℕ) {old : List ℕ} where
-  pub string_put : {new : List ℕ} → length text ≤ length old → new ≡ text
-      → CopyIs (string_in (length old) text) old (new ++ drop (length text) old) (Ok (length text))
+  pub string_put : {new : List ℕ} {n : ℕ} → length text ≤ length old → Stored old new 0 text n
+      → CopyIs (string_in (length old) text) old new (Ok n)
   unfolding string_in overwritten
-  string_put h e =
-      record { number = rw (le-leb (length text) (length old) h); buffer = rw (le-leb (length text) (length old) h, e) }
+  string_put {new} {n} h s =
+      let e : new ≡ text ++ drop (length text) old = s.is ∙ rw zero-add at (sets-eq text old 0 (omega arith)) in
+      let m : n ≡ length text = omega (arith, s.next) in
+      record { number = rw (le-leb (length text) (length old) h, m); buffer = rw (le-leb (length text) (length old) h) e }
 
   pub string_none : length old < length text → CopyIs (string_in (length old) text) old old (Err Refusal.NoRoom)
   unfolding string_in

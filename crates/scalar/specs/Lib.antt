@@ -1,4 +1,5 @@
 pub mod Answers
+pub mod Digits
 pub mod Find
 pub mod Whole
 pub mod Calls

@@ -3,7 +3,7 @@
 // the number is not 7.
 ghost use Rattle.std.specs.Prelude.{◌≡◌};
 ghost use Rattle.document.specs.Part.{copied_as};
-ghost use Rattle.scalar.specs.Answers.{answer};
+ghost use Rattle.scalar.specs.Answers.{answer, span_as};
 ghost use Rattle.scalar.specs.Calls.{BooleanCall, FindCall, IntegerCall, LengthCall};
 ghost use Rattle.scalar.specs.Calls.{BooleanRead, IntegerRead, LengthRead, place_of};
 
@@ -47,17 +47,28 @@ pub fn give_length(x: Result<usize, Refusal>, length: &mut usize) -> u32
     }
 }
 
+// Where a part starts, and its length, which may be any offsets.
+pub fn give_span(x: Result<(usize, usize), Refusal>, start: &mut usize, length: &mut usize) -> u32
+    ensures { FindCall (span_as x) start.new length.new result }
+{
+    let (from, len, number) = match x {
+        Ok((from, len)) => (from, len, 0),
+        Err(why) => (0, 0, why.number()),
+    };
+    *start = from;
+    *length = len;
+    number
+}
+
 // Where a part of the body starts, and its length.
 pub fn give_part(x: Result<Piece, Refusal>, start: &mut usize, length: &mut usize) -> u32
     ensures { FindCall (answer x) start.new length.new result }
 {
-    let (piece, number) = match x {
-        Ok(piece) => (piece, 0),
-        Err(why) => (Piece { start: 0, len: 0 }, why.number()),
+    let span = match x {
+        Ok(piece) => Ok((piece.start as usize, piece.len as usize)),
+        Err(why) => Err(why),
     };
-    *start = piece.start as usize;
-    *length = piece.len as usize;
-    number
+    give_span(span, start, length)
 }
 
 // The place beside the number of an answer, as an offset: 0 where it is no refusal.

@@ -23,10 +23,9 @@ fn next_text<'a>(element: &Element<'a>, at: &mut Cursor) -> Result<Option<Text<'
     if element.start.closed {
         return Ok(None);
     }
-    let table = element.view.table;
     let mut d = at.depth.0;
     for k in at.row..element.view.count {
-        let kind = table.kind(k);
+        let kind = element.view.kind(k);
         match kind {
             Kind::Text => {
                 *at = Cursor {

@@ -2,17 +2,15 @@
 use Prim.Native.Nat.{ℕ, ◌+◌, ◌-◌, ◌≤◌, ◌<◌}
 use mathlib.Core.Path.{◌≡◌, refl, sym, ◌∙◌, ap}
 use mathlib.Core.Bool.{Bool, true, false, ◌&&◌}
-use mathlib.Core.List.{List, [], ◌∷◌, append_assoc}
+use mathlib.Core.List.{List, [], ◌∷◌}
 use native.Mathlib.Omega.{arith}
 use borrow.Author.Tests.{eqb-true, eq-eqb}
-use borrow.Rule.Slice.PartMut.{put_mid}
 use lib.Dec.{eqb}
 use lib.ListN.{length, get_or, take, drop, length-drop}
 use lib.Pointwise.{pointwise}
-use lib.Seq.{sets-eq, get_or-drop, drop-drop}
+use lib.Seq.{get_or-drop}
 use Rattle.lists.specs.Bytes.{sameb}
 use Rattle.lists.specs.Find.{NextAt}
-use Rattle.lists.specs.Overwrite.{Stored}
 use Rattle.lists.specs.Tests.{pick}
 use Rattle.lists.proofs.Parts.{tail}
 use Rattle.memchr.specs.Find.{NoneBefore, Nowhere, Passes, is_byte}
@@ -59,10 +57,3 @@ module _ (s : List ℕ) (x from : ℕ) (h : from ≤ length s) where
         clear = record { low = h; high = omega arith; none = λ i l u e. missed (length rest) f i l (omega (arith, rest_length)) e };
         found = λ u. absurd (omega arith);
       }
-
--- a copy over the elements of `&mut out[at..at + s.len()]`
-pub copied : (out s : List ℕ) (at : ℕ) {p : List ℕ} → at + length s ≤ length out → p ≡ s
-    → Stored out (put_mid at (at + length s - at) out p) at s (at + length s)
-copied out s at h e =
-    let q : at + length s - at ≡ length s = omega arith in
-    record { next = refl; is = rw (e, q, sets-eq s out at h, drop-drop, append_assoc) }

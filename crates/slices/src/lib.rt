@@ -29,13 +29,15 @@ pub fn find(s: &[u8], from: usize, x: u8) -> usize
     }
 }
 
-// Writes a slice at a place, and answers the place after it.
-#[tactic(auto, using(crate::proofs::Library::copied))]
+// Writes a slice at a place, and answers the place after it. A loop over bytes, which compiles to a copy between parts that do not overlap:
+// `copy_from_slice` compiles to one that asks a program for `memmove` too.
+#[tactic(auto, using(crate::proofs::Copy::copy_laws))]
 pub fn put(out: &mut [u8], at: usize, s: &[u8]) -> usize
     requires { at + length s.now ≤ length out.old }
     ensures { Stored out.old out.new at s.now result }
 {
-    let end = at + s.len();
-    out[at..end].copy_from_slice(s);
-    end
+    for k in 0..s.len() {
+        out[at + k] = s[k];
+    }
+    at + s.len()
 }

@@ -6,16 +6,16 @@ use mathlib.Core.List.{List, ◌∷◌}
 use native.Mathlib.Omega.{arith}
 use borrow.Author.Tests.{eq-eqb, ne_eqb}
 use lib.Dec.{eqb}
-use lib.ListN.{length, get_or}
+use lib.ListN.{get_or}
 use Rattle.lists.specs.Tests.{pick}
 use Rattle.table.specs.Row.{Row}
 use Rattle.table.specs.Rules.{begin_of, closes_element, open_count}
 use Rattle.table.specs.Rows.{InTable}
 use Rattle.table.specs.Flat.{row_at, rows_from}
 use Rattle.table.proofs.Flat.{unroll, rolled_out, drop_from}
-use Rattle.table.proofs.Valid.{few_bytes, rules_at, spans_within}
 use Rattle.table.specs.Piece.{closing, is_closed, piece_start}
 use Rattle.decode.specs.declared.element.Element.{Element}
+use Rattle.decode.proofs.Pieces.{begins_low}
 use Rattle.readings.specs.Structure.{root_piece}
 use Rattle.opening.specs.Opening.{body_of, opened_of}
 use Rattle.structure.specs.Unwrapped.{end_from, EndIs}
@@ -78,7 +78,7 @@ module _ (e : Element) where
       end_found u p =
           record {
             is = p ∙ (sym (end_here e.view.ends a.last n (row_at e.view.table.rows.now k) (rows (k + 1)) (sym z ∙ u)) ∙ at_row);
-            low = rw p (spans_within e.view.table.obeys (in_table e h)).position;
+            low = rw p (e.view.table.readable.each k (in_table e h).row).position;
           }
 
 -- ---- the piece
@@ -92,15 +92,9 @@ module _ (e : Element) where
   begins : begin_of (body_of e) (row_at t e.start.row) ≡ piece_start (body_of e) (rows e e.start.row)
   begins = sym (ap (piece_start (body_of e)) (unroll t e.start.row e.view.count first))
 
-  begins_low : begin_of (body_of e) (row_at t e.start.row) ≤ length (body_of e)
-  begins_low =
-      let i = in_table e first in
-      let x = (rules_at e.view.table.obeys i).rules.tag_begins (rw e.start_in.starts) in
-      omega (arith, x.before, (spans_within e.view.table.obeys i).local)
-
   module _ {from end : ℕ} (a : from ≡ begin_of (body_of e) (row_at t e.start.row)) (b : EndIs e end) where
     pub piece_from : from < 2 ^ 32
-    piece_from = omega (arith, a, begins_low, few_bytes e.view.table.obeys)
+    piece_from = omega (arith, a, begins_low e, e.view.small)
 
     pub piece_is : record { start = from; len = end - from } ≡ root_piece (body_of e) (opened_of e)
     unfolding root_piece

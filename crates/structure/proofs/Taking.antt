@@ -10,7 +10,6 @@ use Rattle.std.specs.Prelude.{Result, Ok, Err}
 use Rattle.std.proofs.lemmas.List.{take_more_set}
 use Rattle.lists.specs.Every.{Every}
 use Rattle.refusal.specs.declared.Refusal.{Refusal}
-use Rattle.table.proofs.Valid.{few_rows}
 use Rattle.document.specs.declared.part.Piece.{Piece}
 use Rattle.document.specs.declared.part.Text.{Text}
 use Rattle.document.specs.View.{View as Seen}
@@ -27,7 +26,7 @@ use Rattle.decode.specs.declared.place.Past.{Past}
 use Rattle.decode.specs.declared.view.View.{View}
 use Rattle.decode.specs.declared.element.Element.{Element}
 use Rattle.decode.specs.View.{view_of}
-use Rattle.decode.specs.Element.{child_of, FoundAt, NextIs, DroppedIs, PieceIs}
+use Rattle.decode.specs.Element.{child_at, child_of, FoundAt, NextIs, DroppedIs, PieceIs}
 use Rattle.output.specs.declared.kept.Kept.{Kept}
 use Rattle.output.specs.declared.Output.{Output}
 use Rattle.output.specs.Kept.{InBody}
@@ -37,7 +36,7 @@ use Rattle.opening.specs.Opening.{body_of}
 use Rattle.structure.specs.Structure.{some_member}
 use Rattle.output.proofs.Siblings.{KeepsSiblings, keeps_start, keeps_other, keeps_more, keeps_flat, keeps_has}
 use Rattle.structure.specs.Children.{waiting, KeptMore, Taken, ChildrenTaken}
-use Rattle.decode.proofs.Scope.{child_at, no_more, one_more}
+use Rattle.decode.proofs.Scope.{no_more, one_more}
 
 -- ---- what is kept of one child
 module _ (v : View) (c : Child) (m : Option Indexed) (l : List Kept) (count : ℕ) where
@@ -141,7 +140,7 @@ module _ (root : Element) (s : Structure) where
                       flat = keeps_flat k;
                       has = keeps_has k;
                       inside = k.inside;
-                      few = omega (arith, length-take count l, a.few, high, scope.view.seen, few_rows scope.view.table.obeys);
+                      few = omega (arith, length-take count l, a.few, high, scope.view.seen, scope.view.few);
                     };
               };
         }

@@ -24,8 +24,8 @@ use Rattle.codec.specs.Members.{found_in}
 use Rattle.output.specs.declared.kept.Kept.{Kept}
 use Rattle.output.specs.declared.Output.{Output}
 use Rattle.output.specs.Plans.{put_piece}
-use Rattle.output.specs.Held.{Does}
-use Rattle.output.proofs.Writing.{same_buffers}
+use Rattle.output.specs.Held.{Does, Enters}
+use Rattle.output.proofs.Writing.{same_buffers, enters_stop}
 use Rattle.output.proofs.Then.{does_then, does_stop, tested_well, tested_ill}
 use Rattle.opening.specs.Opening.{body_of, opened_of, asked_of}
 use Rattle.structure.specs.Structure.{root_or_members}
@@ -83,6 +83,10 @@ module _ (root : Element) (s : Structure) where
   pub alone_ill : (b : Output) → root.view.ill_formed ≡ true → Does alone b b (Err Refusal.IllFormed)
   unfolding unwrapped_plan
   alone_ill b q = does_stop (end_test root.view.ill_formed) _ (tested_ill b q)
+
+  pub alone_left : (b : Output) → root.view.ill_formed ≡ true → Enters alone b b (Err Refusal.IllFormed)
+  unfolding unwrapped_plan followed_by
+  alone_left b q = rw q (enters_stop b Refusal.IllFormed)
 
   module _ (o : Option ℕ) (q : root.view.ill_formed ≡ false)
       (y : resolve s (child_of root).start.name.local ≡ found_in s.members o) where

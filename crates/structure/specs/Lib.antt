@@ -1,3 +1,4 @@
 pub mod Structure
 pub mod Children
 pub mod Unwrapped
+pub mod Groups

@@ -3,6 +3,7 @@ ghost use Rattle.std.specs.Prelude.{◌<◌, ◌^◌};
 ghost use Rattle.sheet.specs.Names.{members_of};
 ghost use Rattle.readings.specs.Plan.{one_by_one};
 ghost use Rattle.readings.specs.Structure.{attribute_plan};
+ghost use Rattle.codec.specs.Structure.{member_said, structure_said};
 ghost use Rattle.decode.specs.Element.{child_of};
 ghost use Rattle.output.specs.Held.{Does};
 ghost use Rattle.structure.specs.Structure.{indexed_as};
@@ -21,7 +22,8 @@ fn write_attribute(
     member: &Member,
     out: &mut Output,
 ) -> Result<(), Refusal>
-    ensures { Does (attribute_plan (child_of root.now).start.attributes (indexed_as index member.now)) out.old out.new result }
+    ensures { Does (attribute_plan (child_of root.now).start.attributes (indexed_as index (member_said member.now)))
+        out.old out.new result }
 {
     if member.is_attribute() {
         let pattern = Pattern::new(member.attribute_name());
@@ -33,12 +35,13 @@ fn write_attribute(
 }
 
 // Writes the attributes of a root, in the order of the members that ask for them.
-pub(crate) fn write_attributes(
+pub fn write_attributes(
     root: &Element,
     sheet: &StructureSheet,
     out: &mut Output,
 ) -> Result<(), Refusal>
-    ensures { Does (one_by_one (attribute_plan (child_of root.now).start.attributes) (members_of sheet.now)) out.old out.new result }
+    ensures { Does (one_by_one (attribute_plan (child_of root.now).start.attributes) (members_of (structure_said sheet.now)))
+        out.old out.new result }
 {
     for i in 0..sheet.len() {
         write_attribute(root, i as u32, &sheet.member(i), out)?;

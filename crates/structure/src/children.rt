@@ -2,6 +2,7 @@
 // is kept as its member and its piece, from which its group is written after the children.
 ghost use Rattle.std.specs.Prelude.{◌≡◌, ◌*◌, ◌≤◌, ◌<◌, length};
 ghost use Rattle.sheet.specs.Names.{resolve};
+ghost use Rattle.codec.specs.Structure.{member_said, structure_said};
 ghost use Rattle.decode.specs.Place.{Outside};
 ghost use Rattle.decode.specs.Element.{DroppedIs, child_of};
 ghost use Rattle.structure.specs.Structure.{some_member};
@@ -27,7 +28,8 @@ fn take_member(
 ) -> Result<usize, Refusal>
     requires dropped_is { DroppedIs child.now past }
     requires room { count < length kept.old }
-    ensures { Taken child.now.view (child_of child.now) (some_member index member.now) kept.old count kept.new out.old out.new result }
+    ensures { Taken child.now.view (child_of child.now) (some_member index (member_said member.now))
+        kept.old count kept.new out.old out.new result }
 {
     if !member.is_aggregate() {
         let text = child.try_data();
@@ -57,7 +59,7 @@ fn take_child(
 ) -> Result<usize, Refusal>
     requires dropped_is { DroppedIs child.now past }
     requires room { count < length kept.old }
-    ensures { Taken child.now.view (child_of child.now) (resolve sheet.now (child_of child.now).start.name.local)
+    ensures { Taken child.now.view (child_of child.now) (resolve (structure_said sheet.now) (child_of child.now).start.name.local)
         kept.old count kept.new out.old out.new result }
 {
     match sheet.resolve_member(child.local()) {
@@ -68,14 +70,14 @@ fn take_child(
 
 // Takes the children of a root, in body order, to the first that is refused. Each has two rows or more, so that `kept` has room for all.
 // It answers how many are kept.
-pub(crate) fn take_children(
+pub fn take_children(
     root: &Element,
     sheet: &StructureSheet,
     kept: &mut [Kept],
     out: &mut Output,
 ) -> Result<usize, Refusal>
     requires { root.now.view.count ≤ length kept.old * 2 }
-    ensures { ChildrenTaken root.now sheet.now kept.new out.old out.new result }
+    ensures { ChildrenTaken root.now (structure_said sheet.now) kept.new out.old out.new result }
 {
     let mut scope = *root;
     let mut count = 0;

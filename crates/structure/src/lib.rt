@@ -5,14 +5,15 @@
 
 ghost use Rattle.std.specs.Prelude.{◌*◌, ◌≤◌, length};
 ghost use Rattle.readings.specs.Structure.{members_plan, opened_plan};
+ghost use Rattle.codec.specs.Structure.{structure_said};
 ghost use Rattle.output.specs.Held.{Does};
 ghost use Rattle.opening.specs.Opening.{asked_of, body_of, opened_of};
 ghost use Rattle.structure.specs.Structure.{root_or_members};
 
-mod attributes;
-mod children;
-mod groups;
-mod unwrapped;
+pub mod attributes;
+pub mod children;
+pub mod groups;
+pub mod unwrapped;
 
 use crate::attributes::write_attributes;
 use crate::children::take_children;
@@ -44,7 +45,7 @@ fn read_members(
     out: &mut Output,
 ) -> Result<(), Refusal>
     requires { root.now.view.count ≤ length kept.old * 2 }
-    ensures { Does (members_plan (body_of root.now) sheet.now (opened_of root.now)) out.old out.new result }
+    ensures { Does (members_plan (body_of root.now) (structure_said sheet.now) (opened_of root.now)) out.old out.new result }
 {
     write_attributes(root, sheet, out)?;
     let count = take_children(root, sheet, kept, out)?;
@@ -62,7 +63,7 @@ fn read_kept<const N: usize>(
 ) -> Result<(), Refusal>
     requires room { root.now.view.count ≤ N * 2 }
     requires few { N ≤ 4096 }
-    ensures { Does (members_plan (body_of root.now) sheet.now (opened_of root.now)) out.old out.new result }
+    ensures { Does (members_plan (body_of root.now) (structure_said sheet.now) (opened_of root.now)) out.old out.new result }
 {
     let mut kept = [NONE; N];
     read_members(root, sheet, &mut kept, out)
@@ -70,7 +71,7 @@ fn read_kept<const N: usize>(
 
 // The root alone where the sheet says unwrapped, else its members.
 fn read_root(root: &Element, sheet: &StructureSheet, out: &mut Output) -> Result<(), Refusal>
-    ensures { Does (root_or_members (body_of root.now) sheet.now (opened_of root.now)) out.old out.new result }
+    ensures { Does (root_or_members (body_of root.now) (structure_said sheet.now) (opened_of root.now)) out.old out.new result }
 {
     if sheet.is_unwrapped() {
         return read_unwrapped(root, sheet, out);
@@ -89,7 +90,7 @@ pub fn read_struct(
     depth: ShapeDepth,
     out: &mut Output,
 ) -> Result<(), Refusal>
-    ensures { Does (opened_plan (body_of root.now) settings depth (asked_of sheet.now root.now)) out.old out.new result }
+    ensures { Does (opened_plan (body_of root.now) settings depth (asked_of (structure_said sheet.now) root.now)) out.old out.new result }
 {
     if settings.tests_root_name(depth) && !root.matches(Pattern::new(sheet.root_name())) {
         return Err(Refusal::RootName);

@@ -1,7 +1,8 @@
 // "Unwrapped: 9, then one piece (the root element alone ..) or none, 10."
 ghost use Rattle.std.specs.Prelude.{◌≡◌};
 ghost use Rattle.readings.specs.Structure.{root_piece, unwrapped_plan};
-ghost use Rattle.output.specs.Held.{Does};
+ghost use Rattle.codec.specs.Structure.{structure_said};
+ghost use Rattle.output.specs.Held.{Does, Enters};
 ghost use Rattle.opening.specs.Opening.{body_of, opened_of};
 ghost use Rattle.structure.specs.Unwrapped.{EndIs};
 
@@ -15,12 +16,11 @@ use refusal::Refusal;
 fn root_end(root: &Element) -> usize
     ensures { EndIs root.now result }
 {
-    let table = root.view.table;
     let mut deep = 0;
     for k in root.start.row..root.view.count {
-        deep = table.kind(k).open_after(deep);
+        deep = root.view.kind(k).open_after(deep);
         if deep == 0 {
-            return table.position(k);
+            return root.view.table.position(k);
         }
     }
     root.view.ends
@@ -39,12 +39,13 @@ fn root_piece(root: &Element) -> Piece
 }
 
 // An unwrapped structure: 9, then the root as one piece, or nothing where its local name resolves to no member.
-pub(crate) fn read_unwrapped(
+pub fn read_unwrapped(
     root: &Element,
     sheet: &StructureSheet,
     out: &mut Output,
 ) -> Result<(), Refusal>
-    ensures { Does (unwrapped_plan (body_of root.now) sheet.now (opened_of root.now)) out.old out.new result }
+    ensures does { Does (unwrapped_plan (body_of root.now) (structure_said sheet.now) (opened_of root.now)) out.old out.new result }
+    ensures enters { Enters (unwrapped_plan (body_of root.now) (structure_said sheet.now) (opened_of root.now)) out.old out.new result }
 {
     if root.view.ill_formed {
         return Err(Refusal::IllFormed);

@@ -5,7 +5,7 @@ use mathlib.Core.Bool.{Bool, true, false, cond, not, ◌&&◌}
 use mathlib.Core.List.{List, [], ◌∷◌}
 use native.Mathlib.Omega.{arith}
 use borrow.Author.Rules.{rules}
-use borrow.Author.Tests.{ltb-false, le-ltb, lt-ltb}
+use borrow.Author.Tests.{ltb-false}
 use lib.Dec.{eqb, ltb}
 use lib.Pointwise.{pointwise}
 use lib.ListN.{length, take, drop, length-drop}
@@ -19,6 +19,7 @@ use Rattle.lists.specs.Tests.{pick}
 use Rattle.lists.specs.Bytes.{sameb}
 use Rattle.table.specs.Row.{Name}
 use Rattle.table.specs.Names.{before_colon, name_matches}
+use Rattle.table.proofs.Names.{split, prefixed, matches_split, split_alone, split_prefixed, split_matches}
 
 abbrev is_colon : ℕ → Bool
 is_colon b = eqb b 58
@@ -66,21 +67,22 @@ same_is (x ∷ xs) (y ∷ ys) = go (eqb x y) (same_is xs ys)
     go true h = h
     go false h = refl
 
+-- by its parts, as they stand in it
+by_parts : (n : Name) (p : List ℕ) {u : Bool} → u ≡ matches_split n (split p) → u ≡ name_matches n p
+by_parts n p q = q ∙ split_matches n.prefix n.local p
+
 module _ (n : Name) (p : List ℕ) {c : ℕ} (s : c ≡ before_colon p) {a b : List ℕ} {r : Bool} (e : r ≡ pointwise nat_eq a b) where
   pub matches_none : length p ≤ c → a ≡ p → b ≡ n.local → r ≡ name_matches n p
-  unfolding name_matches
-  matches_none l f g = rw (← s, le-ltb c (length p) l, ← f, ← g) (e ∙ same_is a b)
+  matches_none l f g = by_parts n p (rw (split_alone p (omega (arith, s, l)), ← f, ← g) (e ∙ same_is a b))
 
   module _ (l : c < length p) (f : a ≡ n.local) (g : b ≡ take (length p - (c + 1)) (drop (c + 1) p)) where
-    g_is : b ≡ drop (c + 1) p
-    g_is = g ∙ take_rest (c + 1) p
+    parts : split p ≡ prefixed (take c p) b
+    parts = rw (g ∙ take_rest (c + 1) p, s) (split_prefixed p (omega (arith, s, l)))
 
     pub matches_not : r ≡ false → r ≡ name_matches n p
-    unfolding name_matches
-    matches_not q = rw (← s, lt-ltb c (length p) l, ← f, ← g_is, ← same_is a b, ← e, q)
+    matches_not q = by_parts n p (rw (parts, ← f, ← same_is a b, ← e, q))
 
     pub matches_both : r ≡ true → {x y : List ℕ} {u : Bool} → u ≡ pointwise nat_eq x y → x ≡ n.prefix → y ≡ take c p → u ≡ name_matches n p
-    unfolding name_matches
-    matches_both q {x} {y} d i j = rw (← s, lt-ltb c (length p) l, ← f, ← g_is, ← same_is a b, ← e, q, ← i, ← j) (d ∙ same_is x y)
+    matches_both q {x} {y} d i j = by_parts n p (rw (parts, ← f, ← same_is a b, ← e, q, ← i, ← j) (d ∙ same_is x y))
 
 pub ruleset match_laws = (rules, matches_none, matches_not, matches_both)

@@ -3,16 +3,20 @@ use Prim.Native.Nat.{ℕ, zero, suc, ◌+◌, ◌*◌, ◌/◌, ◌≤◌, ◌<�
 use mathlib.Core.Path.{◌≡◌, sym, ◌∙◌}
 use mathlib.Core.Bool.{Bool, true}
 use mathlib.Core.List.{List}
+use mathlib.Core.HLevel.{⊥_prop}
+use mathlib.Core.Logic.{∥∥₁_elim}
 use native.Mathlib.Omega.{arith}
 use lib.ListN.{length, get_or}
+use base.Stored.{Coded-set}
+use Rattle.std.specs.Coded.{coded_ℕ, le_prop}
 use Rattle.lists.specs.Decide.{is_yes}
 use Rattle.lists.proofs.Decide.{yes_of}
 use Rattle.table.specs.Row.{rows_of}
 use Rattle.table.specs.Rules.{Place, EachRow, row, at_first, TableRules}
 use Rattle.table.specs.Kinds.{IsKind}
-use Rattle.table.specs.Test.{dec_table}
+use Rattle.table.specs.Test.{dec_each, dec_table}
 use Rattle.table.specs.Flat.{rows_from, SpansIn}
-use Rattle.table.specs.Rows.{InTable, Readable, RulesAt, Obeys}
+use Rattle.table.specs.Rows.{InTable, Readable, RulesAt, Walkable, Obeys}
 use Rattle.table.proofs.Flat.{rows_same, rows_whole, length_rows, here_or_later, spans_in}
 
 -- ---- of m rows from row s on
@@ -42,14 +46,14 @@ module _ {body t : List ℕ} {final : ℕ} (o : Obeys body t final) where
   pub table_rules : TableRules body t final
   table_rules = yes_of (dec_table body t final) (sym o.is)
 
-  pub all_rows : rows_of t ≡ rows_from t 0 (length t / 8)
-  all_rows = rows_same (length t / 8) t (rows_whole t table_rules.whole)
-
-  pub each_row : EachRow body at_first (rows_from t 0 (length t / 8))
-  each_row = rw all_rows at table_rules.rules.each
-
-  pub few_rows : length t / 8 ≤ 8192
-  few_rows = omega (arith, rw (all_rows, length_rows t 0 (length t / 8)) at table_rules.rules.few_rows)
+  -- its rows can be walked
+  pub walks : Walkable body t
+  walks =
+      record {
+        whole = table_rules.whole;
+        each = table_rules.rules.each;
+        readable = record { each = λ k h. spans_in table_rules k (omega arith) };
+      }
 
   pub few_bytes : length body ≤ 65536
   few_bytes = table_rules.rules.few_bytes
@@ -57,9 +61,44 @@ module _ {body t : List ℕ} {final : ℕ} (o : Obeys body t final) where
   pub end_within : final ≤ length body
   end_within = table_rules.rules.within
 
-  -- the spans of each row lie in the body
-  pub readable : Readable body t
-  readable = record { each = λ k h. spans_in table_rules k (omega arith) }
+-- as the types of rows keep it
+pub obeys_walks : {body t : List ℕ} {final : ℕ} → Obeys body t final → ∥ Walkable body t ∥₁
+obeys_walks o = ∣ walks o ∣₁
+
+-- ---- rows that can be walked: of what the type keeps all is known, since the rules of rows can be decided
+pub walks_readable : {body t : List ℕ} → ∥ Walkable body t ∥₁ → Readable body t
+walks_readable h =
+    record {
+      each = λ k i. record {
+        prefix = ∥∥₁_elim h le_prop (λ w. (w.readable.each k i).prefix);
+        local = ∥∥₁_elim h le_prop (λ w. (w.readable.each k i).local);
+        value = ∥∥₁_elim h le_prop (λ w. (w.readable.each k i).value);
+        position = ∥∥₁_elim h le_prop (λ w. (w.readable.each k i).position);
+      };
+    }
+
+pub walkable_of : {body t : List ℕ} → ∥ Walkable body t ∥₁ → Walkable body t
+walkable_of {body} {t} h =
+    record {
+      whole = ∥∥₁_elim h (Coded-set coded_ℕ _ _) (λ w. w.whole);
+      each = go (dec_each body at_first (rows_of t));
+      readable = walks_readable h;
+    }
+  where
+    go : Dec (EachRow body at_first (rows_of t)) → EachRow body at_first (rows_of t)
+    go (yes e) = e
+    go (no n) = absurd (∥∥₁_elim h ⊥_prop (λ w. n w.each))
+
+-- the spans of each row lie in the body
+pub spans_within : {body t : List ℕ} {k : ℕ} → Readable body t → InTable t k → SpansIn body t k
+spans_within {k = k} r i = r.each k i.row
+
+module _ {body t : List ℕ} (w : Walkable body t) where
+  pub all_rows : rows_of t ≡ rows_from t 0 (length t / 8)
+  all_rows = rows_same (length t / 8) t (rows_whole t w.whole)
+
+  pub each_row : EachRow body at_first (rows_from t 0 (length t / 8))
+  each_row = rw all_rows at w.each
 
   module _ {k : ℕ} (i : InTable t k) where
     pub rules_at : RulesAt body t k
@@ -69,9 +108,11 @@ module _ {body t : List ℕ} {final : ℕ} (o : Obeys body t final) where
     pub kind_known : IsKind (get_or t (k * 8 + 0) 0)
     kind_known = rules_at.rules.known_kind
 
-    pub spans_within : SpansIn body t k
-    spans_within = readable.each k i.row
-
     -- a token error is the last row
     pub error_last : get_or t (k * 8 + 0) 0 ≡ 8 → length t / 8 ≡ k + 1
     error_last q = omega (arith, error_from body t (length t / 8) 0 k each_row (omega arith) (omega (arith, i.row)) q)
+
+-- there are few of them in a table that obeys the rules
+pub few_rows : {body t : List ℕ} {final : ℕ} → Obeys body t final → length t / 8 ≤ 8192
+few_rows {body} {t} o =
+    omega (arith, rw (all_rows (walks o), length_rows t 0 (length t / 8)) at (table_rules o).rules.few_rows)

@@ -1,8 +1,8 @@
 -- The rows of a flat table by number: what row k stands for, and rows that can be read.
-use Rattle.std.specs.Prelude.{ℕ, ◌+◌, ◌*◌, ◌≤◌, ◌≡◌, true, List, length}
+use Rattle.std.specs.Prelude.{ℕ, ◌+◌, ◌*◌, ◌%◌, ◌≤◌, ◌≡◌, true, List, length}
 use Rattle.lists.specs.Decide.{is_yes}
-use Rattle.table.specs.Row.{Row, Name, Tok, name_of, value_of, tok_of}
-use Rattle.table.specs.Rules.{Place, RowRules}
+use Rattle.table.specs.Row.{Row, Name, Tok, name_of, value_of, tok_of, rows_of}
+use Rattle.table.specs.Rules.{Place, RowRules, EachRow, at_first}
 use Rattle.table.specs.Flat.{row_at, SpansIn}
 use Rattle.table.specs.Test.{dec_table}
 
@@ -29,6 +29,12 @@ pub record RulesAt (body t : List ℕ) (k : ℕ) : Type 0 where
   pub place : Place
   pub rest : List Row
   pub rules : RowRules body place (row_at t k) rest
+
+-- whole rows, each of which obeys its rules where it stands
+pub record Walkable (body t : List ℕ) : Type 0 where
+  pub whole : length t % 8 ≡ 0
+  pub each : EachRow body at_first (rows_of t)
+  pub readable : Readable body t
 
 -- a table obeys the rules, as the test of them computes: an equation of flags, so that there is one proof of it at most
 pub record Obeys (body t : List ℕ) (final : ℕ) : Type 0 where

@@ -95,9 +95,9 @@ impl Kind {
         matches!(self, Kind::Misc | Kind::Error)
     }
 
-    // How many elements are open after a row of it, where n are before it.
+    // How many elements are open after a row of it, where n are before it: one that starts an element needs room for one more.
     pub fn open_after(self, n: usize) -> usize
-        requires { n + 1 < 2 ^ 64 }
+        requires { kind_number self ≡ 1 → n + 1 < 2 ^ 64 }
         ensures { result ≡ open_count n (kind_number self) }
     {
         match self {

@@ -13,4 +13,5 @@ mod rules;
 pub use crate::kinds::Kind;
 pub use crate::numbers::{Row, Span};
 pub use crate::patterns::Pattern;
-pub use crate::rows::{Table, ValidTable};
+pub use crate::rows::{ReadableRows, RuledRows, Table, ValidTable};
+pub use crate::rules::last_lt;

@@ -1,12 +1,28 @@
 // Rows of any flat table, by their eight numbers.
-ghost use Rattle.std.specs.Prelude.{◌+◌, ◌*◌, ◌≡◌, ◌≤◌, length};
+ghost use Rattle.std.specs.Prelude.{◌+◌, ◌*◌, ◌≡◌, ◌≤◌, ◌<◌, ◌^◌, length};
 ghost use Rattle.table.specs.Flat.{row_at};
+ghost use Rattle.table.specs.Row.{cut};
+ghost use Rattle.table.specs.Rules.{open_count, uses_name};
+
+use crate::kinds::Kind;
 
 // Where a part of the body stands that a row names.
 #[derive(Clone, Copy)]
 pub struct Span {
     pub start: u32,
     pub len: u32,
+}
+
+impl Span {
+    // The part of a body that stands there.
+    #[inline(always)]
+    pub fn of<'a>(self, body: &'a [u8]) -> &'a [u8]
+        requires { self.start + self.len ≤ length body.now }
+        ensures { result.now ≡ cut body.now self.start self.len }
+    {
+        let from = self.start as usize;
+        &body[from..from + self.len as usize]
+    }
 }
 
 // The numbers of a row, whatever they are.
@@ -43,6 +59,24 @@ impl Row {
                 len: rows[from + 6],
             },
             position: rows[from + 7],
+        }
+    }
+
+    // Whether its kind has a name; a number that is no kind has none.
+    pub fn uses_name(self) -> bool
+        ensures { result ≡ uses_name self.kind }
+    {
+        Kind::of(self.kind).is_some_and(|kind| kind.uses_name())
+    }
+
+    // How many elements are open after it, where n are before it: a number that is no kind leaves them as they are.
+    pub fn open_after(self, n: usize) -> usize
+        requires { self.kind ≡ 1 → n + 1 < 2 ^ 64 }
+        ensures { result ≡ open_count n self.kind }
+    {
+        match Kind::of(self.kind) {
+            Some(kind) => kind.open_after(n),
+            None => n,
         }
     }
 }

@@ -28,6 +28,7 @@ impl<'a> Pattern<'a> {
     }
 
     // `Name::matches`: whether it asks for a name, given by its prefix and its local name.
+    #[inline(always)]
     #[tactic(auto, using(crate::proofs::NameLaws::match_laws))]
     pub fn asks_for(self, prefix: &[u8], local: &[u8]) -> bool
         ensures { result ≡ name_matches (named prefix.now local.now) self.entry.whole.now }

@@ -54,7 +54,7 @@ fn has_spans(row: Row, kind: Kind, previous: u32) -> bool
 // The last `<` before a place and not before `low`.
 #[tactic(auto, using(crate::proofs::Scan::back_laws))]
 pub fn last_lt(body: &[u8], low: usize, at: usize) -> Option<usize>
-    requires { (low ≤ at) × (at ≤ length body.now) }
+    requires { at ≤ length body.now }
     ensures { MatchOption result (NoLt body.now low at) (LastIn body.now low at) }
 {
     for i in (low..at).rev() {

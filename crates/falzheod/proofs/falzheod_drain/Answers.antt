@@ -13,12 +13,14 @@ returns-in_default c =
 
 pub returns-in-Ok : goal.returns-in-Ok
 returns-in-Ok c =
-    let q = drained_as c.in-Some.table c.in-Some.ensures c.walk.ensures in
+    let q = drained_as c.in-Some.valid c.in-Some.ensures
+    (rw (c.ruled-table.ensures.body, c.ruled-table.ensures.rows) at c.walk.ensures) in
     record { drained = call_passes _ q c.in-Ok.is; place = place_passes c.args.body.now c.args.rows.now c.args.end q c.in-Ok.is }
 
 pub returns-in-Err-Table : goal.returns-in-Err-Table
 returns-in-Err-Table c =
-    let q = drained_as c.in-Some.table c.in-Some.ensures c.walk.ensures in
+    let q = drained_as c.in-Some.valid c.in-Some.ensures
+    (rw (c.ruled-table.ensures.body, c.ruled-table.ensures.rows) at c.walk.ensures) in
     record {
       drained = call_table _ q (rw c.in-Err-Table.field-0-is at c.in-Err-Table.is) c.number-in-Err-Table.ensures;
       place = place_table c.args.body.now c.args.rows.now c.args.end q (rw c.in-Err-Table.field-0-is at c.in-Err-Table.is);
@@ -26,9 +28,11 @@ returns-in-Err-Table c =
 
 pub returns-in-Err-IllFormed : goal.returns-in-Err-IllFormed
 returns-in-Err-IllFormed c =
-    let q = drained_as c.in-Some.table c.in-Some.ensures c.walk.ensures in
+    let q = drained_as c.in-Some.valid c.in-Some.ensures
+    (rw (c.ruled-table.ensures.body, c.ruled-table.ensures.rows) at c.walk.ensures) in
     let e = rw c.in-Err-IllFormed.field-0-is at c.in-Err-IllFormed.is in
-    let p = rw (c.in-Some.ensures.0, c.in-Some.ensures.1) at c.cause_place.ensures in
+    let b = c.ruled-table.ensures in
+    let p = rw (b.body, b.rows, c.in-Some.ensures.0, c.in-Some.ensures.1) at c.cause_place.ensures in
     record {
       drained = call_ill_formed _ q e c.cause_number.ensures c.number-in-Err-IllFormed.ensures;
       place = place_ill c.args.body.now c.args.rows.now c.args.end q e p;

@@ -3,26 +3,31 @@ use Rattle.decode.proofs.drain.row_fault.Goals as goal
 
 pub returns-then-is_repeated : goal.returns-then-is_repeated
 returns-then-is_repeated c =
-    fault_repeated c.args.table.body.now c.args.table.rows.now c.args.top c.args.k c.in-Attribute.ensures c.is_repeated.ensures
+    fault_repeated c.args.table.body.now c.args.table.rows.now c.args.top c.args.k c.in-Attribute.ensures
+    (rw (c.readable-rows.ensures.body, c.readable-rows.ensures.rows) at c.is_repeated.ensures)
     c.if-is_repeated.true
 
 pub returns-else-is_repeated : goal.returns-else-is_repeated
 returns-else-is_repeated c =
-    fault_value c.args.table.body.now c.args.table.rows.now c.args.top c.args.k c.in-Attribute.ensures c.is_repeated.ensures
+    fault_value c.args.table.body.now c.args.table.rows.now c.args.top c.args.k c.in-Attribute.ensures
+    (rw (c.readable-rows.ensures.body, c.readable-rows.ensures.rows) at c.is_repeated.ensures)
     c.if-is_repeated.false
-    c.check_references.ensures
+    (rw (c.readable-rows.ensures.body, c.readable-rows.ensures.rows) at c.check_references.ensures)
 
 pub returns-in-Text : goal.returns-in-Text
 returns-in-Text c =
-    fault_text c.args.table.body.now c.args.table.rows.now c.args.top c.args.k c.in-Text.ensures c.check_references-in-Text.ensures
+    fault_text c.args.table.body.now c.args.table.rows.now c.args.top c.args.k c.in-Text.ensures
+    (rw (c.readable-rows.ensures.body, c.readable-rows.ensures.rows) at c.check_references-in-Text.ensures)
 
 pub returns-then-same_name : goal.returns-then-same_name
 returns-then-same_name c =
-    fault_matched c.args.table.body.now c.args.table.rows.now c.args.top c.args.k c.in-Close.ensures c.same_name.ensures c.if-same_name.true
+    fault_matched c.args.table.body.now c.args.table.rows.now c.args.top c.args.k c.in-Close.ensures
+    (rw (c.readable-rows.ensures.body, c.readable-rows.ensures.rows) at c.same_name.ensures) c.if-same_name.true
 
 pub returns-else-same_name : goal.returns-else-same_name
 returns-else-same_name c =
-    fault_mismatched c.args.table.body.now c.args.table.rows.now c.args.top c.args.k c.in-Close.ensures c.same_name.ensures
+    fault_mismatched c.args.table.body.now c.args.table.rows.now c.args.top c.args.k c.in-Close.ensures
+    (rw (c.readable-rows.ensures.body, c.readable-rows.ensures.rows) at c.same_name.ensures)
     c.if-same_name.false
 
 pub returns-in-Error : goal.returns-in-Error

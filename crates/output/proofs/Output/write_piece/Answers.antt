@@ -1,17 +1,9 @@
--- An entry without text needs room for itself alone.
-use Rattle.std.proofs.Common.{[], refl}
-use Rattle.readings.specs.Output.{piece_entry}
-use Rattle.output.specs.Plans.{put_piece}
-use Rattle.output.proofs.Writing.{no_room, written, filled_none}
+-- The entry's numbers are those of the definition.
+use Rattle.output.proofs.Writing.{piece_put, enters_as}
+use Rattle.output.proofs.Then.{does_as}
 use Rattle.output.proofs.Output.write_piece.Goals as goal
 
-pub returns-in_err-place : goal.returns-in_err-place
-unfolding put_piece
-returns-in_err-place c =
-    no_room (piece_entry c.args.member c.args.piece) [] c.in_err-place.ensures refl c.from_residual.ensures.1
-
 pub returns : goal.returns
-unfolding put_piece
 returns c =
-    written (piece_entry c.args.member c.args.piece) [] c.in_ok-place.ensures refl (filled_none c.args.self.now) c.push.ensures
-    c.keyless.ensures
+    let q = piece_put c.args.member c.args.piece c.keyless-entry.result c.keyless-entry.ensures in
+    record { does = does_as q c.write_entry.ensures.does; enters = enters_as q c.write_entry.ensures.enters }

@@ -12,4 +12,4 @@ returns-in-Ok c =
 pub returns-in-Err : goal.returns-in-Err
 returns-in-Err c =
     let m = given_measured c.args.text c.and_then.result c.and_then.ensures in
-    scalar_failed c.args.member c.args.text c.in-Err.why (sym (ap measured_as c.in-Err.is) ∙ m) c.write_failed.ensures
+    scalar_failed c.args.member c.args.text c.in-Err.why (sym (ap measured_as c.in-Err.is) ∙ m) c.write_failed.ensures.does

@@ -1,8 +1,8 @@
 -- By kind: a text, a start, the element's end, or on at the depth after it.
-use Rattle.std.proofs.Common.{ap, arith}
+use Rattle.std.proofs.Common.{ap}
 use Rattle.table.specs.Kinds.{kind_number}
 use Rattle.table.specs.declared.kinds.Kind.{Kind}
-use Rattle.decode.proofs.Known.{sees_of, kind_same}
+use Rattle.decode.proofs.Known.{kind_same}
 use Rattle.scalar.proofs.Joining.{next_closed, next_start, next_none, next_element, next_found, next_on, next_ended}
 use Rattle.scalar.proofs.whole.next_text.Goals as goal
 
@@ -19,7 +19,7 @@ pub returns-in-Start : goal.returns-in-Start
 returns-in-Start c = next_element c.loop-k.invariant c.loop-k-test.true c.kind-kind.ensures (ap kind_number c.in-Start.is)
 
 pub open_after-d-requires : goal.open_after-d-requires
-open_after-d-requires c = omega (arith, c.loop-k.invariant.low, c.loop-k-test.true, (sees_of c.args.element.now.view).few)
+open_after-d-requires c = λ z. absurd (c.in_default.not-Start (kind_same c.kind-kind.result Kind.Start z))
 
 pub returns-then-ends_at : goal.returns-then-ends_at
 returns-then-ends_at c =

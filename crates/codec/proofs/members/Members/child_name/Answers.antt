@@ -4,6 +4,6 @@ use Rattle.codec.proofs.members.Members.child_name.Goals as goal
 
 pub returns : goal.returns
 returns c =
-    rw (← c.self.view_is)
-    (member_kept c.self.inside.bytes.now c.self.inside.places c.self.inside.count c.args.i (rw (← c.self.view_is) at c.requires)
-    (omega (arith, c.self.invariant.few, c.self.invariant.wide)) c.from.result c.from.ensures ∙ c.front_name.ensures)
+    let a = c.args.self.now in
+    member_kept a.bytes.now a.places a.count c.args.i c.requires (omega (arith, a.are.few, a.are.wide)) c.from.result c.from.ensures
+    ∙ c.front_name.ensures

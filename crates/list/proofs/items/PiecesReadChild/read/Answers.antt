@@ -12,9 +12,9 @@ returns-in_err-write_piece c =
     let p = err_from_is_err_and c.from_residual.result c.from_residual.ensures.1 in
     rw (p.1, p.2)
     (item_full c.args.self.now.name c.drain-past.ensures (sym c.is_wanted.ensures ∙ c.if-not-is_wanted.false) c.piece.ensures
-    c.in_err-write_piece.ensures)
+    c.in_err-write_piece.ensures.does)
 
 pub returns : goal.returns
 returns c =
     item_done c.args.self.now.name c.drain-past.ensures (sym c.is_wanted.ensures ∙ c.if-not-is_wanted.false) c.piece.ensures
-    c.in_ok-write_piece.ensures
+    c.in_ok-write_piece.ensures.does
