@@ -1,51 +1,46 @@
--- Laws of the row that ends an element: a close tag of its depth and its name.
+-- Laws of the row that ends a scope: a close tag of its depth and its name.
 use Prim.Native.Nat.{ℕ, ◌+◌, ◌*◌}
-use mathlib.Core.Path.{◌≡◌, ◌∙◌}
+use mathlib.Core.Path.{◌≡◌, refl, ◌∙◌}
 use native.Mathlib.Omega.{arith}
+use borrow.Author.Tests.{eq-eqb, ne_eqb}
 use mathlib.Core.Bool.{Bool, false}
 use mathlib.Core.List.{List}
-use borrow.Author.Tests.{eq-eqb, ne_eqb}
 use lib.ListN.{get_or}
 use Rattle.lists.specs.Decide.{Says}
-use Rattle.table.specs.Row.{tok_as}
+use Rattle.table.specs.Row.{Name, tok_as}
 use Rattle.table.specs.Rows.{name_at, value_at, tok_at}
 use Rattle.table.specs.Kinds.{IsKind, kind_number}
 use Rattle.table.specs.declared.kinds.Kind.{Kind}
 use Rattle.table.proofs.Classes.{kind_of_lem}
-use Rattle.document.specs.Reader.{depth, ends_at}
-use Rattle.document.specs.Scope.{scope_of}
-use Rattle.decode.specs.declared.place.Start.{Start}
-use Rattle.decode.specs.declared.view.View.{View}
-use Rattle.decode.specs.Element.{start_at}
+use Rattle.document.specs.declared.Depth.{Depth}
+use Rattle.document.specs.Reader.{depth, element, is_end, ends_at}
+use Rattle.decode.specs.declared.place.Scope.{Scope}
+use Rattle.decode.specs.Reader.{scope_at}
 use Rattle.decode.proofs.Known.{kind_same, no_end}
 use Rattle.decode.proofs.Faults.{same_is}
 
-module _ (v : View) (s : Start) (d k : ℕ) where
-  abbrev body : List ℕ
-  body = v.table.body.now
+-- ---- a close tag
+pub end_name : (own : Depth) (d : ℕ) {m n : Name} → d ≡ own.0 → {r : Bool} → Says (m ≡ n) r → r ≡ is_end (element own n) (depth d) m
+end_name own d q x = rw (eq-eqb d own.0 q) (same_is x)
 
-  abbrev t : List ℕ
-  t = v.table.rows.now
+pub end_depth : (own : Depth) (d : ℕ) (m n : Name) → (d ≡ own.0 → ⊥) → false ≡ is_end (element own n) (depth d) m
+end_depth own d m n q = rw (ne_eqb d own.0 q) refl
 
-  pub end_name : 4 ≡ get_or t (k * 8 + 0) 0 → d ≡ s.depth.0 → {r : Bool} → Says (name_at body t k ≡ name_at body t s.row) r
-      → r ≡ ends_at (scope_of (start_at body t s)) (depth d) (tok_at body t k)
+-- ---- a row by its kind
+module _ (body t : List ℕ) (s : Scope) (d k : ℕ) where
+  pub end_close : 4 ≡ get_or t (k * 8 + 0) 0 → {r : Bool} → r ≡ is_end (scope_at body t s) (depth d) (name_at body t k)
+      → r ≡ ends_at (scope_at body t s) (depth d) (tok_at body t k)
   unfolding tok_as
-  end_name h q x = rw (← h, eq-eqb d s.depth.0 q) (same_is x)
+  end_close h x = rw (← h) x
 
-  pub end_depth : 4 ≡ get_or t (k * 8 + 0) 0 → (d ≡ s.depth.0 → ⊥)
-      → false ≡ ends_at (scope_of (start_at body t s)) (depth d) (tok_at body t k)
-  unfolding tok_as
-  end_depth h q = rw (← h, ne_eqb d s.depth.0 q)
-
-  -- a row of another kind, or of none
-  not_close : (get_or t (k * 8 + 0) 0 ≡ 4 → ⊥) → false ≡ ends_at (scope_of (start_at body t s)) (depth d) (tok_at body t k)
+  -- one of another kind, or of none
+  not_close : (get_or t (k * 8 + 0) 0 ≡ 4 → ⊥) → false ≡ ends_at (scope_at body t s) (depth d) (tok_at body t k)
   not_close f =
-      no_end (kind_of_lem (get_or t (k * 8 + 0) 0) (name_at body t k) (value_at body t k)) f (scope_of (start_at body t s)) (depth d)
+      no_end (kind_of_lem (get_or t (k * 8 + 0) 0) (name_at body t k) (value_at body t k)) f (scope_at body t s) (depth d)
 
-  pub end_none : (IsKind (get_or t (k * 8 + 0) 0) → ⊥)
-      → false ≡ ends_at (scope_of (start_at body t s)) (depth d) (tok_at body t k)
+  pub end_none : (IsKind (get_or t (k * 8 + 0) 0) → ⊥) → false ≡ ends_at (scope_at body t s) (depth d) (tok_at body t k)
   end_none f = not_close (λ z. f (rw z (omega arith, omega arith)))
 
   pub end_other : {kind : Kind} → kind_number kind ≡ get_or t (k * 8 + 0) 0 → (kind ≡ Kind.Close → ⊥)
-      → false ≡ ends_at (scope_of (start_at body t s)) (depth d) (tok_at body t k)
+      → false ≡ ends_at (scope_at body t s) (depth d) (tok_at body t k)
   end_other {kind} f a = not_close (λ z. a (kind_same kind Kind.Close (f ∙ z)))

@@ -1,4 +1,4 @@
--- What is known of the rows that a view sees, by the rules of its table; the tokens that are left from a row on, and one row on.
+-- What is known of the rows that a reader sees, by the rules of their table; the tokens that are left from a row on, and one row on.
 use Prim.Native.Nat.{ℕ, zero, suc, ◌+◌, ◌-◌, ◌*◌, ◌/◌, ◌≤◌, ◌<◌}
 use mathlib.Core.Path.{◌≡◌, refl, sym, ◌∙◌, ap}
 use mathlib.Core.Bool.{Bool, true, false}
@@ -7,16 +7,17 @@ use mathlib.Core.HLevel.{⊥_prop}
 use mathlib.Core.Logic.{∥∥₁_elim}
 use native.Mathlib.Numerals.{add-one}
 use native.Mathlib.Omega.{arith}
-use borrow.Author.Tests.{leb-true, leb-false}
 use lib.Dec.{eqb, leb}
+use borrow.Author.Tests.{leb-true, leb-false}
 use lib.ListN.{length, get_or, take}
 use Rattle.std.specs.Coded.{le_prop}
 use Rattle.lists.specs.Tests.{pick}
 use Rattle.lists.proofs.Tests.{false_true, less_is}
 use Rattle.table.specs.Row.{Row, Name, Tok, bad, tok_as, toks_of}
-use Rattle.table.specs.Rules.{closes_element, in_tag_only, open_count, at_first}
+use Rattle.table.specs.Rules.{closes_element, in_tag_only, open_count}
+use Rattle.table.specs.Rules.{at_first as first_place}
 use Rattle.table.specs.Flat.{row_at, rows_from}
-use Rattle.table.specs.Rows.{InTable, Readable, RulesAt, Walkable, name_at, value_at, tok_at}
+use Rattle.table.specs.Rows.{InTable, Walkable, name_at, value_at, tok_at}
 use Rattle.table.specs.Kinds.{IsKind, kind_number}
 use Rattle.table.specs.declared.kinds.Kind.{Kind as Kinds}
 use Rattle.table.proofs.Valid.{each_row, rules_at, error_last}
@@ -27,10 +28,8 @@ use Rattle.document.specs.Reader.{depth, depth_after, Scope, ends_at}
 use Rattle.document.specs.Tags.{may_stand, in_tag_after, Tags, no_token, token}
 use Rattle.document.proofs.Laws.Tags.{rows_tags}
 use Rattle.decode.specs.declared.place.Cursor.{Cursor}
-use Rattle.decode.specs.declared.view.View.{View}
-use Rattle.decode.specs.Ruled.{Ruled}
-use Rattle.decode.specs.Place.{Outside}
-use Rattle.decode.specs.Element.{toks_from}
+use Rattle.decode.specs.Seen.{Sees}
+use Rattle.decode.specs.Place.{toks_from, At, Tagged, Outside, at_first}
 
 -- ---- rows by number
 pub take_rows : (t : List ℕ) (s k m : ℕ) → k ≤ m → take k (rows_from t s m) ≡ rows_from t s k
@@ -58,22 +57,9 @@ tags_next body t n k {b} g h = go (rw (toks_next body t n k h) at g)
     go : {u : Tok} {l : List Tok} → Tags b (u ∷ l) → (may_stand u b ≡ true) × Tags (in_tag_after u b) l
     go (token m r) = (m, r)
 
--- ---- n rows can be seen: each obeys its rules, a token error is the last, and from each on start tags are in order
-pub record Tagged (body t : List ℕ) (n k : ℕ) : Type 0 where
-  pub in_tag : Bool
-  pub tags : Tags in_tag (toks_from body t n k)
-
-pub record Sees (body t : List ℕ) (n : ℕ) : Type 0 where
-  pub rows : n * 8 ≤ length t
-  pub readable : Readable body t
-  pub each : (k : ℕ) → k < n → ∥ RulesAt body t k ∥₁
-  pub last : (k : ℕ) → k < n → get_or t (k * 8 + 0) 0 ≡ 8 → n ≤ k + 1
-  pub tagged : (k : ℕ) → k ≤ n → Tagged body t n k
-  pub small : length body ≤ 65536
-  pub few : n ≤ 8192
-
-pub row_seen : {body t : List ℕ} {n k : ℕ} → Sees body t n → k < n → InTable t k
-row_seen q h = record { row = omega (arith, q.rows) }
+-- ---- n rows can be seen
+pub row_seen : {t : List ℕ} {n k : ℕ} → n * 8 ≤ length t → k < n → InTable t k
+row_seen h l = record { row = omega arith }
 
 -- whether start tags are in order can be decided
 dec_tags : (b : Bool) (l : List Tok) → Dec (Tags b l)
@@ -98,13 +84,6 @@ tags_of {b} {l} h = go (dec_tags b l)
     go (yes g) = g
     go (no n) = absurd (∥∥₁_elim h ⊥_prop n)
 
--- if they are from one row on, they are from each later one on
-tagged_from : (body t : List ℕ) (n m s : ℕ) {b : Bool} → Tags b (toks_from body t n s) → s + m ≤ n → Tagged body t n (s + m)
-tagged_from body t n zero s {b} g h = let z : s + 0 ≡ s = omega arith in rw z (record { in_tag = b; tags = g })
-tagged_from body t n (suc m) s {b} g h =
-    let z : s + suc m ≡ suc s + m = omega arith in
-    rw z (tagged_from body t n m (suc s) (rw (add-one s) at (tags_next body t n s g (omega arith)).1) (omega arith))
-
 -- the tokens of the first rows have their tags in order if those of all have
 tags_front : (body t : List ℕ) (n s m : ℕ) {b : Bool} → n ≤ m → Tags b (toks_of body (rows_from t s m))
     → Tags b (toks_of body (rows_from t s n))
@@ -113,37 +92,26 @@ tags_front body t (suc n) s zero h g = absurd (omega arith)
 tags_front body t (suc n) s (suc m) h (token e g) = token e (tags_front body t n (suc s) m (omega arith) g)
 
 -- of rows that can be walked, the first n
-pub ruled : {body t : List ℕ} → Walkable body t → (n : ℕ) → n * 8 ≤ length t → Ruled body t n
-ruled {body} {t} w n h =
-    record {
-      each = λ k l. ∣ rules_at w (record { row = omega arith }) ∣₁;
-      last = λ k l q. let z = error_last w (record { row = omega arith }) q in omega (arith, z, h);
-      tags = ∣ tags_front body t n 0 (length t / 8) (omega arith) (rows_tags {p = at_first} (each_row w)) ∣₁;
-    }
-
--- those that a view sees
-module _ (v : View) where
-  in_order : Tags false (toks_from v.table.body.now v.table.rows.now v.count 0)
-  in_order = let z : v.count - 0 ≡ v.count = omega arith in rw z (tags_of v.ruled.tags)
-
-  pub sees_of : Sees v.table.body.now v.table.rows.now v.count
-  sees_of =
+module _ {body t : List ℕ} (w : Walkable body t) (n : ℕ) (h : n * 8 ≤ length t) where
+  pub sees : Sees body t n
+  sees =
       record {
-        rows = v.seen;
-        readable = v.table.readable;
-        each = v.ruled.each;
-        last = v.ruled.last;
-        tagged =
-            λ k l. let z : 0 + k ≡ k = omega arith in
-            rw z at (tagged_from v.table.body.now v.table.rows.now v.count k 0 in_order (omega arith));
-        small = v.small;
-        few = v.few;
+        each = λ k l. ∣ rules_at w (record { row = omega arith }) ∣₁;
+        last = λ k l q. let z = error_last w (record { row = omega arith }) q in omega (arith, z, h);
       }
 
-  -- a row has a kind
-  pub kind_seen : {k : ℕ} → k < v.count → IsKind (get_or v.table.rows.now (k * 8 + 0) 0)
-  kind_seen {k} h =
-      (∥∥₁_elim (v.ruled.each k h) le_prop (λ r. r.rules.known_kind.0), ∥∥₁_elim (v.ruled.each k h) le_prop (λ r. r.rules.known_kind.1))
+  pub fresh : Outside body t n at_first
+  fresh =
+      let z : n - 0 ≡ n = omega arith in
+      record {
+        at = record { high = omega arith; low = omega arith };
+        tags = rw z (∣ tags_front body t n 0 (length t / 8) (omega arith) (rows_tags {p = first_place} (each_row w)) ∣₁);
+      }
+
+-- a row has a kind
+pub kind_seen : {body t : List ℕ} {n k : ℕ} → Sees body t n → k < n → IsKind (get_or t (k * 8 + 0) 0)
+kind_seen {k = k} q h =
+    (∥∥₁_elim (q.each k h) le_prop (λ r. r.rules.known_kind.0), ∥∥₁_elim (q.each k h) le_prop (λ r. r.rules.known_kind.1))
 
 -- ---- kinds of one number are the same
 kind_from : ℕ → Kinds
@@ -202,27 +170,35 @@ no_end of_slash a s d = refl
 no_end (of_matter w) a s d = refl
 no_end (of_error w) a s d = refl
 
--- ---- outside of start tags, by the tokens that are left and by the next row
+-- ---- outside of start tags, by the tokens that are left
 pub record Stands (body t : List ℕ) (n d k : ℕ) : Type 0 where
   pub high : k ≤ n
   pub low : d ≤ k
   pub tags : Tags false (toks_from body t n k)
 
--- the first row does
-pub fresh : (v : View) → Stands v.table.body.now v.table.rows.now v.count 0 0
-fresh v = record { high = omega arith; low = omega arith; tags = in_order v }
+pub stands : {body t : List ℕ} {n : ℕ} {c : Cursor} → Outside body t n c → Stands body t n c.depth.0 c.row
+stands o = record { high = o.at.high; low = o.at.low; tags = tags_of o.tags }
 
--- a token outside of a start tag is of no kind that comes in one alone
-not_in_tag : {m : Name} {v : List ℕ} {kind : ℕ} {u : Tok} → Kind m v kind u → may_stand u false ≡ true → in_tag_only kind ≡ false
-not_in_tag of_start e = refl
-not_in_tag of_attr e = false_true e
-not_in_tag of_gt e = false_true e
-not_in_tag of_close e = refl
-not_in_tag of_slash e = false_true e
-not_in_tag (of_matter w) e = w.loose.in_tag
-not_in_tag (of_error w) e = w.loose.in_tag
+pub outside : {body t : List ℕ} {n : ℕ} {c : Cursor} → Stands body t n c.depth.0 c.row → Outside body t n c
+outside s = record { at = record { high = s.high; low = s.low }; tags = ∣ s.tags ∣₁ }
 
--- one in a start tag that is of none is a token error
+pub tagged : {body t : List ℕ} {n : ℕ} {c : Cursor} → Outside body t n c → Tagged body t n c
+tagged o = record { at = o.at; in_tag = false; tags = tags_of o.tags }
+
+-- where the first row stands outside of start tags, they are in order from each place on
+tagged_from : (body t : List ℕ) (n m s : ℕ) {b : Bool} → Tags b (toks_from body t n s) → s + m ≤ n
+    → (c : Cursor) → At n c → c.row ≡ s + m → Tagged body t n c
+tagged_from body t n zero s {b} g h c a e =
+    let z : c.row ≡ s = omega (arith, e) in record { at = a; in_tag = b; tags = rw z g }
+tagged_from body t n (suc m) s {b} g h c a e =
+    let z : c.row ≡ suc s + m = omega (arith, e) in
+    tagged_from body t n m (suc s) (rw (add-one s) at (tags_next body t n s g (omega arith)).1) (omega arith) c a z
+
+pub tagged_anywhere : {body t : List ℕ} {n : ℕ} → Outside body t n at_first → (c : Cursor) → At n c → Tagged body t n c
+tagged_anywhere {body} {t} {n} o c a = tagged_from body t n c.row 0 (tags_of o.tags) (omega (arith, a.high)) c a (omega arith)
+
+-- ---- a token error is the last row
+-- one in a start tag that is of no kind that comes in one alone is a token error
 error_in_tag : {m : Name} {v : List ℕ} {kind : ℕ} {u : Tok} → Kind m v kind u → may_stand u true ≡ true → in_tag_only kind ≡ false → u ≡ bad
 error_in_tag of_start e f = false_true e
 error_in_tag of_attr e f = false_true (sym f)
@@ -241,38 +217,29 @@ error_number of_slash q l h = let z : ◌≡◌ {A = ℕ} 0 1 = cc in absurd (om
 error_number (of_matter w) q l h = let z : ◌≡◌ {A = ℕ} 0 1 = cc in absurd (omega arith)
 error_number (of_error w) q l h = w.eight l h
 
-module _ {body t : List ℕ} {n : ℕ} (q : Sees body t n) where
-  kind_at : (k : ℕ) → Kind (name_at body t k) (value_at body t k) (get_or t (k * 8 + 0) 0) (tok_at body t k)
-  kind_at k = kind_of_lem (get_or t (k * 8 + 0) 0) (name_at body t k) (value_at body t k)
+pub error_end : {body t : List ℕ} {n : ℕ} → Sees body t n → (k : ℕ) → k < n → tok_at body t k ≡ bad → n ≤ k + 1
+error_end {body} {t} q k h e =
+    let kind = kind_of_lem (get_or t (k * 8 + 0) 0) (name_at body t k) (value_at body t k) in
+    q.last k h (error_number kind e (kind_seen q h).0 (kind_seen q h).1)
 
-  -- a token error in row k is its last
-  pub error_end : (k : ℕ) → k < n → tok_at body t k ≡ bad → n ≤ k + 1
-  error_end k h e =
-      q.last k h (error_number (kind_at k) e (∥∥₁_elim (q.each k h) le_prop (λ r. r.rules.known_kind.0))
-      (∥∥₁_elim (q.each k h) le_prop (λ r. r.rules.known_kind.1)))
+-- a place where the next row is of no kind that comes in a start tag alone is outside of them
+pub outside_by_kind : {body t : List ℕ} {n : ℕ} → Sees body t n → {c : Cursor} → Tagged body t n c
+    → (c.row < n → in_tag_only (get_or t (c.row * 8 + 0) 0) ≡ false) → Outside body t n c
+outside_by_kind {body} {t} {n} q {c} o out = record { at = o.at; tags = ∣ go o.in_tag o.tags ∣₁ }
+  where
+    -- in a start tag there is a token error, the last row
+    inside : {b : Bool} → b ≡ true → Tags b (toks_from body t n c.row) → c.row < n → Tags false (toks_from body t n c.row)
+    inside {b} e g h =
+        let x = tags_next body t n c.row g h in
+        let kind = kind_of_lem (get_or t (c.row * 8 + 0) 0) (name_at body t c.row) (value_at body t c.row) in
+        let y = error_in_tag kind (rw e at x.0) (out h) in
+        let z = toks_none body t n (c.row + 1) (error_end q c.row h y) in
+        rw (toks_next body t n c.row h, y, z) (token refl no_token)
 
-  pub stands : {c : Cursor} → Outside t n c → Stands body t n c.depth.0 c.row
-  stands {c} o = record { high = o.at.high; low = o.at.low; tags = go (q.tagged c.row o.at.high).in_tag (q.tagged c.row o.at.high).tags }
-    where
-      -- in a start tag there is a token error, the last row
-      inside : {b : Bool} → b ≡ true → Tags b (toks_from body t n c.row) → c.row < n → Tags false (toks_from body t n c.row)
-      inside {b} e g h =
-          let x = tags_next body t n c.row g h in
-          let y = error_in_tag (kind_at c.row) (rw e at x.0) (o.out h) in
-          let z = toks_none body t n (c.row + 1) (error_end c.row h y) in
-          rw (toks_next body t n c.row h, y, z) (token refl no_token)
+    more : (u : Bool) → leb (c.row + 1) n ≡ u → Tags true (toks_from body t n c.row) → Tags false (toks_from body t n c.row)
+    more true e g = inside refl g (omega (arith, leb-true (c.row + 1) n e))
+    more false e g = rw (toks_none body t n c.row (omega (arith, leb-false (c.row + 1) n e))) no_token
 
-      more : (u : Bool) → leb (c.row + 1) n ≡ u → Tags true (toks_from body t n c.row) → Tags false (toks_from body t n c.row)
-      more true e g = inside refl g (omega (arith, leb-true (c.row + 1) n e))
-      more false e g = rw (toks_none body t n c.row (omega (arith, leb-false (c.row + 1) n e))) no_token
-
-      go : (b : Bool) → Tags b (toks_from body t n c.row) → Tags false (toks_from body t n c.row)
-      go false g = g
-      go true g = more (leb (c.row + 1) n) refl g
-
-  pub outside : {c : Cursor} → Stands body t n c.depth.0 c.row → Outside t n c
-  outside {c} s =
-      record {
-        at = record { high = s.high; low = s.low };
-        out = λ h. not_in_tag (kind_at c.row) (tags_next body t n c.row s.tags h).0;
-      }
+    go : (b : Bool) → Tags b (toks_from body t n c.row) → Tags false (toks_from body t n c.row)
+    go false g = g
+    go true g = more (leb (c.row + 1) n) refl g

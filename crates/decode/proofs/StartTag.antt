@@ -22,12 +22,10 @@ use Rattle.document.specs.Reader.{reader, depth, depth_after, Scope, Attribute, 
 use Rattle.document.specs.Reader as doc
 use Rattle.document.proofs.Laws.Steps.{next_end, next_token}
 use Rattle.document.specs.Tags.{may_stand, in_tag_after, Tags}
-use Rattle.decode.specs.declared.view.View.{View}
-use Rattle.decode.specs.declared.element.Element.{Element}
-use Rattle.decode.specs.Place.{is_bytes, Outside, StartIn, over_at}
-use Rattle.decode.specs.Element.{toks_from, attribute_at, attributes_from, start_at, good_attribute}
-use Rattle.decode.specs.Element.{FoundIn, GoneIn, TagEnd, StartsAt, TagIs}
-use Rattle.decode.proofs.Known.{Sees, sees_of, Stands, stands, outside, toks_next, toks_none, tags_next, error_end}
+use Rattle.decode.specs.Seen.{Sees}
+use Rattle.decode.specs.Place.{toks_from, is_bytes, StartIn, over_at}
+use Rattle.decode.specs.Reader.{attribute_at, attributes_from, start_at, good_attribute, FoundFrom, GoneFrom, TagEnd, StartsAt, TagIs}
+use Rattle.decode.proofs.Known.{Stands, stands, outside, toks_next, toks_none, tags_next, error_end}
 
 pub bytes_are : (o : Out) → is_bytes o ≡ true → o ≡ bytes (meaning o)
 bytes_are (bytes v) e = refl
@@ -139,21 +137,9 @@ pub tag_none : (body t : List ℕ) (i j : ℕ) → i < j → j < i + 1 → good_
 tag_none body t i j a b = absurd (omega arith)
 
 -- ---- its end
-module _ {v : View} {d i k : ℕ} (o : StartsAt v d i) (e : TagEnd v i k) where
-  abbrev body : List ℕ
-  body = v.table.body.now
-
-  abbrev t : List ℕ
-  t = v.table.rows.now
-
-  abbrev n : ℕ
-  n = v.count
-
-  q : Sees body t n
-  q = sees_of v
-
+module _ {body t : List ℕ} {n : ℕ} (q : Sees body t n) {d i k : ℕ} (o : StartsAt body t n d i) (e : TagEnd body t n i k) where
   s : Stands body t n d i
-  s = stands q o.at
+  s = stands o.at
 
   w : TagRead body t n i k
   w =
@@ -161,32 +147,42 @@ module _ {v : View} {d i k : ℕ} (o : StartsAt v d i) (e : TagEnd v i k) where
       rw z at (tag_read body t n i (k - (i + 1)) s.tags o.here o.starts (omega (arith, e.high)) (λ j a b. e.good j a (omega arith)))
 
   -- the search is over, in the start tag
-  gone_in : (j : ℕ) → k ≤ j → j ≤ n → GoneIn v i (over_at false j (d + 1))
-  gone_in j l h =
+  gone_in : (j : ℕ) → k ≤ j → j ≤ n → {b : Bool} → Tags b (toks_from body t n j) → GoneFrom body t n i (over_at false j (d + 1))
+  gone_in j l h {b} g =
       record {
-        ended = record { at = record { high = h; low = omega (arith, s.low, e.low) }; out = λ q. false_true q };
+        ended =
+            record {
+              at = record { at = record { high = h; low = omega (arith, s.low, e.low) }; in_tag = b; tags = g };
+              out = λ q. false_true q;
+            };
         since = omega (arith, e.low);
       }
 
-  pub tag_done : n ≤ k → TagIs v d i (Err (over_at false k (d + 1)))
+  pub tag_done : n ≤ k → TagIs body t n d i (Err (over_at false k (d + 1)))
   tag_done h =
       let z = toks_none body t n k h in
       record {
         is = λ s. rw (add-one d, z) (sym (next_end s (so_far body t i k d) (depth (suc d)) k) ∙ rw z at (w.rest s d));
-        met = gone_in k (omega arith) e.high;
+        met = gone_in k (omega arith) e.high w.tags;
       }
 
   module _ (h : k < n) where
     -- the start element, if the tag ends here
-    pub start_in : {closed : Bool} → StartIn body t n (record { row = i; end = k; closed = closed; depth = depth d })
+    start_in : {closed : Bool} → StartIn body t n (record { row = i; end = k; closed = closed; depth = depth d })
     start_in = record { starts = o.starts; low = e.low; high = h; deep = s.low; good = λ j a b. (good_is body t j (e.good j a b)).1 }
 
-    out_here : (inner : ℕ) → inner ≤ k + 1 → Tags false (toks_from body t n (k + 1))
-        → Outside t n (record { row = k + 1; depth = depth inner })
-    out_here inner l g = outside q (record { high = omega arith; low = l; tags = g })
-
-    met_here : {c : Element} → c.view ≡ v → c.start.row ≡ i → c.start.end ≡ k → c.at.row ≡ k + 1 → FoundIn v i c
-    met_here a b x y = record { view = a; since = omega arith; past = omega arith }
+    met_here : {closed : Bool} (inner : ℕ) → inner ≤ k + 1 → Tags false (toks_from body t n (k + 1))
+        → FoundFrom body t n i (record {
+          start = record { row = i; end = k; closed = closed; depth = depth d };
+          at = record { row = k + 1; depth = depth inner };
+        })
+    met_here inner l g =
+        record {
+          start = start_in;
+          stands = outside (record { high = omega arith; low = l; tags = g });
+          since = omega arith;
+          past = omega arith;
+        }
 
     module _ {kind : ℕ} (f : kind ≡ get_or t (k * 8 + 0) 0) where
       gt_here : kind ≡ 3 → tok_at body t k ≡ gt
@@ -197,60 +193,59 @@ module _ {v : View} {d i k : ℕ} (o : StartsAt v d i) (e : TagEnd v i k) where
       unfolding tok_as
       slash_here x = rw (← f, x)
 
-      pub out_gt : kind ≡ 3 → Outside t n (record { row = k + 1; depth = depth (d + 1) })
-      out_gt x = out_here (d + 1) (omega (arith, s.low, e.low)) (tags_after body t n i w h _ (gt_here x))
-
-      pub out_slash : kind ≡ 5 → Outside t n (record { row = k + 1; depth = depth d })
-      out_slash x = out_here d (omega (arith, s.low, e.low)) (tags_after body t n i w h _ (slash_here x))
-
       -- what is found
-      pub tag_gt : {c : Element} → kind ≡ 3 → c.view ≡ v → c.start ≡ record { row = i; end = k; closed = false; depth = depth d }
-          → c.at ≡ record { row = k + 1; depth = depth (d + 1) }
-          → TagIs v d i (Ok c)
-      tag_gt x a b y =
+      pub tag_gt : kind ≡ 3 → TagIs body t n d i (Ok (record {
+        start = record { row = i; end = k; closed = false; depth = depth d };
+        at = record { row = k + 1; depth = depth (d + 1) };
+      }))
+      tag_gt x =
           record {
-            is = λ s. rw (a, b, y, add-one d) (turned body t n i w h _ (gt_here x) s d);
-            met = met_here a (ap (λ u. u.row) b) (ap (λ u. u.end) b) (ap (λ u. u.row) y);
+            is = λ s. rw (add-one d) (turned body t n i w h _ (gt_here x) s d);
+            met = met_here (d + 1) (omega (arith, s.low, e.low)) (tags_after body t n i w h _ (gt_here x));
           }
 
-      pub tag_slash : {c : Element} → kind ≡ 5 → c.view ≡ v → c.start ≡ record { row = i; end = k; closed = true; depth = depth d }
-          → c.at ≡ record { row = k + 1; depth = depth d }
-          → TagIs v d i (Ok c)
-      tag_slash x a b y =
+      pub tag_slash : kind ≡ 5 → TagIs body t n d i (Ok (record {
+        start = record { row = i; end = k; closed = true; depth = depth d };
+        at = record { row = k + 1; depth = depth d };
+      }))
+      tag_slash x =
           record {
-            is = λ s. rw (a, b, y) (turned body t n i w h _ (slash_here x) s d);
-            met = met_here a (ap (λ u. u.row) b) (ap (λ u. u.end) b) (ap (λ u. u.row) y);
+            is = λ s. turned body t n i w h _ (slash_here x) s d;
+            met = met_here d (omega (arith, s.low, e.low)) (tags_after body t n i w h _ (slash_here x));
           }
 
       -- an attribute that does not unescape, or a token error
-      pub tag_over : (kind ≡ 3 → ⊥) → (kind ≡ 5 → ⊥) → TagIs v d i (Err (over_at false (k + 1) (d + 1)))
+      pub tag_over : (kind ≡ 3 → ⊥) → (kind ≡ 5 → ⊥) → TagIs body t n d i (Err (over_at false (k + 1) (d + 1)))
       tag_over b c =
           go (kind_of_lem (get_or t (k * 8 + 0) 0) (name_at body t k) (value_at body t k))
           (tags_next body t n k w.tags h).0 (λ z. b (f ∙ z)) (λ z. c (f ∙ z)) refl refl
         where
-          bad_token : tok_at body t k ≡ bad → TagIs v d i (Err (over_at false (k + 1) (d + 1)))
+          gone_here : GoneFrom body t n i (over_at false (k + 1) (d + 1))
+          gone_here = gone_in (k + 1) (omega arith) (omega arith) (tags_next body t n k w.tags h).1
+
+          bad_token : tok_at body t k ≡ bad → TagIs body t n d i (Err (over_at false (k + 1) (d + 1)))
           bad_token y =
               let z = toks_none body t n (k + 1) (error_end q k h y) in
               record {
                 is =
                     λ s. rw (add-one d, z)
                     (sym (next_end s (so_far body t i k d) (depth (suc d)) (k + 1)) ∙ rw z at (turned body t n i w h bad y s d));
-                met = gone_in (k + 1) (omega arith) (omega arith);
+                met = gone_here;
               }
 
           bad_value : get_or t (k * 8 + 0) 0 ≡ 2 → tok_at body t k ≡ attr (name_at body t k) (value_at body t k)
-              → TagIs v d i (Err (over_at false (k + 1) (d + 1)))
+              → TagIs body t n d i (Err (over_at false (k + 1) (d + 1)))
           bad_value x y =
               let p : is_bytes (unescaped (value_at body t k)) ≡ false = rw x at (e.stops h) in
               let z = not_bytes (so_far body t i k d) (name_at body t k) (unescaped (value_at body t k)) p in
               record {
                 is = λ s. rw (add-one d) (rw z at (turned body t n i w h _ y s d));
-                met = gone_in (k + 1) (omega arith) (omega arith);
+                met = gone_here;
               }
 
           go : {j : ℕ} {u : Tok} → Kind (name_at body t k) (value_at body t k) j u → may_stand (tok_at body t k) true ≡ true
               → (get_or t (k * 8 + 0) 0 ≡ 3 → ⊥) → (get_or t (k * 8 + 0) 0 ≡ 5 → ⊥) → get_or t (k * 8 + 0) 0 ≡ j → tok_at body t k ≡ u
-              → TagIs v d i (Err (over_at false (k + 1) (d + 1)))
+              → TagIs body t n d i (Err (over_at false (k + 1) (d + 1)))
           go of_start m b c x y = false_true (rw y at m)
           go of_attr m b c x y = bad_value x y
           go of_gt m b c x y = absurd (b x)

@@ -29,16 +29,16 @@ use Rattle.xml.specs.Passed.{FirstFault, at_row, at_the_end}
 use Rattle.xml.proofs.First.{walk_ill_formed_is}
 use Rattle.document.specs.View.{position_at, failure_of, is_error, error_at, view}
 use Rattle.decode.specs.declared.view.View.{View}
-use Rattle.decode.specs.Ruled.{Ruled}
+use Rattle.decode.specs.Seen.{Sees}
 use Rattle.decode.specs.View.{whole_of, ViewIs}
 use Rattle.decode.proofs.Walking.{length_toks}
-use Rattle.decode.proofs.Known.{take_rows, ruled}
+use Rattle.decode.proofs.Known.{take_rows, sees, fresh}
 
 -- ---- a view is what its fields are, whatever proofs stand beside them
-ruled_prop : (body t : List ℕ) (n : ℕ) → IsProp (Ruled body t n)
-ruled_prop body t n = hlevel props
+sees_prop : (body t : List ℕ) (n : ℕ) → IsProp (Sees body t n)
+sees_prop body t n = hlevel props
 
-pub same_view : (v : View) {s : v.count * 8 ≤ length v.table.rows.now} {r : Ruled v.table.body.now v.table.rows.now v.count}
+pub same_view : (v : View) {s : v.count * 8 ≤ length v.table.rows.now} {r : Sees v.table.body.now v.table.rows.now v.count}
     {w : v.ends ≤ length v.table.body.now} {m : length v.table.body.now ≤ 65536} {f : v.count ≤ 8192}
     → record {
       table = v.table;
@@ -47,13 +47,13 @@ pub same_view : (v : View) {s : v.count * 8 ≤ length v.table.rows.now} {r : Ru
       ill_formed = v.ill_formed;
       ends = v.ends;
       seen = s;
-      ruled = r;
+      sees = r;
       within = w;
       small = m;
       few = f;
     } ≡ v
 same_view v {s} {r} {w} {m} {f} =
-    let same = ruled_prop v.table.body.now v.table.rows.now v.count r v.ruled in
+    let same = sees_prop v.table.body.now v.table.rows.now v.count r v.sees in
     rw (le_prop s v.seen, same, le_prop w v.within, le_prop m v.small, le_prop f v.few)
 
 -- ---- the position of a row, or the final one
@@ -150,15 +150,21 @@ module _ (v : ValidTable) where
   pub whole_is : {r : View} → r.table.body.now ≡ body → r.table.rows.now ≡ t → r.count ≡ n → r.failure ≡ None → r.ill_formed ≡ false
       → r.ends ≡ v.end
       → ViewIs v (whole_of v) r
-  whole_is g a b c d e = record { same = rw (a, b, c, d, e, all_rows (walks v.obeys)); body = g; rows = a }
+  whole_is g a b c d e =
+      record {
+        same = rw (a, b, c, d, e, all_rows (walks v.obeys));
+        body = g;
+        rows = a;
+        fresh = rw (g, a, b) (fresh (walks v.obeys) n (omega arith));
+      }
 
   -- the facts of a view of the first k rows
   module _ {b u : List ℕ} (f : b ≡ body) (g : u ≡ t) (k : ℕ) (h : k * 8 ≤ length t) where
     pub seen_of : k * 8 ≤ length u
     seen_of = rw g h
 
-    pub ruled_of : Ruled b u k
-    ruled_of = rw (f, g) (ruled (walks v.obeys) k h)
+    pub sees_of : Sees b u k
+    sees_of = rw (f, g) (sees (walks v.obeys) k h)
 
     pub within_of : {p : ℕ} → p ≤ length body → p ≤ length b
     within_of q = rw f q
@@ -189,7 +195,12 @@ module _ (v : ValidTable) where
         → ViewIs v (view true body (rows_of t) v.end) r
     unfolding view
     view_ill a i j {r} g h l m o q =
-        record { same = rw (← e, h, l, m, o, q, i, a, j, all_rows (walks v.obeys), take_rows t 0 k n first_in); body = g; rows = h }
+        record {
+          same = rw (← e, h, l, m, o, q, i, a, j, all_rows (walks v.obeys), take_rows t 0 k n first_in);
+          body = g;
+          rows = h;
+          fresh = rw (g, h, l) (fresh (walks v.obeys) k ill_seen);
+        }
 
   pub view_passes : Ok tt ≡ walked (toks_of body (rows_of t)) → {r : View} → ViewIs v (whole_of v) r
       → ViewIs v (view true body (rows_of t) v.end) r
@@ -233,7 +244,12 @@ module _ (v : ValidTable) where
         let m = n - 1 in
         let z : 0 + m ≡ m = omega arith in
         let x = error_is body t 0 m each (rw (z, ← q)) in
-        record { same = rw (a, b, c, d, e, rows_are, x, take_rows t 0 m (suc m) (omega arith)); body = g; rows = a }
+        record {
+          same = rw (a, b, c, d, e, rows_are, x, take_rows t 0 m (suc m) (omega arith));
+          body = g;
+          rows = a;
+          fresh = rw (g, a, b) (fresh (walks v.obeys) m (omega arith));
+        }
 
     pub lenient_whole : {kind : ℕ} → kind ≡ get_or t ((n - 1) * 8 + 0) 0 → (kind ≡ 8 → ⊥) → {r : View} → ViewIs v (whole_of v) r
         → ViewIs v (view false body (rows_of t) v.end) r

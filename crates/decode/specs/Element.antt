@@ -1,17 +1,15 @@
--- What elements, places and pieces stand for in `document`, and what each method of an element answers.
-use Rattle.std.specs.Prelude.{ℕ, zero, suc, ◌+◌, ◌-◌, ◌*◌, ◌≤◌, ◌<◌, ◌≡◌, Bool, true, false, eqb, get_or, List, [], ◌∷◌, length, Option}
-use Rattle.std.specs.Prelude.{Some, None, Result, Ok, Err}
+-- What elements, texts and pieces of a view stand for in `document`, and what each method of a view and of an element answers.
+use Rattle.std.specs.Prelude.{ℕ, ◌+◌, ◌*◌, ◌≤◌, ◌<◌, ◌≡◌, true, get_or, List, [], ◌∷◌, length, Option, Some, None, Result, Ok, Err}
 use Rattle.std.proofs.Math.Option as math
 use Rattle.lists.specs.Tests.{pick}
 use Rattle.refusal.specs.declared.Refusal.{Refusal}
 use Rattle.reference.specs.Text.{bytes, unescaped, meaning}
-use Rattle.table.specs.Row.{Tok, toks_of}
-use Rattle.table.specs.Flat.{rows_from}
+use Rattle.table.specs.Row.{toks_of}
 use Rattle.table.specs.Names.{name_matches}
 use Rattle.table.specs.Rows.{InTable, name_at, value_at}
-use Rattle.document.specs.Reader.{Reader, reader, depth, Scope, StartEl, blank, found, gone, next}
+use Rattle.document.specs.Reader.{Reader, found, gone}
 use Rattle.document.specs.Reader as doc
-use Rattle.document.specs.Scope.{Child, scope_of, shut, skip_from, next_from, dropped, leave, root_of, piece_end, piece_of}
+use Rattle.document.specs.Scope.{Child, scope_of, shut, next_from, leave, root_of, piece_end, piece_of}
 use Rattle.document.specs.declared.part.Piece.{Piece}
 use Rattle.document.specs.declared.part.Text.{Text}
 use Rattle.decode.specs.declared.place.Cursor.{Cursor}
@@ -19,40 +17,11 @@ use Rattle.decode.specs.declared.place.Past.{Past}
 use Rattle.decode.specs.declared.place.Start.{Start}
 use Rattle.decode.specs.declared.view.View.{View}
 use Rattle.decode.specs.declared.element.Element.{Element}
-use Rattle.decode.specs.Place.{is_bytes, Outside, EndedAt}
+use Rattle.decode.specs.Place.{Outside}
+use Rattle.decode.specs.Reader.{reader_at, past_at, start_at, child_from, DropIs, GoneFrom, NoMatch}
 use Rattle.decode.specs.View.{view_of}
 
--- ---- what row numbers stand for, of a body and the first n rows of a table
--- the tokens from row k on
-abbrev pub toks_from : List ℕ → List ℕ → ℕ → ℕ → List Tok
-toks_from body t n k = toks_of body (rows_from t k (n - k))
-
-abbrev pub reader_at : List ℕ → List ℕ → ℕ → Cursor → Reader
-reader_at body t n c = reader c.depth c.row (toks_from body t n c.row)
-
-abbrev pub past_at : List ℕ → List ℕ → ℕ → Past → doc.Past
-past_at body t n p = record { ended = p.ended; reader = reader_at body t n p.at }
-
--- an attribute, its value unescaped; and those of m rows from row k on
-abbrev pub attribute_at : List ℕ → List ℕ → ℕ → doc.Attribute
-attribute_at body t k = record { name = name_at body t k; value = meaning (unescaped (value_at body t k)) }
-
-abbrev pub attributes_from : List ℕ → List ℕ → ℕ → ℕ → List doc.Attribute
-attributes_from body t k zero = []
-attributes_from body t k (suc m) = attribute_at body t k ∷ attributes_from body t (suc k) m
-
--- a start element: its attributes are the rows between its row and the end of its tag
-abbrev pub start_at : List ℕ → List ℕ → Start → StartEl
-start_at body t s =
-    record {
-      name = name_at body t s.row;
-      attributes = attributes_from body t (s.row + 1) (s.end - (s.row + 1));
-      closed = s.closed;
-      depth = s.depth;
-      row = s.row;
-    }
-
--- ---- and of a view
+-- ---- what row numbers stand for, of a view
 abbrev pub reader_of : View → Cursor → Reader
 reader_of v c = reader_at v.table.body.now v.table.rows.now v.count c
 
@@ -61,7 +30,7 @@ past_of v p = past_at v.table.body.now v.table.rows.now v.count p
 
 -- an element, and the reader at its content
 abbrev pub child_at : View → Start → Cursor → Child
-child_at v s c = record { start = start_at v.table.body.now v.table.rows.now s; inner = reader_of v c }
+child_at v s c = child_from v.table.body.now v.table.rows.now v.count s c
 
 abbrev pub child_of : Element → Child
 child_of e = child_at e.view e.start e.at
@@ -94,9 +63,8 @@ pub record FoundIn (v : View) (k : ℕ) (c : Element) : Type 0 where
   pub since : k ≤ c.start.row
   pub past : c.start.end < c.at.row
 
-pub record GoneIn (v : View) (k : ℕ) (p : Past) : Type 0 where
-  pub ended : EndedAt v.table.rows.now v.count p
-  pub since : k ≤ p.at.row
+abbrev pub GoneIn : View → ℕ → Past → Type 0
+GoneIn v k p = GoneFrom v.table.body.now v.table.rows.now v.count k p
 
 abbrev pub Met : View → ℕ → Result Element Past → Type 0
 Met v k (Ok c) = FoundIn v k c
@@ -106,50 +74,19 @@ pub record NextIs (e : Element) (r : Result Element Past) : Type 0 where
   pub is : next_of e.view r ≡ next_child (child_of e)
   pub met : Met e.view e.at.row r
 
--- ---- the reading of a start tag
--- whether row k is an attribute that unescapes
-abbrev pub good_attribute : List ℕ → List ℕ → ℕ → Bool
-good_attribute body t k = pick (eqb (get_or t (k * 8 + 0) 0) 2) (is_bytes (unescaped (value_at body t k))) false
-
--- so far the rows after row i are
-pub record TagEnd (v : View) (i k : ℕ) : Type 0 where
-  pub low : i < k
-  pub high : k ≤ v.count
-  pub good : (j : ℕ) → i < j → j < k → good_attribute v.table.body.now v.table.rows.now j ≡ true
-  pub stops : k < v.count → good_attribute v.table.body.now v.table.rows.now k ≡ false
-
 -- the element of a view, by its start and its place
 pub record FoundAt (v : View) (s : Start) (c : Cursor) (r : Element) : Type 0 where
   pub view : r.view ≡ v
   pub start : r.start ≡ s
   pub at : r.at ≡ c
 
--- a start tag begins in row k, at depth d
-pub record StartsAt (v : View) (d k : ℕ) : Type 0 where
-  pub at : Outside v.table.rows.now v.count (record { row = k; depth = depth d })
-  pub here : k < v.count
-  pub starts : get_or v.table.rows.now (k * 8 + 0) 0 ≡ 1
-
--- the search from there on, whatever the scope
-pub record TagIs (v : View) (d k : ℕ) (r : Result Element Past) : Type 0 where
-  pub is : (s : Scope) → next_of v r ≡ next s blank (depth d) k (toks_from v.table.body.now v.table.rows.now v.count k)
-  pub met : Met v k r
-
--- ---- the skip to the end of an element, from a place
-pub record SkipIs (e : Element) (c : Cursor) (r : Past) : Type 0 where
-  pub is : past_of e.view r ≡ skip_from (scope_of (child_of e).start) (reader_of e.view c)
-  pub stands : Outside e.view.table.rows.now e.view.count r.at
-  pub later : c.row ≤ r.at.row
-
 -- ---- an element that is dropped, and one that is left after its children
-pub record DroppedIs (e : Element) (r : Past) : Type 0 where
-  pub is : past_of e.view r ≡ dropped (child_of e)
-  pub stands : Outside e.view.table.rows.now e.view.count r.at
-  pub later : e.at.row ≤ r.at.row
+abbrev pub DroppedIs : Element → Past → Type 0
+DroppedIs e r = DropIs e.view.table.body.now e.view.table.rows.now e.view.count e.start e.at r
 
 pub record LeftIs (e : Element) (p : Past) (r : Cursor) : Type 0 where
   pub is : reader_of e.view r ≡ leave (child_of e) (past_of e.view p)
-  pub stands : Outside e.view.table.rows.now e.view.count r
+  pub stands : Outside e.view.table.body.now e.view.table.rows.now e.view.count r
   pub later : p.at.row ≤ r.row
 
 -- ---- the first attribute that a pattern asks for (`StartEl::attr`)
@@ -181,10 +118,6 @@ abbrev pub GivenIn : List ℕ → List ℕ → Result Text Refusal → Type 0
 GivenIn body t (Ok r) = TextIn body t r
 GivenIn body t (Err e) = Unit {0}
 
--- by row: a pattern asks for the name of none of the rows from one on and before another
-pub record NoMatch (body t pattern : List ℕ) (from end : ℕ) : Type 0 where
-  pub none : (j : ℕ) → from ≤ j → j < end → name_matches (name_at body t j) pattern ≡ false
-
 -- of these rows, one is the first whose name it asks for, and a text is its value
 pub record FirstMatch (body t pattern : List ℕ) (from end : ℕ) (r : Text) : Type 0 where
   pub row : ℕ
@@ -207,11 +140,14 @@ abbrev pub AttributeIs : Element → List ℕ → Option Text → Type 0
 AttributeIs e pattern r = AttributeOf e.view e.start pattern r
 
 -- ---- pieces: the definition's, which lies in the body
-pub record PieceIs (e : Element) (r : Piece) : Type 0 where
-  pub is : r ≡ piece_of e.view.table.body.now (view_of e.view) (child_of e)
-  pub inside : r.start + r.len ≤ length e.view.table.body.now
+pub record PieceOf (v : View) (s : Start) (c : Cursor) (r : Piece) : Type 0 where
+  pub is : r ≡ piece_of v.table.body.now (view_of v) (child_at v s c)
+  pub inside : r.start + r.len ≤ length v.table.body.now
+
+abbrev pub PieceIs : Element → Piece → Type 0
+PieceIs e r = PieceOf e.view e.start e.at r
 
 -- where it ends
-pub record EndIs (e : Element) (p : Past) (r : ℕ) : Type 0 where
-  pub is : r ≡ piece_end (view_of e.view) (past_of e.view p)
-  pub within : r ≤ length e.view.table.body.now
+pub record EndIs (v : View) (p : Past) (r : ℕ) : Type 0 where
+  pub is : r ≡ piece_end (view_of v) (past_of v p)
+  pub within : r ≤ length v.table.body.now

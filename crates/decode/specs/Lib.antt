@@ -1,5 +1,6 @@
 pub mod Place
-pub mod Ruled
+pub mod Seen
 pub mod Drain
+pub mod Reader
 pub mod View
 pub mod Element

@@ -8,6 +8,13 @@ pub struct Cursor {
     pub depth: Depth,
 }
 
+// A scope: the whole document, or the element of a depth that starts in a row.
+#[derive(Clone, Copy)]
+pub enum Scope {
+    Document,
+    Element(Depth, usize),
+}
+
 // Where it stands once a scope is over, and whether the scope's own end was read.
 #[derive(Clone, Copy)]
 pub struct Past {
@@ -23,4 +30,11 @@ pub struct Start {
     pub end: usize,
     pub closed: bool,
     pub depth: Depth,
+}
+
+// A start element that a search found, and where the reader stands after its start tag.
+#[derive(Clone, Copy)]
+pub struct Found {
+    pub start: Start,
+    pub at: Cursor,
 }

@@ -3,10 +3,11 @@ ghost use Rattle.std.specs.Prelude.{◌≡◌, true, false, ◌+◌, ◌*◌, �
 ghost use Rattle.table.specs.Row.{rows_of, toks_of};
 ghost use Rattle.xml.specs.Drain.{walked};
 ghost use Rattle.document.specs.View.{failure_of, position_at, view};
-ghost use Rattle.decode.specs.Ruled.{Ruled};
+ghost use Rattle.decode.specs.Seen.{Sees};
 ghost use Rattle.table.specs.Kinds.{kind_number};
 
 use crate::drain::{cause_place, walk};
+use crate::reader::SeenRows;
 use refusal::Refusal;
 use table::{Kind, ReadableRows, ValidTable};
 use xml::{Cause, DrainError};
@@ -21,7 +22,7 @@ pub struct View<'a> {
     pub ill_formed: bool,
     pub ends: usize,
     pub ghost seen: { count * 8 ≤ length table.rows.now },
-    pub ghost ruled: { Ruled table.body.now table.rows.now count },
+    pub ghost sees: { Sees table.body.now table.rows.now count },
     pub ghost within: { ends ≤ length table.body.now },
     pub ghost small: { length table.body.now ≤ 65536 },
     pub ghost few: { count ≤ 8192 },
@@ -108,13 +109,25 @@ impl<'a> View<'a> {
         Self::whole(table)
     }
 
-    // The kind of a row that is seen.
+    // The rows that it sees.
+    #[inline(always)]
+    pub fn rows(&self) -> SeenRows<'a>
+        ensures table { result.table ≡ self.now.table }
+        ensures count { result.count ≡ self.now.count }
+    {
+        SeenRows {
+            table: self.table,
+            count: self.count,
+        }
+    }
+
+    // The kind of one.
     #[inline(always)]
     pub fn kind(&self, k: usize) -> Kind
         requires { k < self.now.count }
         ensures { kind_number result ≡ get_or self.now.table.rows.now (k * 8 + 0) 0 }
     {
-        self.table.kind(k).unwrap()
+        self.rows().kind(k)
     }
 
     // What a reading sees of a table.

@@ -19,7 +19,8 @@ use Rattle.decode.specs.declared.view.View.{View}
 use Rattle.decode.specs.declared.element.Element.{Element}
 use Rattle.decode.specs.Place.{Outside}
 use Rattle.decode.specs.View.{view_of}
-use Rattle.decode.specs.Element.{start_at, child_of, reader_of, past_of, FoundAt, NextIs}
+use Rattle.decode.specs.Reader.{start_at}
+use Rattle.decode.specs.Element.{child_of, reader_of, past_of, FoundAt, NextIs}
 use Rattle.output.specs.declared.Output.{Output}
 use Rattle.output.specs.Held.{Does}
 use Rattle.output.proofs.Then.{does_as, Midway, midway_start, midway_ends, midway_goes, midway_stops}
@@ -110,7 +111,7 @@ module _ (plan : List ℕ → Seen → Child → Plan) (after : Child → Reader
             let r = x.reached in
             omega (arith, m.since, s.low, s.high, m.past, r.later, ap (λ (v : View). v.count) in_root)
 
-        pub children_stands : Outside root.view.table.rows.now root.view.count c
+        pub children_stands : Outside root.view.table.body.now root.view.table.rows.now root.view.count c
         children_stands = rw in_root at x.reached.stands
 
         pub children_on : {next : Element} → FoundAt root.view root.start c next → ChildrenAt next b b₂

@@ -18,7 +18,7 @@ use Rattle.opening.specs.Opening.{body_of}
 -- the reader that is meant, at a place no earlier than the element's content
 pub record StandsAt (meant : Reader) (e : Element) (c : Cursor) : Type 0 where
   pub is : reader_of e.view c ≡ meant
-  pub stands : Outside e.view.table.rows.now e.view.count c
+  pub stands : Outside e.view.table.body.now e.view.table.rows.now e.view.count c
   pub later : e.at.row ≤ c.row
 
 abbrev pub Reached : Reader → Element → Result Cursor Refusal → Type 0

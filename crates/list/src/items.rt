@@ -3,7 +3,7 @@ ghost use Rattle.document.specs.Scope.{dropping};
 ghost use Rattle.document.proofs.Laws.Fuel.{dropping_shortens};
 ghost use Rattle.readings.specs.Collection.{items_plan, strings_plan};
 ghost use Rattle.codec.specs.Collection.{list_said};
-ghost use Rattle.output.specs.Held.{Does};
+ghost use Rattle.output.specs.Held.{Does, Whole, Enters, Counted};
 ghost use Rattle.opening.specs.Opening.{asked_of, body_of};
 ghost use Rattle.opening.specs.Wanted.{asked_by};
 
@@ -68,14 +68,16 @@ impl ReadChild for Texts<'_> {
     ghost shortens = { λ s c. dropping_shortens c };
 }
 
-// The list of a root that was found, by its sheet: "10 as met; 9 last".
+// The list of a root that was found, by its sheet: "10 as met; 9 last". It asks no room for texts, and leaves them as they are.
 pub fn read_list(
     root: &Element,
     sheet: &ListSheet,
     settings: Settings,
     out: &mut Output,
 ) -> Result<(), Refusal>
-    ensures { Does (items_plan (body_of root.now) settings (asked_of (list_said sheet.now) root.now)) out.old out.new result }
+    ensures does { Does (items_plan (body_of root.now) settings (asked_of (list_said sheet.now) root.now)) out.old out.new result }
+    ensures enters { Counted out.old
+        → Enters (items_plan (body_of root.now) settings (asked_of (list_said sheet.now) root.now)) out.old out.new result }
 {
     let name = pattern_of(sheet.item_name(settings));
     read_children(root, &Pieces { name }, out)
@@ -88,7 +90,8 @@ pub fn read_string_list(
     settings: Settings,
     out: &mut Output,
 ) -> Result<(), Refusal>
-    ensures { Does (strings_plan settings (asked_of (list_said sheet.now) root.now)) out.old out.new result }
+    ensures does { Does (strings_plan settings (asked_of (list_said sheet.now) root.now)) out.old out.new result }
+    ensures whole { Whole (strings_plan settings (asked_of (list_said sheet.now) root.now)) out.old out.new result }
 {
     let name = pattern_of(sheet.item_name(settings));
     read_children(root, &Texts { name }, out)

@@ -9,17 +9,20 @@ use Rattle.sheet.specs.declared.Settings.{Settings}
 use Rattle.sheet.specs.Sheet.{MapSheet}
 use Rattle.sheet.specs.Names.{entry_name}
 use Rattle.readings.specs.Collection.{is_wanted, read_plan, entry_plan, after_entry, fields_plan, entries_of, entries_plan}
+use Rattle.readings.proofs.Laws.Few.{entries_few}
 use Rattle.decode.specs.declared.place.Past.{Past}
 use Rattle.decode.specs.declared.place.Cursor.{Cursor}
 use Rattle.decode.specs.declared.element.Element.{Element}
 use Rattle.decode.specs.View.{view_of}
 use Rattle.decode.specs.Element.{child_of, DroppedIs}
 use Rattle.output.specs.declared.Output.{Output}
-use Rattle.output.specs.Held.{Does}
+use Rattle.output.specs.Held.{Does, Whole}
 use Rattle.output.proofs.Writing.{stops}
 use Rattle.output.proofs.Then.{does_as, does_nothing}
+use Rattle.output.proofs.Called.{does_whole}
 use Rattle.opening.specs.Opening.{body_of, asked_of}
 use Rattle.opening.specs.Wanted.{asked_by}
+use Rattle.opening.proofs.Few.{few_in}
 use Rattle.list.specs.Children.{ChildRead, each_plan, all_plan}
 use Rattle.list.proofs.ItemLaws.{stands_dropped}
 use Rattle.map.specs.declared.entries.Read.{Read}
@@ -36,7 +39,7 @@ module _ (m : MapSheet) (name : Option Pattern) (e : Element) where
 
   pub entry_not : (b : Output) → wanted ≡ false → {p : Past} → DroppedIs e p → EntryRead b b (Ok p.at)
   unfolding entry_plan after_entry
-  entry_not b q d = record { does = does_as (rw q) (does_nothing b); reached = rw q (stands_dropped d) }
+  entry_not b q d = record { does = does_as (rw q) (does_nothing b); reached = rw q (stands_dropped e d) }
 
   module _ (q : wanted ≡ true) where
     entry_is : {r : Result Read Refusal} → FieldsRead m e r
@@ -66,3 +69,9 @@ pub map_is : (name : Option Pattern) (settings : Settings) (m : MapSheet) → as
     → Does (entries_plan (body_of root) settings (asked_of m root)) b b' r
 unfolding all_plan each_plan entries_plan entries_of
 map_is name settings m n root d = rw (sym n) d
+
+-- its keys and values come to few bytes, so it ends in the whole room
+pub map_whole : (settings : Settings) (m : MapSheet) (root : Element) {b b' : Output} {r : Result (Unit {0}) Refusal}
+    → Does (entries_plan (body_of root) settings (asked_of m root)) b b' r
+    → Whole (entries_plan (body_of root) settings (asked_of m root)) b b' r
+map_whole settings m root d = does_whole d (entries_few (body_of root) settings (asked_of m root) (few_in root))

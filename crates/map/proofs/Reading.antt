@@ -49,7 +49,7 @@ module _ (m : MapSheet) (entry : Element) where
       none : inside scope ≡ Level.done (past_of scope.view p)
       none = level_none dropping dropping_shortens n
 
-      pub fields_ended : EndedAt entry.view.table.rows.now entry.view.count p
+      pub fields_ended : EndedAt entry.view.table.body.now entry.view.table.rows.now entry.view.count p
       fields_ended = rw w.view at n.met.ended
 
       pub fields_done : {c : Cursor} → LeftIs entry p c → FieldsRead m entry (Ok (record { fields = f; at = c }))
@@ -71,7 +71,7 @@ module _ (m : MapSheet) (entry : Element) where
       in_entry = n.met.view ∙ w.view
 
       met : inside scope ≡ Level.meets (child_of child) (level_in dropping (child_at scope.view scope.start past.at))
-      met = level_one dropping dropping_shortens n (stands_dropped d)
+      met = level_one dropping dropping_shortens n (stands_dropped child d)
 
       module _ (g : Fields) (r : Result (Unit {0}) Refusal)
           (x : fields_as g r ≡ read_field (body_of child) (view_of child.view) m (fields_of f) (child_of child)) where
@@ -92,7 +92,7 @@ module _ (m : MapSheet) (entry : Element) where
       unfolding children_of
       fields_refused g {r} x = record { is = turned g (Err r) x; left = tt }
 
-      pub fields_stand : Outside entry.view.table.rows.now entry.view.count past.at
+      pub fields_stand : Outside entry.view.table.body.now entry.view.table.rows.now entry.view.count past.at
       fields_stand = rw in_entry at d.stands
 
       pub fields_less : entry.view.count - past.at.row < entry.view.count - scope.at.row

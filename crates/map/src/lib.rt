@@ -5,7 +5,7 @@
 
 ghost use Rattle.readings.specs.Collection.{entries_plan};
 ghost use Rattle.codec.specs.Collection.{map_said};
-ghost use Rattle.output.specs.Held.{Does};
+ghost use Rattle.output.specs.Held.{Does, Whole};
 ghost use Rattle.opening.specs.Opening.{asked_of, body_of};
 
 pub mod entries;
@@ -26,7 +26,8 @@ pub fn read_map(
     settings: Settings,
     out: &mut Output,
 ) -> Result<(), Refusal>
-    ensures { Does (entries_plan (body_of root.now) settings (asked_of (map_said sheet.now) root.now)) out.old out.new result }
+    ensures does { Does (entries_plan (body_of root.now) settings (asked_of (map_said sheet.now) root.now)) out.old out.new result }
+    ensures whole { Whole (entries_plan (body_of root.now) settings (asked_of (map_said sheet.now) root.now)) out.old out.new result }
 {
     let name = pattern_of(sheet.entry_name(settings));
     read_children(root, &Entries { name, sheet }, out)

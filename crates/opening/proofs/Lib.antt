@@ -1,3 +1,4 @@
 pub mod Asked
 pub mod Wanted
 pub mod Last
+pub mod Few

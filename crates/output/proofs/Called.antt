@@ -20,8 +20,9 @@ use Rattle.readings.specs.Shape.{Shape, structure, list, map, strings, plan_of, 
 use Rattle.readings.specs.Structure.{structure_reading}
 use Rattle.readings.specs.Collection.{list_reading, string_list_reading, map_reading}
 use Rattle.readings.proofs.Laws.Bounds.{reading_small}
+use Rattle.readings.proofs.Plans.Bytes.{bytes_in, bytes_performed}
 use Rattle.output.specs.declared.Output.{Output as Buffers}
-use Rattle.output.specs.Held.{reading_of, Holds, Ends, Does, Begun}
+use Rattle.output.specs.Held.{reading_of, Holds, Ends, Does, Whole, Begun}
 use Rattle.output.specs.Call.{room_of, number_of, place_of, ReadingCall, ReadingPlace}
 
 -- what is written is only added to
@@ -77,6 +78,31 @@ module _ (e t : ℕ) where
   same_room end out h = refl
   same_room (stop r) out h = refl
 
+-- ---- nothing is written yet
+holds_nothing : {b : Buffers} → b.count ≡ 0 → b.used ≡ 0 → Holds nothing b.entries.now b.texts.now b
+unfolding numbers_of
+holds_nothing {b} c u =
+    record {
+      count = c;
+      used = u;
+      entries = sym (overwrite_none b.entries.now);
+      texts = sym (overwrite_none b.texts.now);
+      same_entries = refl;
+      same_texts = refl;
+      bytes = omega arith;
+    }
+
+-- a plan that comes to few bytes ends in the whole room
+module _ {p : Plan} {b b' : Buffers} {r : Result (Unit {0}) Refusal} (d : Does p b b' r) where
+  ends_whole : length (output (perform (room_of b.entries.now b.texts.now) p nothing)).texts < 2 ^ 32 → Whole p b b' r
+  ends_whole few =
+      record {
+        is = λ c u. rw (sym (same_room (length b.entries.now / 6) (length b.texts.now) p nothing few)) (d.is (holds_nothing c u));
+      }
+
+  pub does_whole : bytes_in p < 2 ^ 32 → Whole p b b' r
+  does_whole few = ends_whole (omega (arith, few, bytes_performed (room_of b.entries.now b.texts.now) p nothing))
+
 -- ---- the readings by a sheet
 reading_plan : (shape : Shape) (u : Upload) (call : Call) (room : Room)
     → read shape u call room ≡ perform room (plan_of shape u call) nothing
@@ -94,26 +120,13 @@ place_is : (r : Result (Unit {0}) Refusal) (out : Output) → outcome_place (rea
 place_is (Ok x) out = refl
 place_is (Err why) out = refl
 
-holds_nothing : {e t : MutBor (List ℕ)} {b : Buffers} → Begun e t b → Holds nothing e.now t.now b
-unfolding numbers_of
-holds_nothing {e} {t} z =
-    record {
-      count = z.count;
-      used = z.used;
-      entries = rw z.entries (sym (overwrite_none e.now));
-      texts = rw z.texts (sym (overwrite_none t.now));
-      same_entries = rw z.entries;
-      same_texts = rw z.texts;
-      bytes = omega arith;
-    }
-
 module _ (shape : Shape) (u : Upload) (call : Call) {e t : MutBor (List ℕ)} {b b' : Buffers} {r : Result (Unit {0}) Refusal}
     (z : Begun e t b) (d : Does (plan_of shape u call) b b' r) where
   ends : Ends (read shape u call (room_of e.now t.now)) e.now t.now b' r
   ends =
       let wide_plan = reading_plan shape u call (room_of e.now t.now) in
       let few = rw wide_plan at (reading_small shape u call (room_of e.now t.now)).texts in
-      rw (wide_plan ∙ sym (same_room (length e.now / 6) (length t.now) (plan_of shape u call) nothing few)) (d.is (holds_nothing z))
+      rw (wide_plan, ← z.entries, ← z.texts) ((ends_whole d (rw (z.entries, z.texts) few)).is z.count z.used)
 
   -- what a function left in the buffers is the reading in the room that was lent
   pub reading_called : ReadingCall (read shape u call) e.now t.now b'.entries.now b'.texts.now b'.count b'.used (number_of r)

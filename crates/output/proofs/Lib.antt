@@ -3,3 +3,4 @@ pub mod Groups
 pub mod Then
 pub mod Called
 pub mod Siblings
+pub mod Alone

@@ -199,7 +199,7 @@ entry_alone : (b : Bool) → pick b true false ≡ b
 entry_alone true = refl
 entry_alone false = refl
 
-alone : {n m : ℕ} (c : Bool) → n ≤ m → pick c (leb (n + 0) m) false ≡ c
+pub alone : {n m : ℕ} (c : Bool) → n ≤ m → pick c (leb (n + 0) m) false ≡ c
 alone {n} {m} c h = rw (le-leb (n + 0) m (omega (arith, h))) (entry_alone c)
 
 module _ {out : Output} {e t e' t' : List ℕ} {n m : ℕ} (h : HoldsAny out e t e' t' n m) (entry : ℕ → reading.Entry) where

@@ -5,7 +5,7 @@ use Rattle.std.proofs.lemmas.List.Edits.{sets}
 use Rattle.lists.specs.Tests.{pick}
 use Rattle.lists.specs.Overwrite.{overwritten}
 use Rattle.refusal.specs.declared.Refusal.{Refusal}
-use Rattle.readings.specs.Output.{Room, Output, Reading, finished, refused, output, numbers_of, six_numbers}
+use Rattle.readings.specs.Output.{Room, Output, nothing, Reading, finished, refused, output, numbers_of, six_numbers}
 use Rattle.readings.specs.Plan.{Plan, perform}
 use Rattle.output.specs.declared.entry.Entry.{Entry}
 use Rattle.output.specs.declared.Output.{Output as Buffers}
@@ -53,6 +53,11 @@ pub record Does (plan : Plan) (b b' : Buffers) (r : Result (Unit {0}) Refusal) :
       → Ends (perform (room_in (length e) (length t)) plan out) e t b' r
   pub same : SameBuffers b b'
 
+-- where nothing is written yet, its plan ends in the whole room that was lent
+pub record Whole (plan : Plan) (b b' : Buffers) (r : Result (Unit {0}) Refusal) : Type 0 where
+  pub is : b.count ≡ 0 → b.used ≡ 0
+      → Ends (perform (room_of b.entries.now b.texts.now) plan nothing) b.entries.now b.texts.now b' r
+
 -- ---- a function that asks no room for texts
 -- two buffers, which held e and t at first and hold e' and t', hold all of an output at their fronts; n and m count its entries and texts,
 -- however many bytes these are
@@ -76,6 +81,11 @@ pub record Enters (plan : Plan) (b b' : Buffers) (r : Result (Unit {0}) Refusal)
   pub is : (x : List ℕ) {e t : List ℕ} {out : Output} → HoldsAny out e t b.entries.now x b.count b.used
       → EndsAny (perform (room_of e t) plan out) e t b'.entries.now x b'.count b'.used r
   pub texts : b'.texts.now ≡ b.texts.now
+
+-- what is counted as written lies in the buffers, and its texts in places of 32 bits; so where nothing is written yet
+pub record Counted (b : Buffers) : Type 0 where
+  pub entries : b.count * 6 ≤ length b.entries.now
+  pub texts : b.used ≤ min (length b.texts.now) (2 ^ 32 - 1)
 
 -- nothing is written yet into two buffers
 pub record Begun (e t : MutBor (List ℕ)) (b : Buffers) : Type 0 where

@@ -7,7 +7,9 @@ pub mod Inside
 pub mod Find
 pub mod Siblings
 pub mod Fits
+pub mod Few
 pub mod Bounds
+pub mod Grouped
 pub mod Place
 pub mod Room
 pub mod Rising

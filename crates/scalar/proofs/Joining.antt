@@ -47,9 +47,9 @@ use Rattle.readings.specs.Scalar.{whole_text}
 use Rattle.decode.specs.declared.element.Element.{Element}
 use Rattle.decode.specs.declared.place.Cursor.{Cursor}
 use Rattle.decode.specs.declared.view.View.{View}
-use Rattle.decode.specs.Place.{At}
+use Rattle.decode.specs.Place.{At, toks_from}
 use Rattle.decode.specs.View.{view_of, ViewIs}
-use Rattle.decode.specs.Element.{toks_from, child_of, RootIs, ValueIs}
+use Rattle.decode.specs.Element.{child_of, RootIs, ValueIs}
 use Rattle.decode.proofs.Known.{toks_next, toks_none, open_low}
 use Rattle.decode.proofs.Skipping.{depth_here}
 use Rattle.decode.proofs.Texts.{passed}

@@ -9,9 +9,9 @@ use Rattle.document.specs.Text.{joined, string_in}
 use Rattle.document.specs.Part.{text_at}
 use Rattle.decode.specs.declared.element.Element.{Element}
 use Rattle.decode.specs.declared.place.Cursor.{Cursor}
-use Rattle.decode.specs.Place.{At}
+use Rattle.decode.specs.Place.{At, toks_from}
 use Rattle.decode.specs.View.{view_of}
-use Rattle.decode.specs.Element.{child_of, toks_from}
+use Rattle.decode.specs.Element.{child_of}
 
 -- the texts directly in an element, from a place on; one that ended in `/>` has none
 unfoldable pub texts_from : Element → Cursor → Answer (List ℕ)

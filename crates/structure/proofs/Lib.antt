@@ -4,3 +4,4 @@ pub mod Gathering
 pub mod Taking
 pub mod Ending
 pub mod Whole
+pub mod Few

@@ -6,7 +6,7 @@
 ghost use Rattle.std.specs.Prelude.{◌*◌, ◌≤◌, length};
 ghost use Rattle.readings.specs.Structure.{members_plan, opened_plan};
 ghost use Rattle.codec.specs.Structure.{structure_said};
-ghost use Rattle.output.specs.Held.{Does};
+ghost use Rattle.output.specs.Held.{Does, Whole};
 ghost use Rattle.opening.specs.Opening.{asked_of, body_of, opened_of};
 ghost use Rattle.structure.specs.Structure.{root_or_members};
 
@@ -90,7 +90,10 @@ pub fn read_struct(
     depth: ShapeDepth,
     out: &mut Output,
 ) -> Result<(), Refusal>
-    ensures { Does (opened_plan (body_of root.now) settings depth (asked_of (structure_said sheet.now) root.now)) out.old out.new result }
+    ensures does { Does (opened_plan (body_of root.now) settings depth (asked_of (structure_said sheet.now) root.now)) out.old out.new
+        result }
+    ensures whole { Whole (opened_plan (body_of root.now) settings depth (asked_of (structure_said sheet.now) root.now)) out.old out.new
+        result }
 {
     if settings.tests_root_name(depth) && !root.matches(Pattern::new(sheet.root_name())) {
         return Err(Refusal::RootName);

@@ -20,7 +20,7 @@ pub enum Kind {
 }
 
 impl Kind {
-    ghost use Rattle.table.specs.Kinds.{IsKind, kind_number};
+    ghost use Rattle.table.specs.Kinds.{DepthIs, IsKind, kind_number};
 
     // The kind of a number, if it is one's.
     pub fn of(number: u32) -> Option<Kind>
@@ -95,15 +95,24 @@ impl Kind {
         matches!(self, Kind::Misc | Kind::Error)
     }
 
-    // How many elements are open after a row of it, where n are before it: one that starts an element needs room for one more.
+    // How many elements are open after a row of it that starts none, where n are before it.
+    pub fn depth_after(self, n: usize) -> usize
+        ensures { DepthIs (kind_number self) n result }
+    {
+        match self {
+            Kind::Close | Kind::Slash => n.saturating_sub(1),
+            _ => n,
+        }
+    }
+
+    // The same of any row: one that starts an element needs room for one more.
     pub fn open_after(self, n: usize) -> usize
         requires { kind_number self ≡ 1 → n + 1 < 2 ^ 64 }
         ensures { result ≡ open_count n (kind_number self) }
     {
         match self {
             Kind::Start => n + 1,
-            Kind::Close | Kind::Slash => n.saturating_sub(1),
-            _ => n,
+            _ => self.depth_after(n),
         }
     }
 }

@@ -37,6 +37,7 @@ pub struct Row {
 
 impl Row {
     ghost use Rattle.table.specs.Held.{row_is};
+    ghost use Rattle.table.specs.Kinds.{DepthIs};
 
     // Row k of a table.
     pub fn at(rows: &[u32], k: usize) -> Row
@@ -69,7 +70,17 @@ impl Row {
         Kind::of(self.kind).is_some_and(|kind| kind.uses_name())
     }
 
-    // How many elements are open after it, where n are before it: a number that is no kind leaves them as they are.
+    // How many elements are open after it if it starts none, where n are before it: a number that is no kind leaves them as they are.
+    pub fn depth_after(self, n: usize) -> usize
+        ensures { DepthIs self.kind n result }
+    {
+        match Kind::of(self.kind) {
+            Some(kind) => kind.depth_after(n),
+            None => n,
+        }
+    }
+
+    // The same of any row: one that starts an element needs room for one more.
     pub fn open_after(self, n: usize) -> usize
         requires { self.kind ≡ 1 → n + 1 < 2 ^ 64 }
         ensures { result ≡ open_count n self.kind }

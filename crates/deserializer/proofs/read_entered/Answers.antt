@@ -34,23 +34,23 @@ pub returns-in_ok-sheet-in-Struct : goal.returns-in_ok-sheet-in-Struct
 returns-in_ok-sheet-in-Struct c =
     as_shape _ _ c.in-Struct.is (struct_read c.args.table c.args.bytes.now c.args.settings c.args.depth c.args.entered
     c.is_strict-strict.result c.requires
-    c.is_strict-strict.ensures c.parse.result c.parse.ensures c.in_ok-sheet-in-Struct.ensures c.read_struct.ensures)
+    c.is_strict-strict.ensures c.parse.result c.parse.ensures c.in_ok-sheet-in-Struct.ensures c.read_struct.ensures.does)
 
 pub returns-in_ok-sheet-in-List : goal.returns-in_ok-sheet-in-List
 returns-in_ok-sheet-in-List c =
     as_shape _ _ c.in-List.is (list_read c.args.table c.args.bytes.now c.args.settings c.args.depth c.args.entered
     c.is_strict-strict.result c.requires
-    c.is_strict-strict.ensures c.parse-in-List.result c.parse-in-List.ensures c.in_ok-sheet-in-List.ensures c.read_list.ensures)
+    c.is_strict-strict.ensures c.parse-in-List.result c.parse-in-List.ensures c.in_ok-sheet-in-List.ensures c.read_list.ensures.does)
 
 pub returns-in_ok-sheet-in-Map : goal.returns-in_ok-sheet-in-Map
 returns-in_ok-sheet-in-Map c =
     as_shape _ _ c.in-Map.is (map_read c.args.table c.args.bytes.now c.args.settings c.args.depth c.args.entered c.is_strict-strict.result
     c.requires
-    c.is_strict-strict.ensures c.parse-in-Map.result c.parse-in-Map.ensures c.in_ok-sheet-in-Map.ensures c.read_map.ensures)
+    c.is_strict-strict.ensures c.parse-in-Map.result c.parse-in-Map.ensures c.in_ok-sheet-in-Map.ensures c.read_map.ensures.does)
 
 pub returns-in_ok-sheet-in-StringList : goal.returns-in_ok-sheet-in-StringList
 returns-in_ok-sheet-in-StringList c =
     as_shape _ _ c.in-StringList.is (strings_read c.args.table c.args.bytes.now c.args.settings c.args.depth c.args.entered
     c.is_strict-strict.result
     c.requires c.is_strict-strict.ensures c.parse-in-StringList.result c.parse-in-StringList.ensures c.in_ok-sheet-in-StringList.ensures
-    c.read_string_list.ensures)
+    c.read_string_list.ensures.does)

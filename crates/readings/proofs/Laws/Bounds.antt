@@ -1,26 +1,22 @@
 -- How much is written, on every input: the texts of a reading are shorter than 2 ^ 32 bytes, the spans of its entries lie in the text
 -- buffer or in the body, and each number of an entry is below 2 ^ 32.
 use Prim.Native.Nat.{ℕ, zero, suc, ◌+◌, ◌^◌, ◌≤◌, ◌<◌}
-use mathlib.Core.Path.{◌≡◌, refl, sym, ap, subst}
+use mathlib.Core.Path.{◌≡◌, refl, ap}
 use mathlib.Core.Bool.{Bool, true, false}
 use mathlib.Core.List.{List, [], ◌∷◌}
-use mathlib.Core.Option.{Option, none, some}
+use mathlib.Core.Option.{none, some}
 use native.Mathlib.Omega.{arith}
-use lib.ListN.{length, length-map, length-take, drop}
+use lib.ListN.{length, length-map, length-take}
 use Rattle.lists.specs.Every.{Every, none, and}
 use Rattle.lists.proofs.Every.{every_map}
 use Rattle.lists.specs.Tests.{pick}
-use Rattle.refusal.specs.Answer.{Answer, gives}
 use Rattle.table.specs.Row.{rows_of, tok_of, toks_of}
-use Rattle.table.specs.Rules.{most_rows, most_bytes}
+use Rattle.table.specs.Rules.{most_bytes}
 use Rattle.table.specs.Names.{name_matches}
 use Rattle.document.specs.Reader.{Attribute}
-use Rattle.document.specs.Scope.{children_of, dropping}
-use Rattle.document.proofs.Laws.Fuel.{dropping_shortens}
 use Rattle.document.proofs.Laws.Placed.{Placed}
 use Rattle.document.proofs.Laws.Inside.{piece_inside}
-use Rattle.document.proofs.Laws.Short.{ShortValue, values_short, ShortAttribute, root_attributes_short, ShortText, short_text, no_text}
-use Rattle.document.proofs.Laws.Short.{text_short, few_inside}
+use Rattle.document.proofs.Laws.Short.{values_short, ShortAttribute, root_attributes_short}
 use Rattle.sheet.specs.Sheet.{most_members, Member, Structure, structure_of}
 use Rattle.sheet.specs.Names.{indexed, entry_name}
 use Rattle.sheet.proofs.Limits.{few_members_lem}
@@ -29,15 +25,13 @@ use Rattle.readings.specs.Output.{Entry, Room, Output, nothing, output}
 use Rattle.readings.specs.Plan.{perform}
 use Rattle.readings.specs.Opening.{Opened, Asked}
 use Rattle.readings.specs.Structure.{attribute_of}
-use Rattle.readings.specs.Collection.{after_entry, entries_of}
-use Rattle.readings.proofs.Conditions.Answers.{given_refused, gives_same}
 use Rattle.readings.proofs.Conditions.Opening.{OpenedAs, AskedAs}
 use Rattle.readings.proofs.Conditions.Place.{text_tells, told_within}
 use Rattle.readings.specs.Shape.{Shape, structure, list, map, strings, SheetOf, sheet_of, read}
-use Rattle.readings.proofs.Laws.Fuel.{after_entry_shortens}
 use Rattle.readings.proofs.Laws.Members.{index_below}
 use Rattle.readings.proofs.Laws.Siblings.{group_short}
 use Rattle.readings.proofs.Laws.Inside.{root_piece_inside}
+use Rattle.readings.proofs.Laws.Few.{FewIn, few_sources, few_kids, few_entries}
 use Rattle.readings.proofs.Laws.Fits.{EntryFits, Fits, FewBytes, PlaceFits, PieceFits, fits_kept}
 use Rattle.readings.proofs.Plans.Readings.{most_entries, output_carried, may_stop, plan_made, asked_plan}
 use Rattle.readings.proofs.Plans.Made.{made_kept}
@@ -45,12 +39,7 @@ use Rattle.readings.proofs.Plans.Sources.{Sources, StructureSources, ShapeSource
 use Rattle.readings.proofs.Plans.Placed.{OpenedIn, opened_in, placed_sources}
 
 -- ---- what there is to be written
-every_dropped : {A : Type 0} {P : A → Type 0} (k : ℕ) {l : List A} → Every P l → Every P (drop k l)
-every_dropped zero e = e
-every_dropped (suc k) none = none
-every_dropped (suc k) (and p e) = every_dropped k e
-
-attribute_short : {most : ℕ} {l : List Attribute} → Every (ShortAttribute most) l → (key v : List ℕ) → attribute_of l key ≡ some v
+pub attribute_short : {most : ℕ} {l : List Attribute} → Every (ShortAttribute most) l → (key v : List ℕ) → attribute_of l key ≡ some v
     → length v ≤ most
 unfolding attribute_of
 attribute_short none key v e = let z : ◌≡◌ {A = ℕ} 0 1 = cc in absurd (omega arith)
@@ -61,43 +50,27 @@ attribute_short {most} (and {x = a} {l = l} h w) key v e = go (name_matches a.na
     go true e ih = let q : a.value ≡ v = cc in rw (← q) h
     go false e ih = ih e
 
-given_short : {most : ℕ} {a : Answer (List ℕ)} → ShortText most a → (b : List ℕ) → a ≡ gives b → length b ≤ most
-given_short {most} (short_text h) b e = subst (FewBytes most) (gives_same e) h
-given_short no_text b e = given_refused (sym e)
-
 module _ {u : Upload} {strict : Bool} {o : Opened} (w : OpenedAs u strict o) where
   seen : OpenedIn u o
   seen = opened_in w
 
-  few_bytes_lem : length u.body ≤ most_bytes
-  few_bytes_lem = w.rules.rules.few_bytes
-
-  values : Every (ShortValue (length u.body)) (toks_of u.body o.seen.rows)
-  values = values_short u.body o.seen.rows
+  -- the rules of its table bound the rows and the body
+  few_in : FewIn u.body o
+  few_in =
+      let v = seen.view in
+      let taken : length o.seen.rows ≤ length (rows_of u.rows) =
+      rw v.front (omega (arith, length-take v.count (rows_of u.rows))) in
+      record {
+        root = seen.root.inner.at;
+        rows = omega (arith, seen.root.inner.rows, length-map o.seen.rows (tok_of u.body), taken, w.rules.rules.few_rows);
+        bytes = w.rules.rules.few_bytes;
+      }
 
   fits_sources :
       Sources (Placed (toks_of u.body o.seen.rows)) (FewBytes most_bytes) (PlaceFits u.body) (PieceFits u.body) u.body o
   fits_sources =
-      placed_sources seen
-      (λ c h b e. omega (
-        arith,
-        few_bytes_lem,
-        given_short (text_short (length u.body) o.seen c (rw h.inner.at at (every_dropped c.inner.row values))) b
-            e,
-      ))
-      (λ c h r e. told_within u r (text_tells u w c h r e)) (λ c h. (piece_inside seen.view c h).within)
-
-  -- the rows bound the children
-  few_rows_lem : length o.root.inner.rest ≤ most_rows
-  few_rows_lem =
-      let v = seen.view in
-      let taken : length o.seen.rows ≤ length (rows_of u.rows) =
-      rw v.front (omega (arith, length-take v.count (rows_of u.rows))) in
-      omega (arith, seen.root.inner.rows, length-map o.seen.rows (tok_of u.body), taken, w.rules.rules.few_rows)
-
-  few_kids : length (children_of o.root) ≤ most_rows
-  unfolding children_of
-  few_kids = omega (arith, few_inside dropping dropping_shortens o.root, few_rows_lem)
+      placed_sources seen (λ c h. (few_sources few_in).text c h.inner.at) (λ c h r e. told_within u r (text_tells u w c h r e))
+      (λ c h. (piece_inside seen.view c h).within)
 
   fits_structure : (sheet : List ℕ) {s : Structure} → structure_of sheet ≡ some s
       → StructureSources (λ (i : ℕ). i < most_members) (FewBytes most_bytes) (λ (i : ℕ). FewBytes (most_bytes + 17)) (PieceFits u.body)
@@ -107,17 +80,14 @@ module _ {u : Upload} {strict : Bool} {o : Opened} (w : OpenedAs u strict o) whe
         member = λ m i. omega (arith, index_below zero s.members m i, few_members_lem sheet s says);
         attribute = λ key v e. omega (
           arith,
-          few_bytes_lem,
-          attribute_short (root_attributes_short (length u.body) (toks_of u.body o.seen.rows) values o.root w.root) key v
+          few_in.bytes,
+          attribute_short
+              (root_attributes_short (length u.body) (toks_of u.body o.seen.rows) (values_short u.body o.seen.rows) o.root w.root) key v
               e,
         );
-        group = λ i. omega (arith, few_bytes_lem, group_short seen.view s i o.root seen.root);
+        group = λ i. omega (arith, few_in.bytes, group_short seen.view s i o.root seen.root);
         root = (root_piece_inside seen).within;
       }
-
-  few_entries : (name : Option (List ℕ)) → length (entries_of name o.root) ≤ most_rows
-  unfolding entries_of
-  few_entries name = omega (arith, few_inside (after_entry name) (after_entry_shortens name) o.root, few_rows_lem)
 
 -- ---- THE LAW
 -- the numbers of an entry
@@ -163,7 +133,7 @@ steps_small body n out few h w =
     let t : length out.texts < 2 ^ 32 = omega (arith, w.texts, h) in
     record { texts = t; spans = w.each; numbers = every_map (entry_small body (length out.texts) t few) w.each }
 
-length_indexed : (i : ℕ) (l : List Member) → length (indexed i l) ≡ length l
+pub length_indexed : (i : ℕ) (l : List Member) → length (indexed i l) ≡ length l
 unfolding indexed
 length_indexed i [] = refl
 length_indexed i (m ∷ l) = ap suc (length_indexed (suc i) l)
@@ -174,10 +144,10 @@ module _ (u : Upload) (call : Call) where
       → AskedAs u (sheet_of shape call.sheet) call.settings call.depth a
       → most_entries call.settings shape a ≤ 8321
   few_writes structure a w =
-      omega (arith, few_members_lem call.sheet a.sheet w.says, length_indexed zero a.sheet.members, few_kids w.begun)
-  few_writes list a w = omega (arith, few_kids w.begun)
-  few_writes map a w = omega (arith, few_entries w.begun (entry_name call.settings a.sheet))
-  few_writes strings a w = omega (arith, few_kids w.begun)
+      omega (arith, few_members_lem call.sheet a.sheet w.says, length_indexed zero a.sheet.members, few_kids (few_in w.begun))
+  few_writes list a w = omega (arith, few_kids (few_in w.begun))
+  few_writes map a w = omega (arith, few_entries (few_in w.begun) (entry_name call.settings a.sheet))
+  few_writes strings a w = omega (arith, few_kids (few_in w.begun))
 
   fits_shape : (shape : Shape) (a : Asked (SheetOf shape))
       → AskedAs u (sheet_of shape call.sheet) call.settings call.depth a
@@ -193,7 +163,7 @@ pub reading_small : (shape : Shape) (u : Upload) (call : Call) (room : Room)
 reading_small shape u call room =
     output_carried u call room shape (Small u.body) (none_small u.body) (λ a w.
     steps_small u.body (most_entries call.settings shape a)
-    (output (perform room (asked_plan shape u.body call.settings call.depth a) nothing)) (few_bytes_lem w.begun)
+    (output (perform room (asked_plan shape u.body call.settings call.depth a) nothing)) (few_in w.begun).bytes
     (few_writes u call shape a w)
     (made_kept (fits_kept u.body room)
     (plan_made call.settings call.depth shape a (fits_sources w.begun) (fits_shape u call shape a w)

@@ -41,6 +41,22 @@ dropped_leaves_none c e = go c.start.closed e
     go true e = false_true (sym e)
     go false e = skip_leaves_none (scope_of c.start) c.inner.depth c.inner.row c.inner.rest e
 
+-- a group: its siblings, and 17 bytes around them
+pub group_length : (body : List ℕ) (v : View) (s : Structure) (l : List Child) (i : ℕ)
+    → length (group_of body v s l i) ≡ length (siblings body v s i l) + 17
+unfolding group_of
+group_length body v s l i =
+    let x = siblings body v s i l in
+    let front : length (ascii "<__flat>") ≡ 8 = refl in
+    let back : length (ascii "</__flat>") ≡ 9 = refl in
+    omega (
+      arith,
+      length-append (ascii "<__flat>") (x ++ ascii "</__flat>"),
+      length-append x (ascii "</__flat>"),
+      front,
+      back,
+    )
+
 module _ {body : List ℕ} {rows : List Row} {final : ℕ} {v : View} (w : ViewIn body rows final v) (s : Structure) (i : ℕ) where
   -- where the rows before row k end
   abbrev up_to : ℕ → ℕ
@@ -119,18 +135,5 @@ module _ {body : List ℕ} {rows : List Row} {final : ℕ} {v : View} (w : ViewI
       (level (suc (length c.inner.rest)) dropping (scope_of c.start) c.inner)
       (omega arith) (omega (arith, inside, w.ends, w.within))
 
-  -- a group: its siblings, and 17 bytes around them
   pub group_short : (c : Child) → Placed (toks_of body v.rows) c → length (group_of body v s (children_of c) i) ≤ length body + 17
-  unfolding group_of
-  group_short c p =
-      let x = siblings body v s i (children_of c) in
-      let front : length (ascii "<__flat>") ≡ 8 = refl in
-      let back : length (ascii "</__flat>") ≡ 9 = refl in
-      omega (
-        arith,
-        length-append (ascii "<__flat>") (x ++ ascii "</__flat>"),
-        length-append x (ascii "</__flat>"),
-        front,
-        back,
-        siblings_short c p,
-      )
+  group_short c p = omega (arith, group_length body v s (children_of c) i, siblings_short c p)

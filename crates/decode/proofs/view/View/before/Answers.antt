@@ -1,6 +1,6 @@
 use Rattle.std.proofs.Common.{refl, ◌∙◌}
 use Rattle.decode.proofs.Causes.{cause_fits}
-use Rattle.decode.proofs.Views.{ill_seen, position_low, view_ill, seen_of, ruled_of, within_of, small_of, few_of}
+use Rattle.decode.proofs.Views.{ill_seen, position_low, view_ill, seen_of, sees_of, within_of, small_of, few_of}
 use Rattle.decode.proofs.view.View.before.Goals as goal
 
 pub overflow_cast-at : goal.overflow_cast-at
@@ -16,7 +16,7 @@ invariant_of-result c =
     let h = ill_seen c.args.table c.requires in
     record {
       seen = seen_of c.args.table f g _ h;
-      ruled = ruled_of c.args.table f g _ h;
+      sees = sees_of c.args.table f g _ h;
       within = within_of c.args.table f g _ h (rw c.position_at-ends.ensures (position_low c.args.table.obeys c.args.row));
       small = small_of c.args.table f g _ h;
       few = few_of c.args.table f g _ h;

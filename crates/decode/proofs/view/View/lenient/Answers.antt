@@ -2,7 +2,7 @@ use Rattle.std.proofs.Common.{◌-◌, refl, sym, ◌∙◌, ap}
 use Rattle.table.specs.declared.kinds.Kind.{Kind}
 use Rattle.decode.proofs.Known.{kind_same}
 use Rattle.table.proofs.Valid.{end_within}
-use Rattle.decode.proofs.Views.{lenient_none, lenient_error, lenient_whole, last_seen, seen_of, ruled_of, within_of, small_of, few_of}
+use Rattle.decode.proofs.Views.{lenient_none, lenient_error, lenient_whole, last_seen, seen_of, sees_of, within_of, small_of, few_of}
 use Rattle.decode.proofs.view.View.lenient.Goals as goal
 
 pub returns-then-n-eq0 : goal.returns-then-n-eq0
@@ -15,7 +15,7 @@ invariant_of-result c =
     let h = last_seen c.args.table c.len-n.ensures in
     record {
       seen = seen_of c.args.table f g _ h;
-      ruled = ruled_of c.args.table f g _ h;
+      sees = sees_of c.args.table f g _ h;
       within = within_of c.args.table f g _ h (end_within c.args.table.obeys);
       small = small_of c.args.table f g _ h;
       few = few_of c.args.table f g _ h;

@@ -1,6 +1,6 @@
 use Rattle.std.proofs.Common.{refl, ◌∙◌}
 use Rattle.table.proofs.Valid.{end_within}
-use Rattle.decode.proofs.Views.{whole_is, whole_seen, seen_of, ruled_of, within_of, small_of, few_of}
+use Rattle.decode.proofs.Views.{whole_is, whole_seen, seen_of, sees_of, within_of, small_of, few_of}
 use Rattle.decode.proofs.view.View.whole.Goals as goal
 
 pub invariant_of-result : goal.invariant_of-result
@@ -10,7 +10,7 @@ invariant_of-result c =
     let h = whole_seen c.args.table c.len.ensures in
     record {
       seen = seen_of c.args.table f g _ h;
-      ruled = ruled_of c.args.table f g _ h;
+      sees = sees_of c.args.table f g _ h;
       within = within_of c.args.table f g _ h (end_within c.args.table.obeys);
       small = small_of c.args.table f g _ h;
       few = few_of c.args.table f g _ h;

@@ -1,6 +1,0 @@
-use Rattle.std.proofs.Common.{◌≡◌, ℕ, ◌<◌, true}
-use Rattle.decode.specs.Element.{good_attribute}
-use Rattle.decode.proofs.view.View.tag_end.Given as goal
-
-abbrev pub invariant-loop-k : goal.invariant-loop-k
-invariant-loop-k l = (j : ℕ) → l.i < j → j < l.k → good_attribute l.self.table.body.now l.self.table.rows.now j ≡ true
