@@ -64,11 +64,11 @@ named_by false true b s m r e =
 named_by false false b s m r e = rw (← front_value e)
 
 -- what is left after it
-abbrev rest_of : Front Member → List ℕ
+abbrev pub rest_of : Front Member → List ℕ
 rest_of (front m rest) = rest
 rest_of broken = []
 
-fronted : (x : Front Member) → is_front x ≡ true → x ≡ front (member_of x) (rest_of x)
+pub fronted : (x : Front Member) → is_front x ≡ true → x ≡ front (member_of x) (rest_of x)
 fronted (front m rest) e = refl
 fronted broken e = false_true e
 

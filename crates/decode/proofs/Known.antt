@@ -28,8 +28,9 @@ use Rattle.document.specs.Reader.{depth, depth_after, Scope, ends_at}
 use Rattle.document.specs.Tags.{may_stand, in_tag_after, Tags, no_token, token}
 use Rattle.document.proofs.Laws.Tags.{rows_tags}
 use Rattle.decode.specs.declared.place.Cursor.{Cursor}
+use Rattle.decode.specs.declared.place.Past.{Past}
 use Rattle.decode.specs.Seen.{Sees}
-use Rattle.decode.specs.Place.{toks_from, At, Tagged, Outside, at_first}
+use Rattle.decode.specs.Place.{toks_from, At, Tagged, Outside, OutOfTag, EndedAt, at_first}
 
 -- ---- rows by number
 pub take_rows : (t : List ℕ) (s k m : ℕ) → k ≤ m → take k (rows_from t s m) ≡ rows_from t s k
@@ -185,7 +186,7 @@ outside s = record { at = record { high = s.high; low = s.low }; tags = ∣ s.ta
 pub tagged : {body t : List ℕ} {n : ℕ} {c : Cursor} → Outside body t n c → Tagged body t n c
 tagged o = record { at = o.at; in_tag = false; tags = tags_of o.tags }
 
--- where the first row stands outside of start tags, they are in order from each place on
+-- start tags are in order from each later place on, and from each place of all where they are from the first
 tagged_from : (body t : List ℕ) (n m s : ℕ) {b : Bool} → Tags b (toks_from body t n s) → s + m ≤ n
     → (c : Cursor) → At n c → c.row ≡ s + m → Tagged body t n c
 tagged_from body t n zero s {b} g h c a e =
@@ -194,8 +195,12 @@ tagged_from body t n (suc m) s {b} g h c a e =
     let z : c.row ≡ suc s + m = omega (arith, e) in
     tagged_from body t n m (suc s) (rw (add-one s) at (tags_next body t n s g (omega arith)).1) (omega arith) c a z
 
+pub tagged_later : {body t : List ℕ} {n : ℕ} {s : Cursor} → Outside body t n s → (c : Cursor) → At n c → s.row ≤ c.row → Tagged body t n c
+tagged_later {body} {t} {n} {s} o c a h =
+    tagged_from body t n (c.row - s.row) s.row (tags_of o.tags) (omega (arith, h, a.high)) c a (omega (arith, h))
+
 pub tagged_anywhere : {body t : List ℕ} {n : ℕ} → Outside body t n at_first → (c : Cursor) → At n c → Tagged body t n c
-tagged_anywhere {body} {t} {n} o c a = tagged_from body t n c.row 0 (tags_of o.tags) (omega (arith, a.high)) c a (omega arith)
+tagged_anywhere o c a = tagged_later o c a (omega arith)
 
 -- ---- a token error is the last row
 -- one in a start tag that is of no kind that comes in one alone is a token error
@@ -243,3 +248,34 @@ outside_by_kind {body} {t} {n} q {c} o out = record { at = o.at; tags = ∣ go o
     go : (b : Bool) → Tags b (toks_from body t n c.row) → Tags false (toks_from body t n c.row)
     go false g = g
     go true g = more (leb (c.row + 1) n) refl g
+
+-- ---- the same by the next row alone
+out_of_kind : {m : Name} {v : List ℕ} {kind : ℕ} {u : Tok} → Kind m v kind u → may_stand u false ≡ true → in_tag_only kind ≡ false
+out_of_kind of_start e = refl
+out_of_kind of_attr e = false_true e
+out_of_kind of_gt e = false_true e
+out_of_kind of_close e = refl
+out_of_kind of_slash e = false_true e
+out_of_kind (of_matter w) e = w.loose.in_tag
+out_of_kind (of_error w) e = w.loose.in_tag
+
+pub out_of_tag : {body t : List ℕ} {n : ℕ} {c : Cursor} → Outside body t n c → OutOfTag t n c
+out_of_tag {body} {t} {n} {c} o =
+    record {
+      at = o.at;
+      out = λ h. let kind = kind_of_lem (get_or t (c.row * 8 + 0) 0) (name_at body t c.row) (value_at body t c.row) in
+          out_of_kind kind (tags_next body t n c.row (tags_of o.tags) h).0;
+    }
+
+-- it is enough after a place that is outside of start tags
+pub outside_later : {body t : List ℕ} {n : ℕ} → Sees body t n → {s c : Cursor} → Outside body t n s → s.row ≤ c.row → OutOfTag t n c
+    → Outside body t n c
+outside_later q {s} {c} o h x = outside_by_kind q (tagged_later o c x.at h) x.out
+
+-- and at any place of rows that can be walked
+module _ {body t : List ℕ} (w : Walkable body t) (n : ℕ) (h : n * 8 ≤ length t) where
+  pub outside_walked : {c : Cursor} → OutOfTag t n c → Outside body t n c
+  outside_walked {c} x = outside_later (sees w n h) (fresh w n h) (omega arith) x
+
+  pub ended_walked : {p : Past} → At n p.at → (p.ended ≡ true → OutOfTag t n p.at) → EndedAt body t n p
+  ended_walked {p} a out = record { at = tagged_anywhere (fresh w n h) p.at a; out = λ e. outside_walked (out e) }

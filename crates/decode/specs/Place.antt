@@ -3,6 +3,7 @@ use Rattle.std.specs.Prelude.{ℕ, ◌+◌, ◌-◌, ◌*◌, ◌≤◌, ◌<◌
 use Rattle.reference.specs.Text.{Out, bytes, unescaped}
 use Rattle.reference.specs.Text as ref
 use Rattle.table.specs.Row.{Tok, toks_of}
+use Rattle.table.specs.Rules.{in_tag_only}
 use Rattle.table.specs.Flat.{rows_from}
 use Rattle.table.specs.Rows.{InTable, value_at}
 use Rattle.document.specs.Reader.{depth}
@@ -49,6 +50,11 @@ pub record Tagged (body t : List ℕ) (n : ℕ) (c : Cursor) : Type 0 where
 pub record Outside (body t : List ℕ) (n : ℕ) (c : Cursor) : Type 0 where
   pub at : At n c
   pub tags : ∥ Tags false (toks_from body t n c.row) ∥₁
+
+-- of its next row alone: there is none of a kind that comes in a start tag alone
+pub record OutOfTag (t : List ℕ) (n : ℕ) (c : Cursor) : Type 0 where
+  pub at : At n c
+  pub out : c.row < n → in_tag_only (get_or t (c.row * 8 + 0) 0) ≡ false
 
 -- the first place of all
 abbrev pub at_first : Cursor

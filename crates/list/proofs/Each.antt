@@ -21,6 +21,7 @@ use Rattle.decode.specs.Place.{Outside}
 use Rattle.decode.specs.View.{view_of}
 use Rattle.decode.specs.Reader.{start_at}
 use Rattle.decode.specs.Element.{child_of, reader_of, past_of, FoundAt, NextIs}
+use Rattle.decode.proofs.Known.{outside_later}
 use Rattle.output.specs.declared.Output.{Output}
 use Rattle.output.specs.Held.{Does}
 use Rattle.output.proofs.Then.{does_as, Midway, midway_start, midway_ends, midway_goes, midway_stops}
@@ -40,6 +41,11 @@ module _ (after : Child → Reader) (short : Shortens after) (el : StartEl) wher
   turn : (b : Bool) (r : Reader) {x : Next} → first b r ≡ x → level_at b r ≡ on_next after (level_at b) x
   turn true r e = ap (on_next after (level_at true)) e
   turn false r e = level_step after short (scope_of el) r ∙ ap (on_next after (level_from after (scope_of el))) e
+
+-- ---- where the reader stands after a child, start tags are in order
+pub outside_stands : {meant : Reader} {e : Element} {c : Cursor} → StandsAt meant e c
+    → Outside e.view.table.body.now e.view.table.rows.now e.view.count c
+outside_stands {e = e} s = outside_later e.view.sees e.outside s.later s.stands
 
 -- ---- as the code meets them: those of `scope` are still to come
 abbrev pub child_at : View → Start → Cursor → Child
@@ -112,7 +118,7 @@ module _ (plan : List ℕ → Seen → Child → Plan) (after : Child → Reader
             omega (arith, m.since, s.low, s.high, m.past, r.later, ap (λ (v : View). v.count) in_root)
 
         pub children_stands : Outside root.view.table.body.now root.view.table.rows.now root.view.count c
-        children_stands = rw in_root at x.reached.stands
+        children_stands = rw in_root at (outside_stands {meant = after (child_of child)} {e = child} x.reached)
 
         pub children_on : {next : Element} → FoundAt root.view root.start c next → ChildrenAt next b b₂
         children_on {next} m =

@@ -30,6 +30,7 @@ use Rattle.decode.specs.declared.place.Cursor.{Cursor}
 use Rattle.decode.specs.declared.element.Element.{Element}
 use Rattle.decode.specs.View.{view_of}
 use Rattle.decode.specs.Element.{child_of, DroppedIs, PieceIs}
+use Rattle.decode.proofs.Known.{out_of_tag}
 use Rattle.output.specs.declared.Output.{Output}
 use Rattle.output.specs.Plans.{put_piece, put_text, text_or}
 use Rattle.output.specs.Held.{Does, Whole, Enters, Counted}
@@ -44,7 +45,7 @@ use Rattle.list.specs.Children.{StandsAt, ChildRead, each_plan, all_plan}
 
 -- ---- where the reader stands after a child that is dropped
 pub stands_dropped : (e : Element) {p : Past} → DroppedIs e p → StandsAt (dropping (child_of e)) e p.at
-stands_dropped e d = record { is = ap (λ (q : doc.Past). q.reader) d.is; stands = d.stands; later = d.later }
+stands_dropped e d = record { is = ap (λ (q : doc.Past). q.reader) d.is; stands = out_of_tag d.stands; later = d.later }
 
 text_same : (a : Answer (List ℕ)) → text_plan a ≡ text_or 0 a
 text_same (gives l) = refl

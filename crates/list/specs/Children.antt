@@ -7,7 +7,7 @@ use Rattle.document.specs.Scope.{Child, children, level_in}
 use Rattle.readings.specs.Plan.{Plan, followed_by, one_by_one, end_test}
 use Rattle.decode.specs.declared.place.Cursor.{Cursor}
 use Rattle.decode.specs.declared.element.Element.{Element}
-use Rattle.decode.specs.Place.{Outside}
+use Rattle.decode.specs.Place.{OutOfTag}
 use Rattle.decode.specs.View.{view_of}
 use Rattle.decode.specs.Element.{child_of, reader_of}
 use Rattle.output.specs.declared.Output.{Output}
@@ -15,10 +15,11 @@ use Rattle.output.specs.Held.{Does, done}
 use Rattle.opening.specs.Opening.{body_of}
 
 -- ---- one child
--- the reader that is meant, at a place no earlier than the element's content
+-- the reader that is meant, at a place no earlier than the element's content, and outside of start tags: of a place no earlier the kind of
+-- the next row says so
 pub record StandsAt (meant : Reader) (e : Element) (c : Cursor) : Type 0 where
   pub is : reader_of e.view c ≡ meant
-  pub stands : Outside e.view.table.body.now e.view.table.rows.now e.view.count c
+  pub stands : OutOfTag e.view.table.rows.now e.view.count c
   pub later : e.at.row ≤ c.row
 
 abbrev pub Reached : Reader → Element → Result Cursor Refusal → Type 0

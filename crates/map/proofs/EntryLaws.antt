@@ -56,7 +56,7 @@ module _ (m : MapSheet) (name : Option Pattern) (e : Element) where
 
     module _ {b b' : Output} {r : Read} (x : FieldsRead m e (Ok r)) where
       pub entry_done : Does (fields_plan (key_of r.fields.key) (value_of r.fields.value)) b b' (Ok tt) → EntryRead b b' (Ok r.at)
-      entry_done d = record { does = does_as (entry_is x) d; reached = rw after_is x.left }
+      entry_done d = record { does = does_as (entry_is x) d; reached = rw after_is x.left.0 }
 
       pub entry_full : {why : Refusal} → Does (fields_plan (key_of r.fields.key) (value_of r.fields.value)) b b' (Err why)
           → EntryRead b b' (Err why)

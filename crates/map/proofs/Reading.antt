@@ -17,6 +17,7 @@ use Rattle.decode.specs.declared.element.Element.{Element}
 use Rattle.decode.specs.Place.{Outside, EndedAt}
 use Rattle.decode.specs.View.{view_of}
 use Rattle.decode.specs.Element.{child_of, past_of, FoundAt, NextIs, DroppedIs, LeftIs}
+use Rattle.decode.proofs.Known.{out_of_tag}
 use Rattle.opening.specs.Opening.{body_of}
 use Rattle.list.proofs.Each.{level_none, level_one, child_at}
 use Rattle.list.proofs.ItemLaws.{stands_dropped}
@@ -59,11 +60,14 @@ module _ (m : MapSheet) (entry : Element) where
           ap (λ (v : View). past_of v p) (sym w.view) ∙ (sym (ap end_of none) ∙ w.ends) in
           record {
             is = sym (ap (λ (x : Level). fields_in entry m x (fields_of f)) none) ∙ w.rest;
-            left = record {
-              is = l.is ∙ ap (leave (child_of entry)) e;
-              stands = l.stands;
-              later = omega (arith, w.since, n.met.since, l.later);
-            };
+            left = (
+              record {
+                is = l.is ∙ ap (leave (child_of entry)) e;
+                stands = out_of_tag l.stands;
+                later = omega (arith, w.since, n.met.since, l.later);
+              },
+              l.stands,
+            );
           }
 
     module _ {child : Element} (n : NextIs scope (Ok child)) {past : Past} (d : DroppedIs child past) where

@@ -7,6 +7,7 @@ use Rattle.sheet.specs.Sheet.{MapSheet}
 use Rattle.readings.specs.Collection.{no_fields, read_fields}
 use Rattle.readings.specs.Collection as read
 use Rattle.decode.specs.declared.element.Element.{Element}
+use Rattle.decode.specs.Place.{Outside}
 use Rattle.decode.specs.View.{view_of}
 use Rattle.decode.specs.Element.{child_of}
 use Rattle.opening.specs.Opening.{body_of}
@@ -30,7 +31,8 @@ read_as (Err r) = refuses r
 
 -- where the reader stands after it
 abbrev pub Left : Element → Result Read Refusal → Type 0
-Left e (Ok r) = StandsAt (after_children (child_of e)) e r.at
+Left e (Ok r) =
+    StandsAt (after_children (child_of e)) e r.at × Outside e.view.table.body.now e.view.table.rows.now e.view.count r.at
 Left e (Err r) = Unit {0}
 
 pub record FieldsRead (m : MapSheet) (e : Element) (r : Result Read Refusal) : Type 0 where

@@ -13,20 +13,41 @@ use Rattle.table.specs.Test.{dec_table}
 use Rattle.table.specs.declared.rows.Table.{Table}
 use Rattle.table.specs.declared.rows.ValidTable.{ValidTable}
 use Rattle.document.specs.View.{view}
-use Rattle.codec.specs.Told.{told}
+use Rattle.codec.specs.Told.{told, told_as}
 use Rattle.readings.specs.Opening.{Opened, Asked, with_table, with_depth, present, rooted, opened, asked}
 use Rattle.readings.specs.Call.{Upload}
 use Rattle.sheet.specs.declared.ShapeDepth.{ShapeDepth}
 use Rattle.sheet.specs.declared.Settings.{Settings}
 use Rattle.sheet.specs.Settings.{is_strict, too_deep}
 use Rattle.decode.specs.declared.element.Element.{Element}
-use Rattle.opening.specs.Opening.{upload_of, OpeningIs, asked_where, AskedIs}
+use Rattle.opening.specs.Opening.{upload_of, OpeningIs, Obeying, asked_where, AskedIs, AskedObeying}
 
 -- ---- `asked` is that
 pub asked_is : {S : Type 0} (u : Upload) (sheet : math.Option S) (settings : Settings) (depth : ShapeDepth)
     → asked_where (too_deep settings depth) (is_strict settings depth) u sheet ≡ asked u sheet settings depth
 unfolding asked asked_where
 asked_is u sheet settings depth = refl
+
+-- ---- what was asked with a sheet, with what that says
+abbrev pub saying : {X S : Type 0} → (X → S) → Answer (Asked X) → Answer (Asked S)
+saying said (gives a) = gives (record { sheet = said a.sheet; opened = a.opened })
+saying said (refuses why) = refuses why
+
+pub where_said : {X S : Type 0} (said : X → S) (deep strict : Bool) (u : Upload) (sheet : Option X)
+    → asked_where deep strict u (told_as said sheet) ≡ saying said (asked_where deep strict u (told sheet))
+unfolding asked_where
+where_said {X} {S} said deep strict u sheet = go (dec_table u.body u.rows u.end) sheet deep _
+  where
+    go : {P : Type 0} (d : Dec P) (sheet : Option X) (deep : Bool) (root : Answer Opened)
+        → with_table d (onward (present Refusal.Sheet (told_as said sheet)) (λ (s : S). with_depth deep
+        (onward root (λ (o : Opened). gives (record { sheet = s; opened = o })))))
+        ≡ saying said (with_table d (onward (present Refusal.Sheet (told sheet)) (λ (s : X). with_depth deep
+        (onward root (λ (o : Opened). gives (record { sheet = s; opened = o }))))))
+    go (no n) sheet deep root = refl
+    go (yes p) None deep root = refl
+    go (yes p) (Some x) true root = refl
+    go (yes p) (Some x) false (gives o) = refl
+    go (yes p) (Some x) false (refuses why) = refl
 
 -- ---- by a decision of the rules
 obeyed : {A P : Type 0} (d : Dec P) (a : Answer A) → is_yes d ≡ true → with_table d a ≡ a
@@ -79,6 +100,17 @@ module _ (t : Table) (o : Option ValidTable) (k : CheckIs t o) where
   unfolding opened
   open_some strict v {r} q x =
       rw (past_table v q (rooted t.body.now (view strict t.body.now (rows_of t.rows.now) t.end)), same_root v q strict, ← (same v q).0) x
+
+  -- ---- whose rows they are
+  pub open_obeys : (v : ValidTable) (r : Result Element Refusal) → o ≡ Some v → Obeying v.end r → Obeying t.end r
+  open_obeys v r q x = rw (same v q).2 at x
+
+  pub ask_obeys : {S : Type 0} (v : ValidTable) (s : S) (e : Element) → Ok v ≡ ok_or o Refusal.Table → Obeying v.end (Ok e)
+      → AskedObeying t.end (Ok (s, e))
+  ask_obeys v s e p x = open_obeys v (Ok e) (ok_is o Refusal.Table p) x
+
+  pub refused_obeys : {S : Type 0} (r : Result (S × Element) Refusal) (e : Refusal) → IsErrAnd r (λ x. x ≡ e) → AskedObeying t.end r
+  refused_obeys r e f = let g = err_from_is_err_and r f in rw (g.1) tt
 
   -- ---- "1, 2, 3, 4"
   module _ {S : Type 0} (sheet : Option S) (entered strict : Bool) where

@@ -5,6 +5,7 @@ use Rattle.refusal.specs.declared.Refusal.{Refusal}
 use Rattle.refusal.specs.Answer.{Answer, gives, refuses, onward}
 use Rattle.table.specs.Row.{rows_of}
 use Rattle.table.specs.Test.{dec_table}
+use Rattle.table.specs.Rows.{Obeys}
 use Rattle.table.specs.declared.rows.Table.{Table}
 use Rattle.document.specs.View.{view}
 use Rattle.document.specs.Scope.{root_of}
@@ -44,6 +45,11 @@ pub record OpeningIs (body : List ℕ) (a : Answer Opened) (r : Result Element R
   pub is : opened_as r ≡ a
   pub of_body : OfBody body r
 
+-- and the rows that it is of are those of a table that obeys the rules, up to a final position
+abbrev pub Obeying : ℕ → Result Element Refusal → Type 0
+Obeying end (Ok e) = Obeys e.view.table.body.now e.view.table.rows.now end
+Obeying end (Err why) = Unit {0}
+
 -- ---- `asked`, where it was found out before whether the depth is too deep and the reading strict
 unfoldable pub asked_where : {S : Type 0} → Bool → Bool → Upload → Option S → Answer (Asked S)
 unfolding dec_table view root_of
@@ -66,3 +72,7 @@ AskedOfBody body (Err why) = Unit {0}
 pub record AskedIs {S : Type 0} (body : List ℕ) (a : Answer (Asked S)) (r : Result (S × Element) Refusal) : Type 0 where
   pub is : asked_as r ≡ a
   pub of_body : AskedOfBody body r
+
+abbrev pub AskedObeying : {S : Type 0} → ℕ → Result (S × Element) Refusal → Type 0
+AskedObeying end (Ok p) = Obeying end (Ok p.1)
+AskedObeying end (Err why) = Unit {0}

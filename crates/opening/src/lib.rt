@@ -11,7 +11,7 @@ ghost use Rattle.readings.specs.Opening.{opened, rooted};
 ghost use Rattle.table.specs.Row.{rows_of};
 ghost use Rattle.table.specs.Rows.{InTable, name_at};
 ghost use Rattle.decode.specs.Element.{child_of};
-ghost use Rattle.opening.specs.Opening.{AskedIs, OpeningIs, asked_where, upload_of};
+ghost use Rattle.opening.specs.Opening.{AskedIs, AskedObeying, Obeying, OpeningIs, asked_where, upload_of};
 ghost use Rattle.opening.specs.Wanted.{asked_by, last_of, wanted};
 
 use decode::element::Element;
@@ -22,8 +22,9 @@ use table::rows::{ReadableRows, Table, ValidTable};
 
 // The root of a table that obeys the rules, or 4.
 pub fn root<'a>(strict: bool, table: ValidTable<'a>) -> Result<Element<'a>, Refusal>
-    ensures { OpeningIs table.entry.body.now
+    ensures is { OpeningIs table.entry.body.now
         (rooted table.entry.body.now (view strict table.entry.body.now (rows_of table.entry.rows.now) table.entry.end)) result }
+    ensures obeys { Obeying table.entry.end result }
 {
     let seen = View::new(strict, table);
     seen.root().ok_or(Refusal::NoRoot)
@@ -31,7 +32,8 @@ pub fn root<'a>(strict: bool, table: ValidTable<'a>) -> Result<Element<'a>, Refu
 
 // "1, 4", of a reading without a sheet.
 pub fn open<'a>(strict: bool, table: Table<'a>) -> Result<Element<'a>, Refusal>
-    ensures { OpeningIs table.entry.body.now (opened strict (upload_of table.entry)) result }
+    ensures is { OpeningIs table.entry.body.now (opened strict (upload_of table.entry)) result }
+    ensures obeys { Obeying table.entry.end result }
 {
     match table.check() {
         Some(valid) => root(strict, valid),
@@ -46,7 +48,8 @@ pub fn ask<'a, S: Drop>(
     entered: bool,
     strict: bool,
 ) -> Result<(S, Element<'a>), Refusal>
-    ensures { AskedIs table.entry.body.now (asked_where (not entered) strict (upload_of table.entry) (told sheet)) result }
+    ensures is { AskedIs table.entry.body.now (asked_where (not entered) strict (upload_of table.entry) (told sheet)) result }
+    ensures obeys { AskedObeying table.entry.end result }
 {
     let valid = table.check().ok_or(Refusal::Table)?;
     let sheet = sheet.ok_or(Refusal::Sheet)?;

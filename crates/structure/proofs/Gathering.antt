@@ -1,6 +1,6 @@
 -- Laws of the groups of a root: those of the children that are kept, one after another by rising member index.
 use Prim.Native.Nat.{ℕ, suc, ◌+◌, ◌-◌, ◌≤◌, ◌<◌}
-use mathlib.Core.Path.{◌≡◌, refl, ap}
+use mathlib.Core.Path.{◌≡◌, refl, sym, ◌∙◌, ap}
 use mathlib.Core.Bool.{Bool, true, false}
 use mathlib.Core.List.{List, [], ◌∷◌}
 use native.Mathlib.Numerals.{add-one}
@@ -24,6 +24,7 @@ use Rattle.output.specs.Plans.{put_group}
 use Rattle.output.specs.Held.{Does}
 use Rattle.output.proofs.Then.{Midway, midway_start, each_goes, each_stops, each_ends}
 use Rattle.opening.specs.Opening.{body_of}
+use Rattle.structure.specs.Structure.{indexed_as}
 use Rattle.structure.specs.Children.{KeepsAll}
 use Rattle.structure.specs.Groups.{flat_plan, kept_from}
 
@@ -96,3 +97,16 @@ module _ {root : Element} {s : Structure} {kept : List Kept} (k : KeepsAll root 
   pub plans_are : {n : ℕ} → n ≡ length s.members → one_by_one (group_plan (body_of root) (view_of root.view) s kids) (members_of s)
       ≡ one_by_one (flat_plan (body_of root) kept) (kept_from kept 0 n)
   plans_are e = rw e (plans_from s.members 0)
+
+-- of one member
+module _ {root : Element} {s : Structure} {kept : List Kept} (k : KeepsAll root s kept) (i : ℕ) (m : Member) where
+  abbrev plan : Plan
+  plan = group_plan (body_of root) (view_of root.view) s (children_of (child_of root)) (indexed_as i m)
+
+  pub group_none : is_kept kept i ≡ false → plan ≡ end
+  unfolding group_plan
+  group_none q = rw (sym (k.has i) ∙ q)
+
+  pub group_some : is_kept kept i ≡ true → plan ≡ put_group i (flat (body_of root) kept i)
+  unfolding group_plan put_group
+  group_some q = rw (sym (k.has i) ∙ q, k.flat i)

@@ -11,7 +11,7 @@ use Rattle.lists.specs.Tests.{pick}
 use Rattle.lists.proofs.Tests.{pick_all, pick_cases}
 use Rattle.table.specs.Rules.{closes_element, open_count}
 use Rattle.table.specs.declared.kinds.Kind.{Kind}
-use Rattle.table.specs.Kinds.{IsKind, kind_number}
+use Rattle.table.specs.Kinds.{DepthIs, IsKind, kind_number}
 
 -- a number that is a kind's has one
 pub some_kind : (r : Option Kind) {n : ℕ} → IsKind n → MatchOption r (IsKind n → ⊥) (λ k. kind_number k ≡ n) → IsSome r
@@ -29,3 +29,13 @@ count_within n kind most h f =
     pick_cases (λ x. x ≤ most) (eqb kind 1) (suc n) (pick (closes_element kind) (n - 1) n)
     (λ e. omega (arith, f (eqb-true kind 1 e)))
     (λ e. pick_all (λ x. x ≤ most) (closes_element kind) (n - 1) n (omega arith) h)
+
+-- after one that starts none the count is what `depth_after` says
+pub depth_is : {d kind e : ℕ} → (kind ≡ 1 → ⊥) → e ≡ open_count d kind → DepthIs kind d e
+depth_is {d} {kind} a x =
+    record {
+      is = λ z. x;
+      low = rw x (pick_cases (λ y. y ≤ d) (eqb kind 1) (suc d) (pick (closes_element kind) (d - 1) d)
+          (λ q. absurd (a (eqb-true kind 1 q)))
+          (λ q. pick_all (λ y. y ≤ d) (closes_element kind) (d - 1) d (omega arith) (omega arith)));
+    }

@@ -1,8 +1,8 @@
 -- What the one fact of a table that obeys the rules says of it, by row numbers.
 use Prim.Native.Nat.{ℕ, zero, suc, ◌+◌, ◌*◌, ◌/◌, ◌≤◌, ◌<◌}
-use mathlib.Core.Path.{◌≡◌, sym, ◌∙◌}
-use mathlib.Core.Bool.{Bool, true}
-use mathlib.Core.List.{List}
+use mathlib.Core.Path.{◌≡◌, refl, sym, ◌∙◌}
+use mathlib.Core.Bool.{Bool, true, false}
+use mathlib.Core.List.{List, []}
 use mathlib.Core.HLevel.{⊥_prop}
 use mathlib.Core.Logic.{∥∥₁_elim}
 use native.Mathlib.Omega.{arith}
@@ -11,11 +11,12 @@ use base.Stored.{Coded-set}
 use Rattle.std.specs.Coded.{coded_ℕ, le_prop}
 use Rattle.lists.specs.Decide.{is_yes}
 use Rattle.lists.proofs.Decide.{yes_of}
-use Rattle.table.specs.Row.{rows_of}
-use Rattle.table.specs.Rules.{Place, EachRow, row, at_first, TableRules}
+use Rattle.lists.proofs.Tests.{false_true}
+use Rattle.table.specs.Row.{Row, rows_of}
+use Rattle.table.specs.Rules.{Place, RowRules, EachRow, row, at_first, TableRules}
 use Rattle.table.specs.Kinds.{IsKind}
-use Rattle.table.specs.Test.{dec_each, dec_table}
-use Rattle.table.specs.Flat.{rows_from, SpansIn}
+use Rattle.table.specs.Test.{dec_row, dec_each, dec_table}
+use Rattle.table.specs.Flat.{row_at, rows_from, SpansIn}
 use Rattle.table.specs.Rows.{InTable, Readable, RulesAt, Walkable, Obeys}
 use Rattle.table.proofs.Flat.{rows_same, rows_whole, length_rows, here_or_later, spans_in}
 
@@ -88,6 +89,43 @@ walkable_of {body} {t} h =
     go : Dec (EachRow body at_first (rows_of t)) → EachRow body at_first (rows_of t)
     go (yes e) = e
     go (no n) = absurd (∥∥₁_elim h ⊥_prop (λ w. n w.each))
+
+-- the rules of a row, where some place has them: the place that asks the least has them then, in a start tag or outside
+abbrev weak : Bool → Place
+weak b = record { position = 0; in_tag = b; nesting = 1; rooted = false }
+
+weaker : (body : List ℕ) (p : Place) (r : Row) (rest : List Row) → RowRules body p r rest → RowRules body (weak p.in_tag) r []
+weaker body p r rest o =
+    record {
+      known_kind = o.known_kind;
+      zero_fields = o.zero_fields;
+      position_rises = omega arith;
+      filled_spans = record {
+        prefix = λ h. (omega arith, (o.filled_spans.prefix h).1);
+        local = λ h. (omega arith, (o.filled_spans.local h).1);
+        value = λ h. (omega arith, (o.filled_spans.value h).1);
+      };
+      local_start = λ e. (omega arith, (o.local_start e).1);
+      tag_begins = λ e. let x = o.tag_begins e in record { is = x.is; before = x.before; late = omega arith; prefix = x.prefix };
+      ending = o.ending;
+      tag_order = record { inside = o.tag_order.inside; outside = o.tag_order.outside };
+      needs_open = λ e. omega arith;
+      after_root = λ e. false_true e;
+      error_last = λ e. refl;
+      open_limit = λ e. omega arith;
+    }
+
+pub rules_of : {body t : List ℕ} {k : ℕ} → ∥ RulesAt body t k ∥₁ → RulesAt body t k
+rules_of {body} {t} {k} h = go (dec_row body (weak true) (row_at t k) []) (dec_row body (weak false) (row_at t k) [])
+  where
+    go : Dec (RowRules body (weak true) (row_at t k) []) → Dec (RowRules body (weak false) (row_at t k) []) → RulesAt body t k
+    go (yes r) d = record { place = weak true; rest = []; rules = r }
+    go (no n) (yes r) = record { place = weak false; rest = []; rules = r }
+    go (no n) (no m) = absurd (∥∥₁_elim h ⊥_prop (λ x. other x.place.in_tag (weaker body x.place (row_at t k) x.rest x.rules)))
+      where
+        other : (b : Bool) → RowRules body (weak b) (row_at t k) [] → ⊥
+        other true r = n r
+        other false r = m r
 
 -- the spans of each row lie in the body
 pub spans_within : {body t : List ℕ} {k : ℕ} → Readable body t → InTable t k → SpansIn body t k

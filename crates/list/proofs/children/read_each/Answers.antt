@@ -1,5 +1,6 @@
+use Rattle.std.proofs.Common.{rules}
 use Rattle.std.proofs.lemmas.Result.{err_from_is_err_and}
-use Rattle.list.proofs.Each.{children_done, children_on, children_stop}
+use Rattle.list.proofs.Each.{children_done, children_on, children_stands, children_stop}
 use Rattle.list.proofs.children.read_each.Goals as goal
 
 pub returns-in_err-at : goal.returns-in_err-at
@@ -8,6 +9,14 @@ returns-in_err-at g c =
     rw (p.1, p.2)
     (children_stop (g.S.ReadChild.plan c.args.step.now) (g.S.ReadChild.after c.args.step.now) c.args.root.now
     (g.met.S.ReadChild.shortens c.args.step.now) c.loop-child.invariant c.in-Ok.ensures c.in_err-at.ensures)
+
+-- the place that the reading of a child answered is outside of start tags
+pub from_place-scope-requires : goal.from_place-scope-requires
+from_place-scope-requires g c =
+    let x =
+    children_stands (g.S.ReadChild.plan c.args.step.now) (g.S.ReadChild.after c.args.step.now) c.args.root.now
+    (g.met.S.ReadChild.shortens c.args.step.now) c.loop-child.invariant c.in-Ok.ensures c.in_ok-at.ensures in
+    search rules
 
 pub loop-child-preserved : goal.loop-child-preserved
 loop-child-preserved g c =

@@ -7,9 +7,9 @@ returns-in_default c = find_table (upload_of c.args.table) c.args.name.now c.in_
 
 pub returns-in_default-root : goal.returns-in_default-root
 returns-in_default-root c =
-    find_rootless (upload_of c.args.table) c.args.name.now c.in-Some.valid c.in-Some.ensures (rw c.in_default-root.is at c.root.ensures)
+    find_rootless (upload_of c.args.table) c.args.name.now c.in-Some.valid c.in-Some.ensures (rw c.in_default-root.is at c.root.ensures.is)
 
 pub returns : goal.returns
 returns c =
-    find_found (upload_of c.args.table) c.args.name.now c.in-Some.valid c.in-Some.ensures (rw c.in-Ok.is at c.root.ensures)
+    find_found (upload_of c.args.table) c.args.name.now c.in-Some.valid c.in-Some.ensures (rw c.in-Ok.is at c.root.ensures.is)
     c.find_in.ensures
